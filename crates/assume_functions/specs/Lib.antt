@@ -1,3 +1,3 @@
 pub mod Functions
 pub mod Laws
-pub use Rattle.cbf_unfold.specs as cbf_unfold
+pub mod cbf_unfold

@@ -3,5 +3,5 @@ pub mod Made
 pub mod Parted
 pub mod Care
 pub mod assume_answers
-pub use Rattle.assume_places.specs as assume_places
-pub use Rattle.assume_functions.specs as assume_functions
+pub mod assume_places
+pub mod assume_functions

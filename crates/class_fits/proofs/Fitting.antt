@@ -15,11 +15,11 @@ use Rattle.aig.specs.declared.node.Lit.{Lit}
 use Rattle.aig.specs.Rules.{IsAndOf}
 use Rattle.aig.specs.Values.{value}
 use Rattle.sec_base.specs.declared.basics.Tag.{Tag}
-use Rattle.class_search.specs.pair_decide.declared.query.Query.{Query}
-use Rattle.class_search.specs.pair_decide.declared.query.Proof.{Proof}
-use Rattle.class_search.specs.pair_decide.declared.query.SameBy.{SameBy}
-use Rattle.class_search.specs.pair_decide.declared.query.SameBy.TheVariants as same_by
-use Rattle.class_search.specs.pair_decide.declared.query.Decision.TheVariants as answer
+use Rattle.class_search.specs.pair_decide.Query.{Query}
+use Rattle.class_search.specs.pair_decide.Proof.{Proof}
+use Rattle.class_search.specs.pair_decide.SameBy.{SameBy}
+use Rattle.class_search.specs.pair_decide.SameBy.TheVariants as same_by
+use Rattle.class_search.specs.pair_decide.Decision.TheVariants as answer
 use Rattle.class_search.specs.pair_decide.Answers.{Decides, IsAtLimit}
 use Rattle.class_search.specs.pair_decide.Queries.{assigned_to, IsSame as query_same}
 use Rattle.event_nodes.specs.Nodes.{EventGraphView, IsEventGraph, GrowsEvents}

@@ -6,8 +6,8 @@ use Rattle.circuit_theory.specs.Classes.{classes_of}
 use Rattle.circuit_theory.specs.EventTotals.{IsAsked}
 use Rattle.circuit_laws.specs.event_laws.ClassSteps.{IsFirstFit}
 use Rattle.sec_base.specs.declared.basics.Tag.{Tag}
-use Rattle.class_search.specs.pair_decide.declared.query.Proof.{Proof}
-use Rattle.class_search.specs.pair_decide.declared.query.Query.{Query}
+use Rattle.class_search.specs.pair_decide.Proof.{Proof}
+use Rattle.class_search.specs.pair_decide.Query.{Query}
 use Rattle.class_search.specs.pair_decide.Answers.{IsAtLimit}
 use Rattle.event_nodes.specs.Nodes.{EventGraphView, IsEventGraph, GrowsEvents}
 use Rattle.event_nodes.specs.View.{EventCircuitView}

@@ -6,6 +6,7 @@ use Rattle.event_variables.specs.event_nodes.Nodes.{EventGraphView}
 use Rattle.class_search.specs.declared.compare.Enable.{Enable}
 use Rattle.class_search.specs.Comparing.{IsReadyEnable, IsAlwaysComparison}
 use Rattle.class_search.specs.declared.class.Class.{Class}
+use Rattle.class_search.specs.declared.fitting.Unlike.{Unlike}
 use Rattle.class_search.specs.declared.search.Fit.{Fit}
 use Rattle.class_search.specs.declared.search.Fit.TheVariants as fit
 use Rattle.class_search.specs.declared.search.Unfit.{Unfit}
@@ -38,6 +39,12 @@ IsStopped v w classes latch conflicts (unfit.Member place member proof) =
     (told : List Told) × AreTold v w classes latch conflicts told × (length told ≡ place)
     × ((c : Class) × (slice_get classes place ≡ Some c) × ((vars : List ℕ) × IsAnswered v w c.enables.items latch conflicts member (record { vars = vars; decision = answer.Limit proof })))
 IsStopped v w classes latch conflicts unfit.NoMemory = Unit {0}
+
+-- the query with the first member that isn't known to agree, one of the class at this place, met the limit
+abbrev pub IsLimitOf : ℕ → Unlike → Unfit → Type 0
+IsLimitOf place u (unfit.Always proof) = ⊥
+IsLimitOf place u (unfit.Member at member proof) = (at ≡ place) × (member ≡ u.member) × (u.compared ≡ record { vars = u.compared.vars; decision = answer.Limit proof })
+IsLimitOf place u unfit.NoMemory = ⊥
 
 -- how the class was found
 abbrev pub IsFit : EventGraphView → EventGraphView → List Class → Enable → ℕ → Fit → Type 0

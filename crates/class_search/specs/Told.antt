@@ -1,6 +1,5 @@
 -- What tells an enable from those of a class's members.
 use Rattle.std.specs.Prelude.{◌≡◌, ℕ, ◌<◌, List, slice_get, Some, All}
-use Rattle.pair_decide.specs.declared.query.SameBy.{SameBy}
 use Rattle.pair_decide.specs.declared.query.Decision.TheVariants as answer
 use Rattle.event_variables.specs.event_nodes.Nodes.{EventGraphView, IsEventGraph, GrowsEvents}
 use Rattle.class_search.specs.declared.compare.Enable.{Enable}
@@ -10,10 +9,6 @@ use Rattle.class_search.specs.Comparing.{IsComparison, IsAlwaysComparison}
 use Rattle.class_search.specs.Fitting.{AreSameEnables}
 use Rattle.class_search.specs.declared.told.Difference.{Difference}
 use Rattle.class_search.specs.declared.told.Told.{Told}
-use Rattle.class_search.specs.declared.told.Answer.{Answer}
-use Rattle.class_search.specs.declared.told.Answer.TheVariants as members
-use Rattle.class_search.specs.declared.told.AlwaysAnswer.{AlwaysAnswer}
-use Rattle.class_search.specs.declared.told.AlwaysAnswer.TheVariants as always
 
 -- Between two states of the event graph the query of the latch and of the member at this place had this answer, where those of the members
 -- before had told nothing apart.
@@ -39,30 +34,10 @@ pub record HaveAgreed (v w : EventGraphView) (enables : List Enable) (latch : En
   pub kept : IsEventGraph at
   pub same : All (λ x. AreSameEnables at x latch) enables
 
--- what is found of an enable and the members of a class
-abbrev pub IsAnswer : EventGraphView → EventGraphView → List Enable → Enable → ℕ → Answer → Type 0
-IsAnswer v w enables latch conflicts members.Agrees = HaveAgreed v w enables latch
-IsAnswer v w enables latch conflicts (members.Differs t) = IsTold v w enables latch conflicts t
-IsAnswer v w enables latch conflicts (members.Limit member proof) = (vars : List ℕ) × IsAnswered v w enables latch conflicts member (record { vars = vars; decision = answer.Limit proof })
-
--- the answer of the first member that isn't known to agree
-abbrev pub IsAnswerOf : Unlike → Answer → Type 0
-IsAnswerOf u members.Agrees = ⊥
-IsAnswerOf u (members.Differs t) = (t.member ≡ u.member) × (u.compared ≡ record { vars = t.difference.vars; decision = answer.Differs t.difference.bits })
-IsAnswerOf u (members.Limit member proof) = (member ≡ u.member) × (u.compared ≡ record { vars = u.compared.vars; decision = answer.Limit proof })
+-- the difference of the first member that isn't known to agree
+abbrev pub IsToldBy : Unlike → Told → Type 0
+IsToldBy u t = (t.member ≡ u.member) × (u.compared ≡ record { vars = t.difference.vars; decision = answer.Differs t.difference.bits })
 
 -- the enable is 0 somewhere where it has care
 abbrev pub IsAlwaysTold : EventGraphView → Enable → ℕ → Difference → Type 0
 IsAlwaysTold w latch conflicts d = IsAlwaysComparison w latch conflicts (record { vars = d.vars; decision = answer.Differs d.bits })
-
--- what is found of an enable and `always`
-abbrev pub IsAlwaysAnswer : EventGraphView → Enable → ℕ → AlwaysAnswer → Type 0
-IsAlwaysAnswer w latch conflicts always.Agrees = (vars : List ℕ) × (by : SameBy) × IsAlwaysComparison w latch conflicts (record { vars = vars; decision = answer.Same by })
-IsAlwaysAnswer w latch conflicts (always.Differs d) = IsAlwaysTold w latch conflicts d
-IsAlwaysAnswer w latch conflicts (always.Limit proof) = (vars : List ℕ) × IsAlwaysComparison w latch conflicts (record { vars = vars; decision = answer.Limit proof })
-
--- the answer of the query
-abbrev pub IsAlwaysAnswerOf : Compared → AlwaysAnswer → Type 0
-IsAlwaysAnswerOf c always.Agrees = (by : SameBy) × (c ≡ record { vars = c.vars; decision = answer.Same by })
-IsAlwaysAnswerOf c (always.Differs d) = c ≡ record { vars = d.vars; decision = answer.Differs d.bits }
-IsAlwaysAnswerOf c (always.Limit proof) = c ≡ record { vars = c.vars; decision = answer.Limit proof }

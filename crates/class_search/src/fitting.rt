@@ -1,9 +1,7 @@
 //! An enable against the members of a class.
 
-ghost use Rattle.std.specs.Prelude.{◌≡◌, ◌≢◌, ◌+◌, ◌^◌, ◌<◌, ◌≤◌, true, false, length, Some, All, IfOk, IfSome, IfNone, OnOk};
+ghost use Rattle.std.specs.Prelude.{◌≡◌, ◌≢◌, ◌+◌, ◌^◌, ◌<◌, ◌≤◌, length, Some, All, IfOk, IfSome, IfNone};
 ghost use Rattle.event_variables.specs.Nodes.{GrowsEvents};
-ghost use Rattle.pair_decide.specs.declared.query.Decision.TheVariants as answer;
-ghost use Rattle.pair_decide.specs.declared.query.SameBy.{SameBy};
 ghost use Rattle.class_search.specs.declared.compare.Enable.{Enable};
 ghost use Rattle.class_search.specs.Comparing.{IsReadyEnable};
 ghost use Rattle.class_search.specs.Fitting.{AreSameEnables, IsUnlike, IsFirstUnlike};
@@ -72,37 +70,13 @@ fn ask_member(
     ensures rest { events.new ≡ record events.old { graph = events.new.graph } }
 {
     if member.value.0 == latch.value.0 {
-        agree(events, member, latch)?;
+        events.keeps();
+        let _care = events.and(member.care, latch.care)?;
         return Ok(None);
     }
     let compared = compare_enables(alloc, events, member, latch, conflicts)?;
-    if is_same(&compared.decision) {
+    if let Decision::Same(_) = &compared.decision {
         return Ok(None);
     }
     Ok(Some(compared))
-}
-
-/// The care of both, for two enables of one value.
-fn agree(events: &mut EventGraph, member: &Enable, latch: &Enable) -> Result<(), NoMemory>
-    requires member { IsReadyEnable events.old member.now }
-    requires latch { IsReadyEnable events.old latch.now }
-    requires room { length events.old.graph + 1 < 2 ^ 30 }
-    requires value { member.now.value.0 ≡ latch.now.value.0 }
-    ensures same { OnOk result (AreSameEnables events.new member.now latch.now) }
-    ensures ready { (x : Enable) → IsReadyEnable events.old x → IsReadyEnable events.new x }
-    ensures grows { GrowsEvents events.old events.new }
-    ensures few { length events.new.graph ≤ length events.old.graph + 1 }
-    ensures rest { events.new ≡ record events.old { graph = events.new.graph } }
-{
-    events.keeps();
-    let _care = events.and(member.care, latch.care)?;
-    Ok(())
-}
-
-/// Whether the sides of a query are the same.
-fn is_same(decision: &Decision) -> bool
-    ensures yes { result ≡ true → (by : SameBy) × (decision.now ≡ answer.Same by) }
-    ensures no { result ≡ false → (by : SameBy) → decision.now ≢ answer.Same by }
-{
-    matches!(decision, Decision::Same(_))
 }

@@ -8,10 +8,11 @@ ghost use Rattle.class_search.specs.Told.{IsAlwaysTold};
 ghost use Rattle.class_search.specs.Search.{AreReadyClasses, IsFit, IsUnfit, IsFound, IsStopped};
 
 use crate::class::Class;
-use crate::compare::Enable;
-use crate::told::{AlwaysAnswer, Answer, Difference, Told, ask_always, ask_members};
+use crate::compare::{Compared, Enable, compare_always};
+use crate::fitting::first_unlike;
+use crate::told::{Difference, Told, told_by};
 use event_variables::{EventGraph, MAX_CONFLICTS, NoMemory};
-use pair_decide::Proof;
+use pair_decide::{Decision, Proof};
 use std::alloc::{AllocError, AllocFailed, Global};
 
 /// The most nodes of the event graph while classes are made.
@@ -91,12 +92,14 @@ pub fn first_fit(
     ensures room { length events.old.graph < 2 ^ 29 → length events.new.graph < 2 ^ 29 }
     ensures rest { events.new ≡ record events.old { graph = events.new.graph } }
 {
-    match ask_always(alloc, events, latch, conflicts)? {
-        AlwaysAnswer::Agrees => Ok(Fit::Always),
-        AlwaysAnswer::Limit(proof) => Err(Unfit::Always(proof)),
-        AlwaysAnswer::Differs(always) => search_on(
-            alloc, events, classes, latch, always, conflicts,
-        ),
+    let Compared { vars, decision } = compare_always(alloc, events, latch, conflicts)?;
+    match decision {
+        Decision::Same(_) => Ok(Fit::Always),
+        Decision::Limit(proof) => Err(Unfit::Always(proof)),
+        Decision::Differs(bits) => {
+            let always = Difference { vars, bits };
+            search_on(alloc, events, classes, latch, always, conflicts)
+        }
     }
 }
 
@@ -152,10 +155,14 @@ fn search(
         if events.size() as usize + members.len() >= NODES {
             return Err(Unfit::NoMemory);
         }
-        match ask_members(alloc, events, members, latch, conflicts)? {
-            Answer::Agrees => return Ok(Some(place)),
-            Answer::Differs(one) => told.push(one)?,
-            Answer::Limit(member, proof) => return Err(Unfit::Member(place, member, proof)),
+        let found = first_unlike(alloc, events, members, latch, conflicts)?;
+        events.keeps();
+        let Some(unlike) = found else {
+            return Ok(Some(place));
+        };
+        match told_by(place, unlike) {
+            Ok(one) => told.push(one)?,
+            Err(unfit) => return Err(unfit),
         }
     }
     Ok(None)

@@ -1,2 +1,2 @@
 pub mod Bits
-pub use Rattle.lane_eval.specs as lane_eval
+pub mod lane_eval

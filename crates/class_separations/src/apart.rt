@@ -1,7 +1,7 @@
 //! What tells two classes apart.
 
-ghost use Rattle.std.specs.Prelude.{◌≡◌, ◌≤◌, length, All, IfOk, OnOk};
-ghost use Rattle.class_separations.specs.Telling.{IsToldIn, AreToldIn, IsApartOf, HasKeptTo, HasKept};
+ghost use Rattle.std.specs.Prelude.{◌≡◌, ◌≤◌, All, IfOk, OnOk};
+ghost use Rattle.class_separations.specs.Telling.{IsToldIn, AreToldIn, IsApartOf, HasKept};
 
 use crate::cone_values::value_in_cone;
 use class_search::{Class, Difference, EventGraph, Told};
@@ -58,21 +58,6 @@ pub fn keep_apart(
         vars: always.vars,
         bits: always.bits,
     })?;
-    keep_told(alloc, events, classes, latch, told, aparts)
-}
-
-/// Puts behind the others what tells the latch from each class.
-fn keep_told(
-    alloc: Global,
-    events: &EventGraph,
-    classes: &[Class],
-    latch: Tag,
-    told: &[Told],
-    aparts: &mut Vec<Apart>,
-) -> Result<(), NoMemory>
-    requires told { AreToldIn events.now classes.now told.now }
-    ensures { OnOk result (HasKeptTo events.now classes.now latch told.now (length told.now) aparts.old.items aparts.new.items) }
-{
     for place in 0..told.len() {
         let one = apart_of(alloc, events, &classes[place], latch, &told[place])?;
         aparts.push(one)?;

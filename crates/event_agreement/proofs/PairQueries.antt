@@ -15,7 +15,7 @@ use Rattle.circuit_theory.specs.EventFits.{HaveEqualEvents}
 use Rattle.circuit_theory.specs.EventFrames.{AreNodeVariables, IsPairTree, IsUnshownFrame, IsEventDifference, frame_of}
 use Rattle.circuit_theory.specs.EventQueries.{IsEventPairQuery}
 use Rattle.circuit_theory.specs.Frame.{EventSide, ConeLatches, HasCare, NodeBefore}
-use Rattle.class_search.specs.aig.declared.node.Lit.{Lit}
+use Rattle.class_search.specs.aig.Lit.{Lit}
 use Rattle.class_search.specs.aig.Values.{value}
 use Rattle.class_search.proofs.aig.CoverMeaning.{value-and}
 use Rattle.class_search.proofs.aig.Growth.{IsAndOf-grows, Grows-length}
@@ -30,7 +30,7 @@ use Rattle.class_search.proofs.Queries.{enables_query}
 use Rattle.class_queries.proofs.Frames.{assignment_of, takes_frame}
 use Rattle.event_agreement.specs.event_pairs.Functions.{IsEventFunction}
 use Rattle.event_agreement.proofs.event_pairs.Growing.{function_later, ordered_later, value_of_tree}
-use Rattle.class_search.specs.pair_decide.declared.query.Query.{Query}
+use Rattle.class_search.specs.pair_decide.Query.{Query}
 use Rattle.class_search.specs.pair_decide.Answers.{IsDifference}
 use Rattle.class_search.specs.pair_decide.Queries.{IsQuery, IsSame, IsLeast, Distinguishes, assigned_to}
 use Rattle.event_agreement.specs.Queries.{AsksEventPair}

@@ -21,7 +21,7 @@ use Rattle.class_search.specs.event_nodes.View.{EventCircuitView}
 use Rattle.class_search.specs.event_variables.Variables.{variables_of}
 use Rattle.class_queries.specs.Enables.{both_of}
 use Rattle.class_queries.specs.Laws.{AreKept}
-use Rattle.class_search.specs.pair_decide.declared.query.Query.{Query}
+use Rattle.class_search.specs.pair_decide.Query.{Query}
 use Rattle.class_search.specs.pair_decide.Answers.{IsDifference}
 use Rattle.class_search.specs.pair_decide.Queries.{IsQuery, IsSame, assigned_to}
 use Rattle.event_agreement.specs.Queries.{AsksEventPair}

@@ -6,7 +6,7 @@ use Rattle.class_search.specs.event_nodes.Nodes.{EventGraphView}
 use Rattle.class_search.specs.event_variables.Variables.{IsMergeOf}
 use Rattle.event_functions.specs.declared.signals.SignalFunction.{SignalFunction}
 use Rattle.event_agreement.specs.event_pairs.Functions.{IsEventFunction}
-use Rattle.class_search.specs.pair_decide.declared.query.Query.{Query}
+use Rattle.class_search.specs.pair_decide.Query.{Query}
 
 -- do the event functions of both places agree wherever both have care? Over the variables of either.
 pub record AsksEventPair {P : Type 0} (s : EventSide P) (w : EventGraphView) (p q : P) (query : Query) : Type 0 where

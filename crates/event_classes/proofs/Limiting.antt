@@ -12,11 +12,11 @@ use Rattle.aig.specs.declared.node.Lit.{Lit}
 use Rattle.flat_net.proofs.Nets.{some_at}
 use Rattle.flat_net.proofs.Places.{one_at}
 use Rattle.sec_base.specs.declared.basics.Tag.{Tag}
-use Rattle.class_search.specs.pair_decide.declared.query.Proof.{Proof}
+use Rattle.class_search.specs.pair_decide.Proof.{Proof}
 use Rattle.event_nodes.specs.Nodes.{EventGraphView, GrowsEvents}
 use Rattle.event_order.specs.Order.{IsTagOf}
 use Rattle.event_variables.specs.Variables.{variables_of}
-use Rattle.class_search.specs.pair_decide.declared.query.Query.{Query}
+use Rattle.class_search.specs.pair_decide.Query.{Query}
 use Rattle.class_search.specs.Comparing.{IsReadyEnable}
 use Rattle.class_search.specs.declared.compare.Enable.{Enable}
 use Rattle.class_queries.specs.Enables.{both_of, IsEnableFunction, AsksEnables}
@@ -52,6 +52,11 @@ second_of e = cc
 
 third_of : {s t : Tag} {o p : Option Tag} {x y : Proof} → event_error.Limit s o x ≡ event_error.Limit t p y → x ≡ y
 third_of e = cc
+
+-- two facts of what is done give a third
+pub both_ok : {T E : Type 0} (r : Result T E) (P Q : Type 0) {X : Type 0} → (P → Q → X) → OnOk r P → OnOk r Q → OnOk r X
+both_ok (Ok x) P Q f p q = f p q
+both_ok (Err e) P Q f p q = tt
 
 pub error_is : {X : Type 0} {e f : EventError} → ◌≡◌ {A = Result X EventError} (Err e) (Err f) → e ≡ f
 error_is q = cc

@@ -19,7 +19,7 @@ use Rattle.flat_net.specs.Sound.{IsSound}
 use Rattle.flat_net.specs.View.{NetView, circuit_of}
 use Rattle.sec_base.specs.declared.basics.Tag.{Tag}
 use Rattle.base_tables.specs.Table.{AreDistinct}
-use Rattle.class_search.specs.pair_decide.declared.query.Proof.{Proof}
+use Rattle.class_search.specs.pair_decide.Proof.{Proof}
 use Rattle.event_nodes.specs.Nodes.{IsEventGraph}
 use Rattle.event_nodes.specs.View.{EventCircuitView, Enabled}
 use Rattle.event_order.specs.Order.{place_of, IsTagOf, IsTagOrder}

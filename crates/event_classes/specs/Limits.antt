@@ -5,8 +5,8 @@ use Rattle.circuit_theory.specs.EventFrames.{AreNodeVariables, IsClassTree}
 use Rattle.circuit_theory.specs.EventTotals.{IsAsked}
 use Rattle.circuit_theory.specs.Frame.{EventSide}
 use Rattle.sec_base.specs.declared.basics.Tag.{Tag}
-use Rattle.class_search.specs.pair_decide.declared.query.Proof.{Proof}
-use Rattle.class_search.specs.pair_decide.declared.query.Query.{Query}
+use Rattle.class_search.specs.pair_decide.Proof.{Proof}
+use Rattle.class_search.specs.pair_decide.Query.{Query}
 use Rattle.class_search.specs.pair_decide.Answers.{IsAtLimit}
 use Rattle.event_nodes.specs.Nodes.{EventGraphView, IsEventGraph}
 use Rattle.event_variables.specs.Variables.{variables_of}

@@ -11,7 +11,7 @@ use Rattle.event_nodes.specs.View.{EventCircuitView}
 use Rattle.event_order.specs.Order.{place_of, IsTagOf}
 use Rattle.class_queries.specs.Enables.{both_of}
 use Rattle.class_totals.specs.Totals.{AreWithin, ReachTooMany, ReachFew, WeighTooMuch}
-use Rattle.class_search.specs.pair_decide.declared.query.Proof.{Proof}
+use Rattle.class_search.specs.pair_decide.Proof.{Proof}
 use Rattle.event_classes.specs.declared.error.EventError.{EventError}
 use Rattle.event_classes.specs.declared.error.EventError.TheVariants as event_error
 use Rattle.event_classes.specs.Limits.{IsLimitQuery}

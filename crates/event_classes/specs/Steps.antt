@@ -10,7 +10,7 @@ use Rattle.event_nodes.specs.View.{EventCircuitView, Enabled}
 use Rattle.event_order.specs.Order.{IsTagOf}
 use Rattle.class_queries.specs.Enables.{both_of}
 use Rattle.class_totals.specs.Totals.{AreWithin, ReachTooMany, ReachFew, WeighTooMuch}
-use Rattle.class_search.specs.pair_decide.declared.query.Proof.{Proof}
+use Rattle.class_search.specs.pair_decide.Proof.{Proof}
 use Rattle.event_classes.specs.declared.map.ClassMap.{ClassMap}
 use Rattle.event_classes.specs.Limits.{IsLimitQuery}
 use Rattle.event_classes.specs.Map.{IsMade, Counts, places_in, taken_of, with_next}

@@ -11,7 +11,7 @@ ghost use Rattle.event_nodes.specs.Visited.{IsWeighed};
 ghost use Rattle.class_totals.specs.Refused.{IsRefusal};
 ghost use Rattle.class_search.specs.Comparing.{IsReadyEnable};
 ghost use Rattle.event_order.specs.Order.{IsTagOf};
-ghost use Rattle.class_search.specs.pair_decide.declared.query.Proof.{Proof};
+ghost use Rattle.class_search.specs.pair_decide.Proof.{Proof};
 ghost use Rattle.sec_base.specs.declared.basics.Tag.{Tag};
 ghost use Rattle.event_classes.specs.declared.error.EventError.TheVariants as event_error;
 ghost use Rattle.event_classes.specs.Map.{IsWithin, IsEnableOf, IsEnableAt, IsOwnAt, IsEnableOn, CountsOn};

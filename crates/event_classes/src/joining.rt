@@ -7,7 +7,7 @@ ghost use Rattle.class_search.specs.Comparing.{IsReadyEnable};
 ghost use Rattle.event_order.specs.Order.{IsTagOf};
 ghost use Rattle.class_fits.specs.Members.{class_of_fit};
 ghost use Rattle.class_search.specs.declared.search.Fit.TheVariants as fit_is;
-ghost use Rattle.class_search.specs.pair_decide.declared.query.Proof.{Proof};
+ghost use Rattle.class_search.specs.pair_decide.Proof.{Proof};
 ghost use Rattle.sec_base.specs.declared.basics.Tag.{Tag};
 ghost use Rattle.event_classes.specs.declared.error.EventError.TheVariants as event_error;
 ghost use Rattle.event_classes.specs.Limits.{IsNamed, IsErrorOf};
@@ -165,8 +165,7 @@ fn join_always(map: &mut ClassMap, tag: Tag, enable: &Enable) -> Result<(), NoMe
     map.right.keeps();
     map.events.keeps();
     map.table.put(enable.value, enable.care, 0)?;
-    take_latch(map, tag, 0)?;
-    Ok(())
+    take_latch(map, tag, 0)
 }
 
 /// It joins the class at this place.
@@ -187,8 +186,7 @@ fn join_class(map: &mut ClassMap, tag: Tag, enable: Enable, place: usize) -> Res
     let class = place as u32 + 1;
     map.table.put(enable.value, enable.care, class)?;
     take_latch(map, tag, class)?;
-    map.classes[place].join(tag, enable)?;
-    Ok(())
+    map.classes[place].join(tag, enable)
 }
 
 /// It founds the next class.

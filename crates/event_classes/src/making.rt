@@ -6,7 +6,7 @@ ghost use Rattle.circuit_theory.specs.Depth.{LatchesHaveDepths};
 ghost use Rattle.flat_net.specs.View.{circuit_of};
 ghost use Rattle.event_nodes.specs.View.{Enabled};
 ghost use Rattle.event_order.specs.Order.{IsTagOf, IsTagOrder};
-ghost use Rattle.class_search.specs.pair_decide.declared.query.Proof.{Proof};
+ghost use Rattle.class_search.specs.pair_decide.Proof.{Proof};
 ghost use Rattle.sec_base.specs.declared.basics.Tag.{Tag};
 ghost use Rattle.event_classes.specs.declared.error.EventError.TheVariants as event_error;
 ghost use Rattle.event_classes.specs.Map.{IsBegun, IsMadeTo, IsClassMapOf};

@@ -12,8 +12,8 @@ use Rattle.circuit_theory.specs.EventSizes.{Start, IsEventOver}
 use Rattle.circuit_theory.specs.EventTotals.{IsNodesOver}
 use Rattle.circuit_theory.specs.Frame.{EventSide}
 use Rattle.class_search.specs.event_nodes.View.{EventCircuitView, side_of, Enabled}
-use Rattle.class_search.specs.event_nodes.declared.error.EventUnfoldError.{EventUnfoldError}
-use Rattle.class_search.specs.event_nodes.declared.error.EventUnfoldError.TheVariants as unfold_error
+use Rattle.class_search.specs.event_nodes.EventUnfoldError.{EventUnfoldError}
+use Rattle.class_search.specs.event_nodes.EventUnfoldError.TheVariants as unfold_error
 use Rattle.class_search.proofs.event_nodes.Visits.{visits_more}
 use Rattle.event_agreement.specs.pair_events.Counted.{both_starts, left_with, right_with, starts_with, HaveCounted, IsRefusedBy}
 use Rattle.event_agreement.specs.pair_events.View.{EventsView, circuit_at, side_of_both}

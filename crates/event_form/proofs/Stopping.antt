@@ -5,7 +5,7 @@ use Rattle.std.proofs.Math.Seq.{drop-cons}
 use Rattle.circuit_theory.specs.declared.Side.{Side}
 use Rattle.circuit_theory.specs.declared.Side.TheVariants.{A, B}
 use Rattle.circuit_theory.specs.EventSizes.{Start}
-use Rattle.class_search.specs.event_nodes.declared.error.EventUnfoldError.{EventUnfoldError}
+use Rattle.class_search.specs.event_nodes.EventUnfoldError.{EventUnfoldError}
 use Rattle.event_functions.specs.Functions.{signal_start}
 use Rattle.event_agreement.specs.pair_events.Laws.{AreKept}
 use Rattle.interface.specs.declared.pairs.SignalPair.{SignalPair}

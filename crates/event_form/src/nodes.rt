@@ -1,7 +1,6 @@
 //! The event nodes of a pair.
 
-ghost use Rattle.std.specs.Prelude.{◌≡◌, IfOk};
-ghost use Rattle.class_search.specs.event_variables.Order.{IsOnce};
+ghost use Rattle.std.specs.Prelude.{IfOk};
 ghost use Rattle.event_form.specs.Asked.{IsUnion};
 
 use aig::NoMemory;
@@ -14,15 +13,6 @@ pub fn union_of(alloc: Global, left: &[u32], right: &[u32]) -> Result<Vec<u32>, 
     let mut numbers = Vec::new(alloc);
     numbers.extend_from_slice(left)?;
     numbers.extend_from_slice(right)?;
-    let both = once(numbers)?;
-    Ok(both)
-}
-
-/// The same numbers, each once, in order.
-fn once(numbers: Vec<u32>) -> Result<Vec<u32>, NoMemory>
-    ensures { IfOk result (λ r. IsOnce numbers.items r.items) }
-{
-    let mut numbers = numbers;
     numbers.sort()?;
     numbers.dedup();
     Ok(numbers)

@@ -1,17 +1,22 @@
 -- When a latch's turn comes.
-use Rattle.std.specs.Prelude.{◌≡◌, ◌⊎◌, ℕ, ◌+◌, ◌<◌, List, slice_get, Option, Some, MatchOption, Contains}
-use Rattle.std.specs.List.{AllPairs}
+use Rattle.std.specs.Prelude.{◌≡◌, ◌⊎◌, ℕ, ◌+◌, ◌<◌, List, ◌++◌, slice_get, Option, Some, MatchOption, Contains}
+use Rattle.std.specs.List.{AllPairs, AllZip}
 use Rattle.circuit_theory.specs.declared.Side.TheVariants.{A, B}
 use Rattle.circuit_theory.specs.Circuit.{Circuit}
 use Rattle.circuit_theory.specs.Depth.{IsDepth}
 use Rattle.circuit_theory.specs.Run.{IsEnabled}
 use Rattle.flat_net.specs.declared.parts.LatchAt.{LatchAt}
+use Rattle.flat_net.specs.View.{NetView, circuit_of}
 use Rattle.sec_base.specs.declared.basics.Tag.{Tag}
 use Rattle.event_order.specs.declared.turns.Turn.{Turn}
 
 -- the latch's depth, or nothing where it isn't an enabled one
 abbrev pub IsEnabledDepth : Circuit ℕ → LatchAt → Option ℕ → Type 0
 IsEnabledDepth c l depth = MatchOption depth (IsEnabled c l.out.0 → ⊥) (λ d. IsEnabled c l.out.0 × IsDepth c (IsEnabled c) l.out.0 d)
+
+-- what is put behind the others is the depth of each latch that is an enabled one
+abbrev pub HavePutDepths : NetView → List (Option ℕ) → List (Option ℕ) → Type 0
+HavePutDepths n old new = (depths : List (Option ℕ)) × (new ≡ old ++ depths) × AllZip (IsEnabledDepth (circuit_of n)) n.latches depths
 
 -- a lower depth, or the same and an earlier place
 abbrev pub TurnBefore : Turn → Turn → Type 0

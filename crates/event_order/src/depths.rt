@@ -1,7 +1,6 @@
 //! The depths of enabled latches.
 
-ghost use Rattle.std.specs.Prelude.{◌≡◌, ◌<◌, true, length, slice_get, Some, IfOk};
-ghost use Rattle.std.specs.List.{AllZip};
+ghost use Rattle.std.specs.Prelude.{◌≡◌, ◌<◌, true, length, slice_get, Some, OnOk};
 ghost use Rattle.circuit_theory.specs.declared.Mode.TheVariants.{Event};
 ghost use Rattle.circuit_theory.specs.Depth.{LatchesHaveDepths};
 ghost use Rattle.circuit_theory.specs.Run.{IsEnabled};
@@ -9,7 +8,7 @@ ghost use Rattle.flat_net.specs.declared.parts.LatchAt.{LatchAt};
 ghost use Rattle.flat_net.specs.View.{circuit_of};
 ghost use Rattle.latch_graph.specs.signal_graph.Graph.{IsGraphIn};
 ghost use Rattle.event_order.specs.Order.{IsMarkedNet};
-ghost use Rattle.event_order.specs.Turns.{IsEnabledDepth};
+ghost use Rattle.event_order.specs.Turns.{HavePutDepths, IsEnabledDepth};
 
 use flat_net::Net;
 use latch_graph::LatchGraph;
@@ -30,22 +29,22 @@ pub fn have_depths(net: &Net, graph: &LatchGraph) -> bool
     true
 }
 
-/// For each latch its depth, if it is an enabled one.
-pub(crate) fn enabled_depths(
+/// Puts behind the others each latch's depth, if it is an enabled one.
+pub(crate) fn put_depths(
     alloc: Global,
     net: &Net,
     enabled: &Bits,
-) -> Result<Vec<Option<u32>>, NoMemory>
+    depths: &mut Vec<Option<u32>>,
+) -> Result<(), NoMemory>
     requires { IsMarkedNet net.now enabled.now }
-    ensures { IfOk result (λ depths. AllZip (IsEnabledDepth (circuit_of net.now)) net.now.latches depths.items) }
+    ensures { OnOk result (HavePutDepths net.now depths.old.items depths.new.items) }
 {
     net.keeps();
     let graph = LatchGraph::new(alloc, net, enabled)?;
-    let mut depths = Vec::with_capacity(alloc, net.latches().len())?;
     for j in 0..net.latches().len() {
         depths.push(depth_at(net, enabled, &graph, j))?;
     }
-    Ok(depths)
+    Ok(())
 }
 
 /// The depth of the latch with this position, if it is an enabled one.

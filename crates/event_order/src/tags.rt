@@ -5,7 +5,7 @@ ghost use Rattle.std.specs.List.{AllZip};
 ghost use Rattle.event_order.specs.Order.{IsMarkedNet, IsTagOf, IsTagOrder};
 ghost use Rattle.event_order.specs.Turns.{IsTagAt};
 
-use crate::depths::enabled_depths;
+use crate::depths::put_depths;
 use crate::turns::{Turn, turns_of};
 use flat_net::Net;
 use sec_base::{Bits, NoMemory, Side, Tag};
@@ -27,12 +27,11 @@ pub fn latch_order(
 {
     left.keeps();
     right.keeps();
-    let mut depths = enabled_depths(alloc, left, left_enabled)?;
-    let others = enabled_depths(alloc, right, right_enabled)?;
-    depths.extend_from_slice(others.as_slice())?;
+    let mut depths = Vec::new(alloc);
+    put_depths(alloc, left, left_enabled, &mut depths)?;
+    put_depths(alloc, right, right_enabled, &mut depths)?;
     let turns = turns_of(alloc, depths.as_slice())?;
-    let tags = tags_of(alloc, turns.as_slice(), left.latches().len())?;
-    Ok(tags)
+    tags_of(alloc, turns.as_slice(), left.latches().len())
 }
 
 /// The latches with these turns, where so many latches are of the first circuit.

@@ -12,7 +12,7 @@ use Rattle.sec_base.specs.declared.settings.Settings.{Settings}
 use Rattle.witness_report.specs.declared.witness.PairName.TheVariants as pair
 use Rattle.witness_report.specs.declared.witness.Witness.{Witness}
 use Rattle.event_nodes.specs.View.{Enabled}
-use Rattle.event_shown_under.specs.event_under_fits.event_findings.declared.findings.EventFindings.{EventFindings}
+use Rattle.event_shown_under.specs.event_under_fits.event_findings.EventFindings.{EventFindings}
 use Rattle.event_meaning.specs.event_meaning_under.EventPairs.{EventPairs}
 use Rattle.event_meaning.specs.EventVerdict.TheVariants as found
 use Rattle.assume_laws.proofs.Reading.{numbers_read}

@@ -1,3 +1,3 @@
-pub use Rattle.event_agreement.proofs as event_agreement
-pub use Rattle.event_witness.proofs as event_witness
-pub use Rattle.event_under.proofs as event_under
+pub mod event_agreement
+pub mod event_witness
+pub mod event_under

@@ -38,7 +38,7 @@ use Rattle.obligations.specs.declared.verdict.VerdictAt.{VerdictAt}
 use Rattle.obligations.specs.declared.verdict.VerdictAt.TheVariants as at
 use Rattle.obligations.specs.Decided.{AnswerIs, HaveDecided, IsAnswered, IsFirst, IsFirstOf, NoneIs}
 use Rattle.obligations.specs.Verdict.{IsVerdictAt}
-use Rattle.event_shown_under.specs.event_under_fits.event_agreement.pair_events.View.{EventsView, side_of_both}
+use Rattle.event_shown_under.specs.event_under_fits.event_agreement.View.{EventsView, side_of_both}
 use Rattle.swept_queries.proofs.Listed.{zip_left}
 use Rattle.outcome.specs.declared.verdict.PairResult.{PairResult}
 use Rattle.pair_decide.specs.declared.query.Proof.{Proof}
@@ -48,16 +48,16 @@ use Rattle.pair_decide.specs.Queries.{assigned_to}
 use Rattle.witness_report.specs.declared.witness.Witness.{Witness}
 use Rattle.event_shown_under.proofs.event_under_fits.event_witness.InputLeaves.{pair_inputs_within}
 use Rattle.event_shown_under.specs.event_under_fits.event_witness.Sequences.{HasInputsBelow}
-use Rattle.event_shown_under.specs.event_under_fits.event_witness.declared.unshown.UnshownFrame.{UnshownFrame}
+use Rattle.event_shown_under.specs.event_under_fits.event_witness.UnshownFrame.{UnshownFrame}
 use Rattle.event_shown_under.specs.event_under_fits.event_findings.Reached.{BothReachAlways}
 use Rattle.event_shown_under.specs.event_under_fits.event_findings.Told.{TellsBits}
 use Rattle.event_shown_under.specs.event_under_fits.event_findings.ToldSeparation.{ToldSeparation}
 use Rattle.event_shown_under.specs.event_under_fits.event_findings.Compared.{AreCompared, IsEventDepth}
 use Rattle.event_shown_under.specs.event_under_fits.event_findings.Findings.{IsFirstWith, IsFirstLimit}
 use Rattle.event_shown_under.specs.event_under_fits.event_findings.Separations.{AreToldApart}
-use Rattle.event_shown_under.specs.event_under_fits.event_findings.declared.verdict.EventVerdict.{EventVerdict}
-use Rattle.event_shown_under.specs.event_under_fits.event_findings.declared.verdict.EventVerdict.TheVariants as verdict
-use Rattle.event_shown_under.specs.event_under_fits.event_findings.declared.pairs.EventPairs.{EventPairs}
+use Rattle.event_shown_under.specs.event_under_fits.event_findings.EventVerdict.{EventVerdict}
+use Rattle.event_shown_under.specs.event_under_fits.event_findings.EventVerdict.TheVariants as verdict
+use Rattle.event_shown_under.specs.event_under_fits.event_findings.EventPairs.{EventPairs}
 use Rattle.assume_laws.specs.Assume.{Assumption}
 use Rattle.assume_laws.specs.Sequences.{IsPairTreeUnder, IsMeetingRow, IsUnshownFrameUnder, RowsMeet, filled_frame}
 use Rattle.assume_laws.proofs.Meeting.{leaf_input}

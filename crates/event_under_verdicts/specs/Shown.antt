@@ -13,17 +13,17 @@ use Rattle.obligations.specs.declared.verdict.VerdictAt.{VerdictAt}
 use Rattle.obligations.specs.declared.verdict.VerdictAt.TheVariants as at
 use Rattle.obligations.specs.Decided.{IsFirstOf}
 use Rattle.outcome.specs.declared.verdict.PairResult.{PairResult}
-use Rattle.event_shown_under.specs.event_under_fits.event_agreement.pair_events.View.{EventsView, side_of_both}
+use Rattle.event_shown_under.specs.event_under_fits.event_agreement.View.{EventsView, side_of_both}
 use Rattle.witness_report.specs.declared.witness.Witness.{Witness}
 use Rattle.sec_base.specs.declared.basics.PairAnswer.TheVariants as answer
 use Rattle.interface.specs.declared.pairs.SignalPair.{SignalPair}
-use Rattle.event_shown_under.specs.event_under_fits.event_witness.declared.unshown.UnshownFrame.{UnshownFrame}
+use Rattle.event_shown_under.specs.event_under_fits.event_witness.UnshownFrame.{UnshownFrame}
 use Rattle.event_shown_under.specs.event_under_fits.event_findings.Reached.{BothReachAlways}
 use Rattle.event_shown_under.specs.event_under_fits.event_findings.Separations.{AreToldApart}
 use Rattle.event_shown_under.specs.event_under_fits.event_findings.Told.{TellsBits}
-use Rattle.event_shown_under.specs.event_under_fits.event_findings.declared.pairs.EventPairs.{EventPairs}
-use Rattle.event_shown_under.specs.event_under_fits.event_findings.declared.verdict.EventVerdict.{EventVerdict}
-use Rattle.event_shown_under.specs.event_under_fits.event_findings.declared.verdict.EventVerdict.TheVariants as verdict
+use Rattle.event_shown_under.specs.event_under_fits.event_findings.EventPairs.{EventPairs}
+use Rattle.event_shown_under.specs.event_under_fits.event_findings.EventVerdict.{EventVerdict}
+use Rattle.event_shown_under.specs.event_under_fits.event_findings.EventVerdict.TheVariants as verdict
 use Rattle.assume_laws.specs.Assume.{Assumption}
 use Rattle.assume_laws.specs.Sequences.{filled_frame}
 use Rattle.event_shown_under.specs.event_under.Asked.{variables_in, AreAskedUnder}

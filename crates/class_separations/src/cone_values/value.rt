@@ -26,8 +26,8 @@ pub fn value_in_cone(
     ensures { IfOk result (λ bit. bit ≡ meaning.value aig.now (assigned_to vars.now bits.now) l.0) }
 {
     aig.keeps();
-    let cones = cones_of(alloc, aig, l, l, l)?;
     let assignment = assignment_of(alloc, aig.vars() as usize, vars, bits)?;
+    let cones = cones_of(alloc, aig, l, l, l)?;
     let mut scratch = vec![in alloc; false; cones.part.len()]?;
     Ok(bit_in(
         cones.part.as_slice(),
@@ -38,6 +38,7 @@ pub fn value_in_cone(
 }
 
 /// The literal's value where the variables have the bits of the assignment. The scratch has a place for each node.
+#[tactic(auto, unfolding(aig::specs::Values::lit_bit))]
 fn bit_in(nodes: &[Node], assignment: &[bool], scratch: &mut [bool], l: Lit) -> bool
     requires ordered { IsOrdered nodes.now }
     requires covers { vars_of nodes.now ≤ length assignment.now }
@@ -46,7 +47,8 @@ fn bit_in(nodes: &[Node], assignment: &[bool], scratch: &mut [bool], l: Lit) -> 
     ensures { result ≡ meaning.lit_bit (meaning.node_bits nodes.now (meaning.assigned assignment.now)) l.0 }
 {
     node_bits(nodes, assignment, scratch);
-    lit_bit(scratch, l)
+    let bit = scratch[l.node() as usize];
+    if l.is_complement() { !bit } else { bit }
 }
 
 /// So many bits: those of the variables, as far as there is room, and 0 at all other places.
@@ -79,14 +81,4 @@ fn assign(assignment: &mut [bool], vars: &[u32], bits: &[bool])
             assignment[place] = bits[k];
         }
     }
-}
-
-/// The literal's bit, where the nodes have these.
-#[tactic(auto, unfolding(aig::specs::Values::lit_bit))]
-fn lit_bit(bits: &[bool], l: Lit) -> bool
-    requires { l.0 < 2 * length bits.now }
-    ensures { result ≡ meaning.lit_bit bits.now l.0 }
-{
-    let bit = bits[l.node() as usize];
-    if l.is_complement() { !bit } else { bit }
 }

@@ -14,7 +14,7 @@ use Rattle.circuit_theory.specs.Frame.{EventSide, HasCare, ConeLatches, IsNode, 
 use Rattle.class_search.proofs.flat_net.Growth.{slice_get-append}
 use Rattle.class_search.specs.aig.Builds.{Builds}
 use Rattle.class_search.specs.aig.Cone.{IsReached}
-use Rattle.class_search.specs.aig.declared.node.Node.TheVariants.{Input}
+use Rattle.class_search.specs.aig.Node.TheVariants.{Input}
 use Rattle.class_search.proofs.aig.CoverMeaning.{value-tree}
 use Rattle.class_search.proofs.aig.Growth.{Builds-one, Grows-length}
 use Rattle.class_search.proofs.aig.Meaning.{value-grows}

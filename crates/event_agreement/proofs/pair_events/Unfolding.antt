@@ -5,7 +5,7 @@ use Rattle.circuit_theory.specs.declared.Side.TheVariants.{A, B}
 use Rattle.circuit_theory.specs.Joined.{Left, Right}
 use Rattle.class_search.specs.event_nodes.Nodes.{EventGraphView, IsEventGraph}
 use Rattle.class_search.specs.event_nodes.Visited.{CounterView}
-use Rattle.class_search.specs.event_nodes.declared.error.EventUnfoldError.{EventUnfoldError}
+use Rattle.class_search.specs.event_nodes.EventUnfoldError.{EventUnfoldError}
 use Rattle.class_queries.specs.event_walk.Walk.{HasCountedStart, IsCounting}
 use Rattle.event_functions.specs.declared.signals.SignalFunction.{SignalFunction}
 use Rattle.event_functions.specs.Functions.{IsFunctionOf, signal_start}

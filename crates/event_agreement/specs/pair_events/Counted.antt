@@ -10,8 +10,8 @@ use Rattle.circuit_theory.specs.Frame.{IsNode}
 use Rattle.class_search.specs.event_nodes.Nodes.{path_of}
 use Rattle.class_search.specs.event_nodes.View.{side_of, Enabled}
 use Rattle.class_search.specs.event_nodes.Visited.{HasCounted, HoldsNodes}
-use Rattle.class_search.specs.event_nodes.declared.error.EventUnfoldError.{EventUnfoldError}
-use Rattle.class_search.specs.event_nodes.declared.error.EventUnfoldError.TheVariants as unfold_error
+use Rattle.class_search.specs.event_nodes.EventUnfoldError.{EventUnfoldError}
+use Rattle.class_search.specs.event_nodes.EventUnfoldError.TheVariants as unfold_error
 use Rattle.event_functions.specs.Functions.{signal_start}
 use Rattle.event_agreement.specs.pair_events.View.{EventsView, side_of_both, circuit_at}
 

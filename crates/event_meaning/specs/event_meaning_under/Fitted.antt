@@ -8,7 +8,7 @@ use Rattle.outcome.specs.declared.verdict.Outcome.{Outcome}
 use Rattle.sec_setup.specs.Cuts.{columns_of, is_cut}
 use Rattle.class_queries.specs.Enables.{both_of}
 use Rattle.event_nodes.specs.View.{EventCircuitView}
-use Rattle.event_shown_under.specs.event_under_fits.event_findings.declared.findings.EventFindings.{EventFindings}
+use Rattle.event_shown_under.specs.event_under_fits.event_findings.EventFindings.{EventFindings}
 use Rattle.event_names.specs.event_fits.EventPairs.{EventPairs}
 use Rattle.event_names.specs.event_fits.Circuits.{AreReached}
 use Rattle.event_names.specs.event_fits.Totals.{IsMapMade, IsWithinWith}

@@ -2,7 +2,7 @@
 use Rattle.std.proofs.Common.{◌≡◌, ℕ, Option, Result, Ok, Err}
 use Rattle.circuit_theory.specs.declared.Side.{Side}
 use Rattle.sec_base.specs.declared.basics.Tag.{Tag}
-use Rattle.class_search.specs.pair_decide.declared.query.Proof.{Proof}
+use Rattle.class_search.specs.pair_decide.Proof.{Proof}
 use Rattle.event_nodes.specs.View.{EventCircuitView}
 use Rattle.event_classes.specs.declared.error.EventError.{EventError}
 use Rattle.event_classes.specs.declared.error.EventError.TheVariants as event_error

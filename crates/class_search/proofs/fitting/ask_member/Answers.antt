@@ -1,10 +1,15 @@
 -- Enables of one value agree; the others are asked about.
-use Rattle.class_search.proofs.Agreeing.{compared_same}
+use Rattle.class_search.proofs.Queries.{ready_next}
 use Rattle.class_search.proofs.fitting.ask_member.Goals as goal
 
-pub returns-then-is_same-clause-same : goal.returns-then-is_same-clause-same
-returns-then-is_same-clause-same c =
-    let by = c.is_same.ensures.yes c.if-is_same.true in compared_same c.compare_enables.new.events c.args.member.now c.args.latch.now c.args.conflicts c.in_ok-compared.compared by.0 c.in_ok-compared.ensures.compared by.1
+pub and-requires-clause-left : goal.and-requires-clause-left
+and-requires-clause-left c = c.requires.member.care_within
 
-pub returns-clause-unlike : goal.returns-clause-unlike
-returns-clause-unlike c = record { compared = c.in_ok-compared.ensures.compared; unlike = c.is_same.ensures.no c.if-is_same.false }
+pub and-requires-clause-right : goal.and-requires-clause-right
+and-requires-clause-right c = c.requires.latch.care_within
+
+pub returns-in_err-_care-clause-ready : goal.returns-in_err-_care-clause-ready
+returns-in_err-_care-clause-ready c = λ x h. ready_next c.args.events.now c.and.new.self c.keeps.ensures.events c.and.ensures.grows c.and.ensures.same x h
+
+pub returns-then-member-latch-clause-ready : goal.returns-then-member-latch-clause-ready
+returns-then-member-latch-clause-ready c = λ x h. ready_next c.args.events.now c.and.new.self c.keeps.ensures.events c.and.ensures.grows c.and.ensures.same x h

@@ -2,7 +2,7 @@
 
 ghost use Rattle.std.specs.Prelude.{◌≡◌, ◌*◌, ◌^◌, ◌<◌, ◌≤◌, length, reverse, slice_get, Some, IfOk};
 ghost use Rattle.class_search.specs.aig.Rules.{IsAndOf};
-ghost use Rattle.class_search.specs.flat_net.declared.parts.LatchAt.{LatchAt};
+ghost use Rattle.class_search.specs.flat_net.LatchAt.{LatchAt};
 ghost use Rattle.class_search.specs.event_nodes.Nodes.{GrowsEvents, path_of};
 ghost use Rattle.class_search.specs.event_variables.Variables.{AreInOrder, IsMergeOf};
 ghost use Rattle.event_agreement.specs.pair_events.View.{circuit_at, side_of_both, signal_at};

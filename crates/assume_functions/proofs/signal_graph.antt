@@ -1,0 +1,1 @@
+pub use Rattle.cbf_unfold.proofs.signal_graph.Lists

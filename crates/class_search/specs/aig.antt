@@ -1,0 +1,6 @@
+pub use Rattle.event_variables.specs.aig.Builds
+pub use Rattle.event_variables.specs.aig.Cone
+pub use Rattle.event_variables.specs.aig.Rules
+pub use Rattle.event_variables.specs.aig.Values
+pub use Rattle.event_variables.specs.aig.declared.node.Lit
+pub use Rattle.event_variables.specs.aig.declared.node.Node

@@ -1,0 +1,3 @@
+pub use Rattle.event_variables.specs.Laws
+pub use Rattle.event_variables.specs.Order
+pub use Rattle.event_variables.specs.Variables

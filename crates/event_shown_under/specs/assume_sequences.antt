@@ -1,0 +1,1 @@
+pub use Rattle.assume_sequences.specs.Filled

@@ -1,0 +1,2 @@
+pub use Rattle.event_witness.specs.Sequences
+pub use Rattle.event_witness.specs.declared.unshown.UnshownFrame
