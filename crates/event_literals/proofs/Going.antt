@@ -1,6 +1,6 @@
 -- How an unfolder goes on from step to step.
-use Rattle.std.proofs.Common.{◌≡◌, ◌∙◌, ◌+◌, ◌<◌, ◌≤◌, ℕ, zero, suc, List, [], ◌∷◌, ◌++◌, length, take, get_or, slice_get, Some, refl, sym, ap, subst, arith, inl, inr, length-append}
-use Rattle.std.specs.Prelude.{◌⊎◌}
+use Rattle.std.proofs.Common.{◌≡◌, ◌∙◌, ◌+◌, ◌<◌, ◌≤◌, ℕ, zero, suc, List, [], ◌∷◌, ◌++◌, length, take, get_or, slice_get, Some, Result, Ok, Err, refl, sym, ap, subst, arith, inl, inr, length-append}
+use Rattle.std.specs.Prelude.{◌⊎◌, OnOk, OnErr}
 use Rattle.std.specs.List.{Contains, sum_by}
 use Rattle.std.proofs.lemmas.Bool.{cases_lt}
 use Rattle.std.proofs.lemmas.List.Elements.{Contains-push, Contains-push_cases}
@@ -18,6 +18,11 @@ use Rattle.event_literals.proofs.Known.{known_later}
 use Rattle.event_nodes.proofs.Growing.{grows_trans}
 use Rattle.event_nodes.proofs.Lists.{adds_none, adds_trans, adds_push, adds_contains}
 use Rattle.event_literals.proofs.Lits.{grown_none}
+
+-- what holds after a value and after a refusal
+pub ok_or_err : {X E A B C : Type 0} (r : Result X E) → OnOk r A → OnErr r B → (A → C) → (B → C) → C
+ok_or_err (Ok x) a b f g = f a
+ok_or_err (Err e) a b f g = g b
 
 abbrev Entry : Type 0
 Entry = (ℕ × ℕ) × Lit

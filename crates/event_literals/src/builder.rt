@@ -179,8 +179,7 @@ impl<'a> EventBuilder<'a> {
             return Ok(());
         }
         let lit = self.literal(alloc, events, step)?;
-        self.memo.put((step.frame, step.signal), lit)?;
-        Ok(())
+        self.memo.put((step.frame, step.signal), lit)
     }
 
     /// The literal of a step that can be done.

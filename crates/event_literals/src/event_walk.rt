@@ -3,7 +3,6 @@
 
 mod entering;
 mod frames;
-mod plan;
 mod walker;
 
 pub use event_nodes::{

@@ -1,7 +1,7 @@
 //! Variables in their order.
 
 ghost use Rattle.std.specs.Prelude.{◌≡◌, ◌-◌, ◌<◌, length, All, map, IfOk};
-ghost use Rattle.event_variables.specs.Order.{IsOnce, IsKeyOf, AreKeysOf, IsOrderOf};
+ghost use Rattle.event_variables.specs.Order.{IsKeyOf, AreKeysOf, IsOrderOf};
 
 use crate::paths::node_path;
 use event_nodes::{EventGraph, Ids, NoMemory, Seq};
@@ -24,21 +24,13 @@ pub fn in_order(alloc: Global, events: &EventGraph, variables: Vec<u32>) -> Resu
     ensures { IfOk result (IsOrderOf events.now variables.items) }
 {
     events.keeps();
-    let distinct = once(variables)?;
+    let mut distinct = variables;
+    distinct.sort()?;
+    distinct.dedup();
     let mut keys = keys_of(alloc, events, distinct.as_slice())?;
     keys.sort()?;
     let ordered = numbers_of(alloc, keys.as_slice())?;
     Ok(Seq::from_vec(ordered))
-}
-
-/// The same numbers, each once, in order.
-fn once(variables: Vec<u32>) -> Result<Vec<u32>, NoMemory>
-    ensures { IfOk result (λ r. IsOnce variables.items r.items) }
-{
-    let mut variables = variables;
-    variables.sort()?;
-    variables.dedup();
-    Ok(variables)
 }
 
 /// The key of each variable.

@@ -2,6 +2,7 @@
 use Rattle.std.proofs.Common.{◌≡◌, ◌+◌, ◌≤◌, ℕ, List, [], ◌∷◌, ◌++◌, length, slice_get, Some, refl, ap, subst, arith, inl, inr}
 use Rattle.std.specs.Prelude.{◌⊎◌}
 use Rattle.std.specs.List.{Contains}
+use Rattle.base_tables.specs.unique_table.Places.{IsWith}
 use Rattle.event_nodes.specs.flat_net.declared.parts.LatchAt.{LatchAt}
 use Rattle.event_nodes.specs.Adds.{Adds}
 use Rattle.event_nodes.specs.View.{EventCircuitView, Enabled}
@@ -16,6 +17,11 @@ use Rattle.event_nodes.proofs.flat_net.Growth.{length-push}
 pub interned_frame : (old new : List Frame) (f : Frame) → (new ≡ old) ⊎ (new ≡ old ++ f ∷ []) → Adds (λ g. Unit {0}) old new × (length new ≤ length old + 1)
 interned_frame old new f (inl e) = (adds_none (λ (g : Frame). Unit {0}) old new e, omega (arith, ap length e))
 interned_frame old new f (inr e) = (adds_push (λ (g : Frame). Unit {0}) old new f e tt, omega (arith, ap length e, length-push old f))
+
+-- the same of a table into which the frame was put
+pub inserted_frame : (old new : List Frame) (f : Frame) → IsWith old f new → Adds (λ g. Unit {0}) old new × (length new ≤ length old + 1)
+inserted_frame old new f (inl e) = interned_frame old new f (inl e.1)
+inserted_frame old new f (inr e) = interned_frame old new f (inr e.1)
 
 -- a place in a frame of the child is an entry
 pub entries : (e : EventCircuitView) (frames : List Frame) (child : ℕ) (l m : LatchAt) (put : Put) (old new : List (ℕ × ℕ)) → m ≡ l → IsHeldPut e m.out.0 put → Adds (λ q. (slice_get frames q.0 ≡ Some (record { node = child; put = put })) × (q.1 ≡ m.next.0)) old new → Adds (IsEntry e frames child l) old new

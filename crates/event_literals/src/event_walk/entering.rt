@@ -24,7 +24,7 @@ fn enter(
     ensures adds { Adds (λ q. (slice_get frames.new q.0 ≡ Some frame) × (q.1 ≡ signal.0)) table.old table.new }
     ensures few { length table.new ≤ length table.old + 1 }
 {
-    let id = frames.intern(frame)?;
+    let id = frames.insert(frame)?;
     add(table, id, signal)?;
     Ok(id)
 }

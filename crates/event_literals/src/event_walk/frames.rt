@@ -1,15 +1,12 @@
 //! Frames: an event node, and the latch that is read as a constant there.
 
-ghost use Rattle.std.specs.Prelude.{◌≡◌, ◌⊎◌, ◌+◌, ◌^◌, ◌<◌, List, [], ◌∷◌, ◌++◌, length, slice_get, Some, IfSome, IfNone, IfOk, OnOk, OnErr};
+ghost use Rattle.std.specs.Prelude.{◌≡◌, ◌⊎◌, IfSome, IfNone};
 ghost use Rattle.circuit_theory.specs.Frame.{NotPut};
 ghost use Rattle.event_literals.specs.declared.event_walk.frames.Put.TheVariants.{Low, High};
 ghost use Rattle.event_literals.specs.event_walk.Ready.{put_of};
-ghost use Rattle.event_literals.specs.event_walk.FramePlaces.{put_number};
 
 use base_tables::{Key, UniqueTable, mixed};
-use event_nodes::{Lit, NoMemory};
-use std::alloc::Global;
-use std::marker::Model;
+use event_nodes::Lit;
 
 /// The latch that is read as a constant.
 #[derive(Clone, Copy, PartialEq, Eq)]
@@ -53,24 +50,18 @@ pub struct Frame {
     pub put: Put,
 }
 
-/// A number for what is put. Two that differ have one number only by chance.
-fn put_number(put: Put) -> u32
-    ensures { result ≡ put_number put }
-{
-    match put {
-        Put::Free => 0,
-        Put::Low(latch) => mixed(1, latch),
-        Put::High(latch) => mixed(2, latch),
-    }
-}
-
 impl Key for Frame {
     ghost use Rattle.event_literals.specs.event_walk.FramePlaces.{frame_place};
 
     ghost place_at = { frame_place };
 
     fn place(self, step: u32) -> u32 {
-        mixed(self.node, put_number(self.put)).wrapping_add(step)
+        let put = match self.put {
+            Put::Free => 0,
+            Put::Low(latch) => mixed(1, latch),
+            Put::High(latch) => mixed(2, latch),
+        };
+        mixed(self.node, put).wrapping_add(step)
     }
 
     #[tactic(auto, using(crate::proofs::event_walk::FrameKeys::same_frame))]
@@ -102,45 +93,4 @@ pub struct Ways {
 }
 
 /// Frames in the order in which they first came. A contract sees the list.
-#[derive(Drop)]
-pub(crate) struct Frames {
-    frames: UniqueTable<Frame>,
-}
-
-impl Model for Frames {
-    ghost use Rattle.std.specs.Prelude.{List};
-    ghost use Rattle.event_literals.specs.declared.event_walk.frames.Frame.{Frame};
-
-    ghost Value = { List Frame };
-
-    ghost view = { λ t. t.frames };
-}
-
-impl Frames {
-    /// Without frames. It takes no memory.
-    pub(crate) fn new(alloc: Global) -> Frames
-        ensures { result ≡ [] }
-    {
-        Frames {
-            frames: UniqueTable::new(alloc, u32::MAX),
-        }
-    }
-
-    /// The frame's number. A new frame goes last. After `NoMemory` nothing has changed.
-    pub(crate) fn intern(&mut self, frame: Frame) -> Result<u32, NoMemory>
-        requires { length self.old + 1 < 2 ^ 32 }
-        ensures here { IfOk result (λ id. slice_get self.new id ≡ Some frame) }
-        ensures grown { OnOk result ((self.new ≡ self.old) ⊎ (self.new ≡ self.old ++ frame ∷ [])) }
-        ensures err { OnErr result (self.new ≡ self.old) }
-    {
-        self.frames.insert(frame)
-    }
-
-    /// The frame with this number.
-    pub(crate) fn frame(&self, id: u32) -> Frame
-        requires { id < length self.now }
-        ensures { slice_get self.now id ≡ Some result }
-    {
-        self.frames.key(id)
-    }
-}
+pub(crate) type Frames = UniqueTable<Frame>;

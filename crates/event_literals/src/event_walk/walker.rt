@@ -3,7 +3,6 @@
 ghost use Rattle.std.specs.Prelude.{◌≡◌, ◌⊎◌, ℕ, List, ◌+◌, ◌*◌, ◌^◌, ◌<◌, ◌≤◌, [], ◌∷◌, ◌++◌, length, slice_get, Some, All, Contains, IfOk, OnOk, OnErr, Err};
 ghost use Rattle.event_nodes.specs.flat_net.Sound.{IsSound};
 ghost use Rattle.circuit_theory.specs.EventSizes.{Start};
-ghost use Rattle.circuit_theory.specs.Frame.{NotPut};
 ghost use Rattle.event_nodes.specs.flat_net.declared.parts.Driver.TheVariants as driver;
 ghost use Rattle.event_nodes.specs.declared.error.EventUnfoldError.TheVariants as unfold_error;
 ghost use Rattle.event_nodes.specs.Adds.{Adds};
@@ -13,12 +12,11 @@ ghost use Rattle.event_literals.specs.event_walk.Plan.{AreExpanded, IsPlanOf};
 ghost use Rattle.event_nodes.specs.Visited.{IsWeighed, places_weight};
 ghost use Rattle.event_nodes.specs.Weights.{weight_at};
 ghost use Rattle.event_literals.specs.declared.event_walk.frames.Frame.{Frame};
-ghost use Rattle.event_literals.specs.event_walk.Ready.{put_of};
 ghost use Rattle.event_literals.specs.event_walk.Walk.{IsSeen, IsExpanded, IsVisitedPlace, IsWalk, IsCounting, IsExact, IsStep, IsRefused};
 
 use crate::event_walk::entering::enter_latch;
 use crate::event_walk::frames::{Frame, Frames, Step, Ways, constant};
-use crate::event_walk::plan::plan_of;
+use base_tables::UniqueTable;
 use event_nodes::{
     Counter, Driver, EventCircuit, EventGraph, EventUnfoldError, NoMemory, Place, PlaceTable,
     Signal, add, add_fanins, gate_of, weigh,
@@ -51,7 +49,7 @@ impl<'a> EventWalker<'a> {
     {
         EventWalker {
             circuit,
-            frames: Frames::new(alloc),
+            frames: UniqueTable::new(alloc, u32::MAX),
         }
     }
 
@@ -67,7 +65,7 @@ impl<'a> EventWalker<'a> {
         requires { id < length self.now.frames }
         ensures { slice_get self.now.frames id ≡ Some result }
     {
-        self.frames.frame(id)
+        self.frames.key(id)
     }
 
     /// The frame's number. A new frame goes last. After `NoMemory` nothing has changed.
@@ -78,7 +76,7 @@ impl<'a> EventWalker<'a> {
         ensures same { self.new ≡ record self.old { frames = self.new.frames } }
         ensures err { OnErr result (self.new ≡ self.old) }
     {
-        self.frames.intern(frame)
+        self.frames.insert(frame)
     }
 
     /// The places that a walk has expanded, in an order in which what is read comes before what reads it; the event graph has so many
@@ -94,7 +92,21 @@ impl<'a> EventWalker<'a> {
         requires each { length ways.now ≡ length table.now }
         ensures { IfOk result (λ plan. (e : EventCircuitView) (children : List (ℕ × ℕ)) → length children ≡ nodes → IsTree children → IsSound e.net → AreExpanded e self.now.frames children table.now ways.now → IsPlanOf e self.now.frames children table.now plan.items) }
     {
-        plan_of(alloc, &self.frames, nodes, table, ways)
+        let mut steps = Vec::with_capacity(alloc, table.len() as usize)?;
+        for number in 0..table.len() {
+            let place = table.pair(number);
+            let frame = self.frame(place.0);
+            let on = ways[number as usize];
+            steps.push(Step {
+                rank: nodes - frame.node,
+                signal: place.1,
+                frame: place.0,
+                onward: on.onward,
+                high: on.high,
+            })?;
+        }
+        steps.sort()?;
+        Ok(steps)
     }
 
     /// The places that the unfolding of the root visits, and the ways of each. `NoMemory` comes also where they weigh more than the cap.
@@ -207,37 +219,9 @@ impl<'a> EventWalker<'a> {
         let circuit = self.circuit();
         circuit.keeps();
         let frame = self.frame(place.0);
-        match constant(frame.put, place.1) {
-            Some(_) => Ok(stay(place)),
-            None => self.go_on(events, table, place, j, frame),
+        if let Some(_) = constant(frame.put, place.1) {
+            return Ok(stay(place));
         }
-    }
-
-    /// The same for a latch that isn't put in the frame.
-    fn go_on(
-        &mut self,
-        events: &mut EventGraph,
-        table: &mut PlaceTable,
-        place: Place,
-        j: u32,
-        frame: Frame,
-    ) -> Result<Ways, EventUnfoldError>
-        requires seen { IsSeen self.old.circuit self.old.frames events.old.children place }
-        requires latch { slice_get self.old.circuit.net.drivers place.1 ≡ Some (driver.Latch j) }
-        requires framed { slice_get self.old.frames place.0 ≡ Some frame }
-        requires free { NotPut (put_of frame.put) place.1 }
-        requires frames { length self.old.frames + 2 < 2 ^ 32 }
-        requires few { length events.old.children < 10000 }
-        requires table { length table.old + 2 < 2 ^ 32 }
-        ensures expanded { IfOk result (λ ways. IsExpanded self.new.circuit self.new.frames events.new.children table.new place ways) }
-        ensures step { IsStep self.old self.new events.old events.new place table.old table.new }
-        ensures few { length table.new ≤ length table.old + 2 }
-        ensures within { OnOk result (length events.new.children < 10000) }
-        ensures many { result ≡ Err unfold_error.TooManyEvents → 10000 ≤ length events.new.children }
-        ensures large { result ≡ Err unfold_error.TooLarge → ⊥ }
-    {
-        let circuit = self.circuit();
-        circuit.keeps();
         let child = events.child(frame.node, circuit.class(j))?;
         events.keeps();
         let nodes = events.nodes();

@@ -29,8 +29,7 @@ pub fn frame_rows(
 {
     let mut rows = unset_rows(alloc, last, count)?;
     put_variables(events, vars, bits, last, count, &mut rows);
-    let told = told_rows(alloc, rows)?;
-    Ok(told)
+    told_rows(alloc, rows)
 }
 
 /// The bits of all these variables are put, those of the last one first.

@@ -1,5 +1,6 @@
 -- The rows that are written are the sequence.
 use Rattle.std.proofs.Common.{◌∙◌}
+use Rattle.std.proofs.lemmas.Result.{IfOk-weaker}
 use Rattle.circuit_theory.specs.EventFrames.{frame_of}
 use Rattle.circuit_theory.specs.Frame.{bits_as_shifts}
 use Rattle.event_variables.specs.Variables.{variables_of}
@@ -7,4 +8,4 @@ use Rattle.event_variables.proofs.frame_sequences.Filling.{rows_are}
 use Rattle.event_variables.proofs.frame_sequences.rows.frame_rows.Goals as goal
 
 pub returns : goal.returns
-returns c = c.in_ok-told.ensures ∙ rows_are c.args.last c.args.count (bits_as_shifts (frame_of (variables_of c.args.events.now c.args.vars.now) c.args.bits.now)) c.put_variables.new.rows.items c.put_variables.ensures
+returns c = IfOk-weaker c.told_rows.result _ _ (λ told is. is ∙ rows_are c.args.last c.args.count (bits_as_shifts (frame_of (variables_of c.args.events.now c.args.vars.now) c.args.bits.now)) c.put_variables.new.rows.items c.put_variables.ensures) c.told_rows.ensures

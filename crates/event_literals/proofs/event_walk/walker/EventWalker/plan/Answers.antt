@@ -1,18 +1,33 @@
--- The walker's frames are those that its view has.
-use Rattle.std.proofs.Common.{◌≡◌, ◌≤◌, ℕ, List, length, slice_get, Some, IfOk, sym, subst}
-use Rattle.std.specs.List.{All}
-use Rattle.event_nodes.specs.flat_net.Sound.{IsSound}
-use Rattle.event_nodes.specs.Nodes.{IsTree}
-use Rattle.event_nodes.specs.View.{EventCircuitView}
+-- The steps so far, and one more; sorted, each step comes behind what it reads.
+use Rattle.std.proofs.Common.{◌≡◌, ◌∙◌, ◌≤◌, ℕ, arith, length, slice_get, Some, refl, subst}
+use Rattle.std.proofs.lemmas.List.{take_all}
+use Rattle.std.proofs.lemmas.Option.{slice_get_within}
+use Rattle.event_nodes.proofs.flat_net.Places.{All-at, one_at}
 use Rattle.event_literals.specs.declared.event_walk.frames.Frame.{Frame}
-use Rattle.event_literals.specs.event_walk.Plan.{AreExpanded, IsPlanOf}
-use Rattle.event_literals.specs.event_walk.Ready.{EventWalkerView}
+use Rattle.event_literals.specs.event_walk.Plan.{AreSteps}
+use Rattle.event_literals.proofs.event_walk.Planning.{planned, steps_none, steps_more}
 use Rattle.event_literals.proofs.event_walk.walker.EventWalker.plan.Goals as goal
 
-pub plan_of-requires-clause-seen : goal.plan_of-requires-clause-seen
-plan_of-requires-clause-seen c = subst (λ (u : EventWalkerView). All (λ (p : ℕ × ℕ). (f : Frame) × (slice_get u.frames p.0 ≡ Some f) × (f.node ≤ c.args.nodes)) c.args.table.now) (sym c.self.view_is) c.requires.seen
+pub loop-number-init : goal.loop-number-init
+loop-number-init c = steps_none c.args.self.now.frames c.args.nodes c.args.table.now c.args.ways.now c.in_ok-steps.steps.items c.in_ok-steps.ensures.items
+
+pub frame-frame-requires : goal.frame-frame-requires
+frame-frame-requires c =
+    let seen = All-at (λ (p : ℕ × ℕ). (f : Frame) × (slice_get c.args.self.now.frames p.0 ≡ Some f) × (f.node ≤ c.args.nodes)) c.args.table.now c.loop-number.number c.pair-place.result c.pair-place.ensures c.requires.seen in
+    slice_get_within c.args.self.now.frames c.pair-place.result.0 seen.0 seen.1
+
+pub overflow_sub-nodes : goal.overflow_sub-nodes
+overflow_sub-nodes c =
+    let seen = All-at (λ (p : ℕ × ℕ). (f : Frame) × (slice_get c.args.self.now.frames p.0 ≡ Some f) × (f.node ≤ c.args.nodes)) c.args.table.now c.loop-number.number c.pair-place.result c.pair-place.ensures c.requires.seen in
+    subst (λ (f : Frame). f.node ≤ c.args.nodes) (one_at c.args.self.now.frames c.pair-place.result.0 seen.0 c.frame-frame.result seen.1 c.frame-frame.ensures) seen.2
+
+pub loop-number-preserved : goal.loop-number-preserved
+loop-number-preserved c =
+    steps_more c.args.self.now.frames c.args.nodes c.args.table.now c.args.ways.now c.loop-number.steps.items c.push.new.self.items c.loop-number.number c.pair-place.result _ _ c.loop-number.invariant
+    c.pair-place.ensures (c.frame-frame.result, c.frame-frame.ensures, refl) c.in_ok-push.ensures.items
 
 pub returns : goal.returns
-returns c =
-    subst (λ (u : EventWalkerView). IfOk c.plan_of.result (λ plan. (e : EventCircuitView) (children : List (ℕ × ℕ)) → length children ≡ c.args.nodes → IsTree children → IsSound e.net → AreExpanded e u.frames children c.args.table.now c.args.ways.now →
-    IsPlanOf e u.frames children c.args.table.now plan.items)) c.self.view_is c.plan_of.ensures
+returns c = λ e children many tree sound all.
+    let whole : length c.args.table.now ≤ c.loop-number.number = omega (arith, c.loop-number-test.false, c.len-number-end.ensures) in
+    let are : AreSteps c.args.self.now.frames c.args.nodes c.args.table.now c.args.ways.now c.loop-number.steps.items = record { places = c.loop-number.invariant.places ∙ take_all c.loop-number.number c.args.table.now whole; is = λ i p g here over. c.loop-number.invariant.is i p g (let k = slice_get_within c.args.table.now i p here in omega (arith, k, whole)) here over } in
+    planned e sound c.args.self.now.frames children tree c.args.nodes many c.args.table.now c.args.ways.now all c.loop-number.steps.items c.sort.new.self.items are c.sort.ensures.permutation c.in_ok-sort.ensures.sorted

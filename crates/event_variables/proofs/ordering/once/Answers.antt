@@ -1,8 +1,0 @@
--- Sorted, equal numbers stand side by side.
-use Rattle.std.proofs.Common.{eqb}
-use Rattle.std.proofs.lemmas.List.Filters.{dedup_is}
-use Rattle.event_variables.proofs.Sorting.{once_sorted}
-use Rattle.event_variables.proofs.ordering.once.Goals as goal
-
-pub returns : goal.returns
-returns c = once_sorted c.args.variables.items c.sort.new.self.items c.dedup.new.self.items c.sort.ensures.permutation c.in_ok-sort.ensures.sorted (dedup_is eqb c.sort.new.self.items c.dedup.new.self.items c.dedup.ensures.filtered)
