@@ -1,16 +1,15 @@
 -- One row is written, or one clause of a row taken away.
-use Rattle.std.proofs.Common.{◌≡◌, ◌≢◌, ◌⊎◌, ℕ, zero, suc, ◌+◌, ◌-◌, ◌*◌, ◌<◌, ◌≤◌, Bool, true, false, List, [], ◌∷◌, ◌++◌, length, get_or, refl, sym, ◌∙◌, ap, subst, arith, inl, inr, Option, Some, None, Result, Ok, Err}
-use Rattle.std.specs.Prelude.{slice_get, unwrap_or, replicate, OnOk, OnErr, if◌then◌else◌}
+use Rattle.std.proofs.Common.{◌≡◌, ◌≢◌, ◌⊎◌, ℕ, zero, suc, ◌+◌, ◌-◌, ◌*◌, ◌<◌, ◌≤◌, Bool, true, false, List, [], ◌∷◌, ◌++◌, length, get_or, refl, sym, ◌∙◌, ap, subst, arith, inl, inr, Option, Some, None}
+use Rattle.std.specs.Prelude.{slice_get, unwrap_or, replicate, if◌then◌else◌}
 use Rattle.std.proofs.Math.ListN.{set}
 use Rattle.std.proofs.lemmas.Bool.{cases_eq, cases_lt}
 use Rattle.std.proofs.lemmas.List.{length-set, length-replicate}
 use Rattle.std.proofs.lemmas.Option.{slice_get_within, slice_get-get_or, slice_get_cases, get_or_from_slice_get}
 use Rattle.clause_base.specs.Literals.{Literal}
 use Rattle.clause_base.proofs.Members.{same_literal}
-use Rattle.clause_watch.specs.Rows.{row_of, row, IsTaken, IsAdded, IsPut, IsRemoved, AreEmpty, AreSameRows}
+use Rattle.clause_watch.specs.Rows.{row_of, row, IsTaken, IsAdded, IsRemoved, AreEmpty}
 use Rattle.clause_watch.specs.declared.watchers.Watcher.{Watcher}
 use Rattle.clause_watch.proofs.Lists.{get_set_same, get_set_other}
-use Rattle.clause_watch.proofs.Literals.{same_or_other}
 
 -- two literals have two rows
 same_place : (b c : Bool) (v w : ℕ) → 2 * v + (if b then 1 else 0) ≡ 2 * w + (if c then 1 else 0) → (v ≡ w) × (b ≡ c)
@@ -53,9 +52,8 @@ in_row rows now l place i old same is reads h =
     subst (λ (r : List Watcher). place < length r) (sym (is_row now l i old is (row_within now l place h) there)) h
 
 -- one clause more
-pub added : {E : Type 0} (rows now : List (List Watcher)) (l : Literal) (w : Watcher) (i : ℕ) (old new : List Watcher) (r : Result (Unit {0}) E) → rows ≡ now → i ≡ row_of l → row_of l < length now → old ≡ get_or rows i old → OnOk r (new ≡ old ++ w ∷ []) → OnOk r (IsAdded now l w (set rows i new))
-added rows now l w i old new (Err e) view is within reads h = tt
-added rows now l w i old new (Ok x) view is within reads h =
+pub added : (rows now : List (List Watcher)) (l : Literal) (w : Watcher) (i : ℕ) (old new : List Watcher) → rows ≡ now → i ≡ row_of l → row_of l < length now → old ≡ get_or rows i old → new ≡ old ++ w ∷ [] → IsAdded now l w (set rows i new)
+added rows now l w i old new view is within reads h =
     let inside = subst (λ (rs : List (List Watcher)). row_of l < length rs) (sym view) within in
     let whole : IsAdded rows l w (set rows i new) =
     subst (λ n. IsAdded rows l w (set rows n new)) (sym is) (record {
@@ -64,33 +62,6 @@ added rows now l w i old new (Ok x) view is within reads h =
       others = λ m differ. unwritten rows l m new differ;
     }) in
     subst (λ (rs : List (List Watcher)). IsAdded rs l w (set rows i new)) view whole
-
--- after an error each row has what it had
-pub same_after : {E : Type 0} (rows now : List (List Watcher)) (l : Literal) (i : ℕ) (old new : List Watcher) (r : Result (Unit {0}) E) → rows ≡ now → i ≡ row_of l → row_of l < length now → old ≡ get_or rows i old → OnErr r (new ≡ old) → OnErr r (AreSameRows now (set rows i new))
-same_after rows now l i old new (Ok x) view is within reads h = tt
-same_after rows now l i old new (Err e) view is within reads h = subst (λ (rs : List (List Watcher)). AreSameRows rs (set rows i new)) view whole
-  where
-    inside : row_of l < length rows
-    inside = subst (λ (rs : List (List Watcher)). row_of l < length rs) (sym view) within
-
-    same : (m : Literal) → (m ≡ l) ⊎ (m ≢ l) → row (set rows (row_of l) new) m ≡ row rows m
-    same m (inr differ) = unwritten rows l m new differ
-    same m (inl e) = subst (λ (x : Literal). row (set rows (row_of l) new) x ≡ row rows x) (sym e) (written rows l new inside ∙ h ∙ is_row rows l i old is inside reads)
-
-    whole : AreSameRows rows (set rows i new)
-    whole = subst (λ n. AreSameRows rows (set rows n new)) (sym is) (record { sized = length-set rows (row_of l) new; same = λ m. same m (same_or_other m l) })
-
--- another one in the place of a clause
-pub put : (rows now : List (List Watcher)) (l : Literal) (place : ℕ) (w : Watcher) (i : ℕ) (old new : List Watcher) → rows ≡ now → i ≡ row_of l → row_of l < length now → old ≡ get_or rows i old → new ≡ set old place w → IsPut now l place w (set rows i new)
-put rows now l place w i old new view is within reads h =
-    let inside = subst (λ (rs : List (List Watcher)). row_of l < length rs) (sym view) within in
-    let whole : IsPut rows l place w (set rows i new) =
-    subst (λ n. IsPut rows l place w (set rows n new)) (sym is) (record {
-      sized = length-set rows (row_of l) new;
-      here = written rows l new inside ∙ h ∙ ap (λ (o : List Watcher). set o place w) (is_row rows l i old is inside reads);
-      others = λ m differ. unwritten rows l m new differ;
-    }) in
-    subst (λ (rs : List (List Watcher)). IsPut rs l place w (set rows i new)) view whole
 
 -- one clause less
 pub removed : (rows now : List (List Watcher)) (l : Literal) (place : ℕ) (i : ℕ) (old new : List Watcher) → rows ≡ now → i ≡ row_of l → row_of l < length now → old ≡ get_or rows i old → IsTaken old place new → IsRemoved now l place (set rows i new)

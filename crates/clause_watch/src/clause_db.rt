@@ -33,8 +33,7 @@ impl ClauseDb {
     pub(crate) fn empty(alloc: Global) -> Result<ClauseDb, NoMemory>
         ensures { IfOk result (λ store. store ≡ []) }
     {
-        let mut starts = Vec::new(alloc);
-        starts.push(0)?;
+        let starts = vec![in alloc; 0; 1]?;
         Ok(ClauseDb {
             literals: Vec::new(alloc),
             starts,

@@ -55,9 +55,8 @@ pub(crate) fn next_watch(clause: &[Literal], trail: &Trail, other: Literal) -> O
     for literal in clause {
         if literal.variable() != other.variable() {
             match trail.truth(*literal) {
-                Truth::True => return Some(*literal),
-                Truth::Free => return Some(*literal),
                 Truth::False => {}
+                _ => return Some(*literal),
             }
         }
     }

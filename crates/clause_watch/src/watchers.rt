@@ -1,7 +1,7 @@
 //! Which clauses watch each literal.
 
-ghost use Rattle.std.specs.Prelude.{◌≡◌, ◌+◌, ◌*◌, ◌<◌, ◌≤◌, ◌^◌, [], ◌∷◌, ◌++◌, length, slice_get, slice_set, Some, IfOk, OnOk, OnErr};
-ghost use Rattle.clause_watch.specs.Rows.{row, row_of, IsTaken, IsAdded, IsPut, IsRemoved, IsPopped, AreEmpty, AreSameRows};
+ghost use Rattle.std.specs.Prelude.{◌≡◌, ◌+◌, ◌*◌, ◌<◌, ◌≤◌, ◌^◌, [], length, slice_get, Some, IfOk, OnOk, OnErr};
+ghost use Rattle.clause_watch.specs.Rows.{row, row_of, IsAdded, IsPut, IsRemoved, IsPopped, AreEmpty, AreSameRows};
 ghost use Rattle.clause_watch.specs.TwoWatches.{IsInBothRows};
 
 use crate::pair::Pair;
@@ -40,54 +40,6 @@ impl Row {
             watchers: Vec::new(alloc),
         }
     }
-
-    /// How many there are.
-    fn len(&self) -> usize
-        ensures { result ≡ length self.now }
-    {
-        self.watchers.len()
-    }
-
-    /// The one at a place.
-    fn at(&self, place: usize) -> Watcher
-        requires { place < length self.now }
-        ensures { slice_get self.now place ≡ Some result }
-    {
-        self.watchers[place]
-    }
-
-    /// Puts one last. After `NoMemory` nothing has changed.
-    fn push(&mut self, watcher: Watcher) -> Result<(), NoMemory>
-        ensures ok { OnOk result (self.new ≡ self.old ++ watcher ∷ []) }
-        ensures err { OnErr result (self.new ≡ self.old) }
-    {
-        self.watchers.push(watcher)?;
-        Ok(())
-    }
-
-    /// Takes the last one away.
-    fn pop(&mut self)
-        requires { 0 < length self.old }
-        ensures { (watcher : _) × (self.old ≡ self.new ++ watcher ∷ []) }
-    {
-        let _ = self.watchers.pop();
-    }
-
-    /// Puts one in the place of another.
-    fn put(&mut self, place: usize, watcher: Watcher)
-        requires { place < length self.old }
-        ensures { self.new ≡ slice_set self.old place watcher }
-    {
-        self.watchers[place] = watcher;
-    }
-
-    /// Takes one away, and puts the last in its place.
-    fn remove(&mut self, place: usize)
-        requires { place < length self.old }
-        ensures { IsTaken self.old place self.new }
-    {
-        let _ = self.watchers.swap_remove(place);
-    }
 }
 
 /// For each literal the clauses that watch it. A contract sees a list of lists.
@@ -123,7 +75,8 @@ impl Watchers {
         requires { row_of literal < length self.now }
         ensures { result ≡ length (row self.now literal) }
     {
-        self.rows[index_of(literal)].len()
+        let row = &self.rows[index_of(literal)];
+        row.watchers.len()
     }
 
     /// One of the clauses that watch the literal.
@@ -131,7 +84,8 @@ impl Watchers {
         requires { place < length (row self.now literal) }
         ensures { slice_get (row self.now literal) place ≡ Some result }
     {
-        self.rows[index_of(literal)].at(place)
+        let row = &self.rows[index_of(literal)];
+        row.watchers[place]
     }
 
     /// One clause more that watches the literal. After `NoMemory` nothing has changed.
@@ -140,7 +94,9 @@ impl Watchers {
         ensures ok { OnOk result (IsAdded self.old literal watcher self.new) }
         ensures err { OnErr result (AreSameRows self.old self.new) }
     {
-        self.rows[index_of(literal)].push(watcher)
+        let row = &mut self.rows[index_of(literal)];
+        row.watchers.push(watcher)?;
+        Ok(())
     }
 
     /// Takes the last one out of the literal's row.
@@ -148,7 +104,8 @@ impl Watchers {
         requires { 0 < length (row self.old literal) }
         ensures { IsPopped self.old literal self.new }
     {
-        self.rows[index_of(literal)].pop()
+        let row = &mut self.rows[index_of(literal)];
+        let _ = row.watchers.pop();
     }
 
     /// Puts a clause into the rows of two literals. After `NoMemory` nothing has changed.
@@ -190,7 +147,8 @@ impl Watchers {
         requires { place < length (row self.old literal) }
         ensures { IsPut self.old literal place watcher self.new }
     {
-        self.rows[index_of(literal)].put(place, watcher)
+        let row = &mut self.rows[index_of(literal)];
+        row.watchers[place] = watcher;
     }
 
     /// Takes away one of the clauses that watch the literal.
@@ -198,7 +156,8 @@ impl Watchers {
         requires { place < length (row self.old literal) }
         ensures { IsRemoved self.old literal place self.new }
     {
-        self.rows[index_of(literal)].remove(place)
+        let row = &mut self.rows[index_of(literal)];
+        let _ = row.watchers.swap_remove(place);
     }
 }
 

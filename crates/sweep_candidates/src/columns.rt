@@ -20,10 +20,8 @@ impl Column {
         round: usize,
         model: &Model,
     ) -> Result<Column, NoMemory> {
-        let mut inputs = Vec::new(alloc);
-        for v in 0..words.len() / 8 {
-            inputs.push(random_word(words, v, round))?;
-        }
+        let mut inputs = vec![in alloc; 0u64; words.len() / 8]?;
+        put_random(inputs.as_mut_slice(), words, round);
         put_model(inputs.as_mut_slice(), model);
         Ok(Column {
             inputs,
@@ -48,17 +46,17 @@ impl Column {
     }
 }
 
-fn word_at(words: &[u64], at: usize) -> u64 {
-    match words.get(at) {
-        Some(word) => *word,
-        None => 0,
-    }
+/// The word at the place, or 0 behind the last one.
+pub(crate) fn word_at(words: &[u64], at: usize) -> u64 {
+    words.get(at).copied().unwrap_or(0)
 }
 
-/// One of the variable's words, turned round a little.
-fn random_word(words: &[u64], v: usize, round: usize) -> u64 {
-    let word = word_at(words, v.saturating_mul(8).saturating_add(round % 8));
-    word.rotate_left((round / 8 % 64) as u32)
+/// Gives each variable one of its words, turned round a little.
+fn put_random(inputs: &mut [u64], words: &[u64], round: usize) {
+    for v in 0..inputs.len() {
+        let word = word_at(words, v.saturating_mul(8).saturating_add(round % 8));
+        inputs[v] = word.rotate_left((round / 8 % 64) as u32);
+    }
 }
 
 /// Gives the model's variables its bits, with one or two of them turned in each assignment but the first.

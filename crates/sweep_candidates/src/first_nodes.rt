@@ -21,10 +21,8 @@ impl FirstNodes {
     /// The node with the key, if there is one.
     pub(crate) fn find(&self, keys: &[u64], key: u64) -> Option<u32> {
         let at = probe(self.places.as_slice(), keys, key);
-        match self.places.get(at) {
-            Some(0) | None => None,
-            Some(place) => Some(place.wrapping_sub(1)),
-        }
+        let place = self.places.get(at).copied().unwrap_or(0);
+        if place == 0 { None } else { Some(place - 1) }
     }
 
     /// Puts the node, if there is none with its key.
@@ -52,10 +50,7 @@ impl FirstNodes {
 
     /// Puts the node where there is room.
     fn place(&mut self, keys: &[u64], n: u32) {
-        let key = match keys.get(n as usize) {
-            Some(key) => *key,
-            None => 0,
-        };
+        let key = keys.get(n as usize).copied().unwrap_or(0);
         let at = probe(self.places.as_slice(), keys, key);
         if at < self.places.len() && self.places[at] == 0 {
             self.places[at] = n.saturating_add(1);
@@ -78,13 +73,9 @@ fn probe(places: &[u32], keys: &[u64], key: u64) -> usize {
     let mask = len.wrapping_sub(1);
     let mut at = (key >> 17) as usize & mask;
     for _step in 0..len {
-        match places.get(at) {
-            Some(0) | None => return at,
-            Some(place) => {
-                if keys.get(place.wrapping_sub(1) as usize) == Some(&key) {
-                    return at;
-                }
-            }
+        let place = places.get(at).copied().unwrap_or(0);
+        if place == 0 || keys.get(place as usize - 1) == Some(&key) {
+            return at;
         }
         at = at.wrapping_add(1) & mask;
     }
