@@ -3,12 +3,12 @@
 use crate::circuits::show_graph;
 use crate::runs::show_ones;
 use crate::stimuli::show_stimulus;
-use row_text::show;
+use row_text::{show, split_at};
 use std::rt::HostRuntime;
 use std::str;
 
 /// Shows what comes of the call.
-fn show_call(rt: &HostRuntime, call: &str, rest: &str) {
+fn show_call(rt: &HostRuntime, call: &str, rest: &[u8]) {
     match call {
         "graph" => show_graph(rt, rest),
         "ones" => show_ones(rt, rest),
@@ -19,13 +19,12 @@ fn show_call(rt: &HostRuntime, call: &str, rest: &str) {
 
 /// Shows the row and what comes of it; nothing of a remark.
 pub(crate) fn show_row(rt: &HostRuntime, row: &[u8]) {
-    let row = str::from_utf8(row).unwrap_or("no words");
-    if row.starts_with('#') {
+    if let [b'#', ..] = row {
         return;
     }
-    show(rt, row.as_bytes());
+    show(rt, row);
     show(rt, b"\n");
-    let (call, rest) = row.split_once(' ').unwrap_or((row, ""));
-    show_call(rt, call, rest);
+    let (call, rest) = split_at(b' ', row);
+    show_call(rt, str::from_utf8(call).unwrap_or(""), rest);
     show(rt, b"\n");
 }

@@ -13,6 +13,7 @@ use row_text::{file_of, show, show_count};
 use sec_base::{Ids, MAX_FILE_BYTES, NoMemory};
 use std::alloc::Global;
 use std::rt::HostRuntime;
+use std::str;
 
 /// The weight up to which an unfolding is weighed.
 const MOST: u32 = 1_000;
@@ -29,8 +30,8 @@ pub(crate) fn net_in(alloc: Global, text: &[u8]) -> Option<Net> {
 }
 
 /// The net of a file.
-pub(crate) fn net_of(rt: &HostRuntime, path: &str) -> Option<Net> {
-    let text = file_of(rt, path)?;
+pub(crate) fn net_of(rt: &HostRuntime, path: &[u8]) -> Option<Net> {
+    let text = file_of(rt, str::from_utf8(path).ok()?)?;
     net_in(rt.alloc(), text.as_slice())
 }
 
@@ -43,7 +44,7 @@ fn graph_of(alloc: Global, net: &Net) -> Result<LatchGraph, NoMemory>
 }
 
 /// Shows the depth and the weight of each output, and a cycle of latches.
-pub(crate) fn show_graph(rt: &HostRuntime, path: &str) {
+pub(crate) fn show_graph(rt: &HostRuntime, path: &[u8]) {
     match net_of(rt, path) {
         Some(net) => show_graph_of(rt, &net),
         None => show(rt, b"no net\n"),
@@ -134,7 +135,8 @@ fn show_cycle(rt: &HostRuntime, net: &Net, graph: &LatchGraph)
     show(rt, b"\n");
 }
 
-fn show_counts(rt: &HostRuntime, numbers: &[u32]) {
+/// Shows a blank and the number, of each.
+pub(crate) fn show_counts(rt: &HostRuntime, numbers: &[u32]) {
     for number in numbers {
         show_count(rt, u64::from(*number));
     }

@@ -9,48 +9,35 @@ use crate::searches::show_searched;
 use proof_check::Clauses;
 use row_text::{show, split_at};
 use std::rt::HostRuntime;
+use std::str;
 
 /// How many clauses and chains a row has at most.
 pub(crate) const MANY: usize = 1_000_000;
 
-/// Shows what the numbers, behind clauses, come to.
-fn show_numbers(rt: &HostRuntime, kind: &[u8], clauses: &Clauses, numbers: &[u32])
-    requires { length clauses.now ≤ 1000000 }
-{
-    if kind == b"resolve".as_slice() {
-        show_resolved(rt, clauses, numbers);
-    } else if kind == b"search".as_slice() {
-        show_searched(rt, clauses, numbers, false);
-    } else if kind == b"solve".as_slice() {
-        show_searched(rt, clauses, numbers, true);
-    } else {
-        show(rt, b"no kind");
-    }
-}
-
 /// Shows what a log or numbers, behind clauses, come to.
-fn show_more(rt: &HostRuntime, kind: &[u8], clauses: &Clauses, more: &[u8])
+fn show_more(rt: &HostRuntime, kind: &str, clauses: &Clauses, more: &[u8])
     requires { length clauses.now ≤ 1000000 }
 {
-    if kind == b"log".as_slice() {
-        return show_checked(rt, clauses, more);
+    match kind {
+        "log" => show_checked(rt, clauses, more),
+        "chains" => show_derived(rt, clauses, more),
+        "resolve" => show_resolved(rt, clauses, numbers_of(rt, more).as_slice()),
+        "search" => show_searched(rt, clauses, numbers_of(rt, more).as_slice(), false),
+        "solve" => show_searched(rt, clauses, numbers_of(rt, more).as_slice(), true),
+        _ => show(rt, b"no kind"),
     }
-    if kind == b"chains".as_slice() {
-        return show_derived(rt, clauses, more);
-    }
-    let numbers = numbers_of(rt, more);
-    show_numbers(rt, kind, clauses, numbers.as_slice());
 }
 
-fn show_kind(rt: &HostRuntime, kind: &[u8], formula: &[u8], more: &[u8]) {
-    if kind == b"clause".as_slice() {
+fn show_kind(rt: &HostRuntime, kind: &str, formula: &[u8], more: &[u8]) {
+    if kind == "clause" {
         return show_clause(rt, formula);
     }
     let clauses = clauses_of(rt, formula);
     if clauses.len() > MANY {
-        return show(rt, b"too many");
+        show(rt, b"too many");
+    } else {
+        show_more(rt, kind, &clauses, more);
     }
-    show_more(rt, kind, &clauses, more);
 }
 
 /// Shows what the row comes to.
@@ -60,6 +47,6 @@ pub(crate) fn show_row(rt: &HostRuntime, row: &[u8]) {
     let (formula, more) = split_at(b';', about);
     show(rt, name);
     show(rt, b": ");
-    show_kind(rt, kind, formula, more);
+    show_kind(rt, str::from_utf8(kind).unwrap_or(""), formula, more);
     show(rt, b"\n");
 }

@@ -5,27 +5,23 @@ use proof_check::{Clause, Clauses, Outcome, Resolver};
 use row_text::show;
 use std::rt::HostRuntime;
 
-fn word_of_outcome(outcome: Outcome) -> &'static [u8] {
-    match outcome {
-        Outcome::Derived => b"derived, ",
-        Outcome::NoPivot => b"no such pivot, ",
-        Outcome::Clashes => b"a tautology, ",
-    }
-}
-
 fn show_step(rt: &HostRuntime, resolver: &mut Resolver, other: &Clause, pivot: u32) {
     match resolver.resolve(other.as_slice(), pivot) {
-        Ok(outcome) => show(rt, word_of_outcome(outcome)),
+        Ok(Outcome::Derived) => show(rt, b"derived, "),
+        Ok(Outcome::NoPivot) => show(rt, b"no such pivot, "),
+        Ok(Outcome::Clashes) => show(rt, b"a tautology, "),
         Err(_) => show(rt, b"no memory"),
     }
 }
 
 fn show_steps(rt: &HostRuntime, resolver: &mut Resolver, clauses: &Clauses, pairs: &[u32]) {
-    for pair in pairs.chunks_exact(2) {
-        if let [pivot, number] = pair {
+    let mut rest = pairs;
+    for _ in 0..pairs.len() {
+        if let [pivot, number, later @ ..] = rest {
             if let Some(other) = clauses.as_slice().get(*number as usize) {
                 show_step(rt, resolver, other, *pivot);
             }
+            rest = later;
         }
     }
 }

@@ -53,7 +53,7 @@ fn split_at_zero(text: &[u8]) -> Option<(&[u8], &[u8])> {
     let mut rest = text;
     for _ in 0..text.len() {
         let (word, later) = split_at(b' ', rest);
-        if word == b"0".as_slice() {
+        if let [b'0'] = word {
             return Some((text.get(..start)?, later));
         }
         start = start.saturating_add(word.len()).saturating_add(1);
@@ -99,13 +99,15 @@ pub(crate) fn numbers_of(rt: &HostRuntime, text: &[u8]) -> Vec<u32> {
 /// Steps from pairs of a pivot and a clause's number.
 fn steps_of(rt: &HostRuntime, pairs: &[u32]) -> Steps {
     let mut steps = Seq::new(rt.alloc());
-    for pair in pairs.chunks_exact(2) {
-        if let [pivot, clause] = pair {
+    let mut rest = pairs;
+    for _ in 0..pairs.len() {
+        if let [pivot, clause, later @ ..] = rest {
             let step = Step {
                 pivot: *pivot,
                 clause: *clause,
             };
             note(rt, steps.push(step));
+            rest = later;
         }
     }
     steps

@@ -6,23 +6,23 @@ use crate::circuits::net_of;
 use cycle_sim::{MarkedSim, Power};
 use flat_net::Net;
 use latch_cone::none_enabled;
-use row_text::show;
+use row_text::{show, split_at};
 use sec_base::NoMemory;
 use std::alloc::Global;
 use std::rt::HostRuntime;
 
 /// The bits of a row of digits.
-fn bits_of(alloc: Global, digits: &str) -> Result<Vec<bool>, NoMemory> {
+fn bits_of(alloc: Global, digits: &[u8]) -> Result<Vec<bool>, NoMemory> {
     let mut bits = Vec::new(alloc);
-    for digit in digits.as_bytes() {
+    for digit in digits {
         bits.push(*digit == b'1')?;
     }
     Ok(bits)
 }
 
 /// Shows the values and the marks of the outputs in each cycle of the run.
-pub(crate) fn show_ones(rt: &HostRuntime, words: &str) {
-    let (path, rows) = words.split_once(' ').unwrap_or((words, ""));
+pub(crate) fn show_ones(rt: &HostRuntime, words: &[u8]) {
+    let (path, rows) = split_at(b' ', words);
     match net_of(rt, path) {
         Some(net) => show_cycles(rt, &net, rows),
         None => show(rt, b"no net\n"),
@@ -37,17 +37,22 @@ fn at_ones(alloc: Global, net: &Net) -> Result<MarkedSim<'_>, NoMemory>
     MarkedSim::new(alloc, net, &Power::Ones, &enabled)
 }
 
-fn show_cycles(rt: &HostRuntime, net: &Net, rows: &str) {
+fn show_cycles(rt: &HostRuntime, net: &Net, rows: &[u8]) {
     let Ok(mut marked) = at_ones(rt.alloc(), net) else {
         return show(rt, b"lost\n");
     };
-    for row in rows.split_whitespace() {
-        show_cycle(rt, net, &mut marked, row);
+    let mut rest = rows;
+    for _ in 0..rows.len() {
+        let (row, later) = split_at(b' ', rest);
+        if !row.is_empty() {
+            show_cycle(rt, net, &mut marked, row);
+        }
+        rest = later;
     }
 }
 
 /// Takes one cycle over the row, and shows the values and the marks of the outputs in it.
-fn show_cycle(rt: &HostRuntime, net: &Net, marked: &mut MarkedSim<'_>, row: &str)
+fn show_cycle(rt: &HostRuntime, net: &Net, marked: &mut MarkedSim<'_>, row: &[u8])
     requires { marked.old.sim.net ≡ net.now }
     ensures { marked.new.sim.net ≡ marked.old.sim.net }
 {

@@ -14,7 +14,8 @@ fn show_fetched(rt: &HostRuntime, fetched: &Result<FileText, FetchError>) {
     }
 }
 
-fn size_of(digits: &[u8]) -> u32 {
+/// The number that the digits spell, below a million; 0 where they spell none.
+pub(crate) fn size_of(digits: &[u8]) -> u32 {
     match number_of(digits) {
         Some(number) => (number % 1_000_000) as u32,
         None => 0,
@@ -27,9 +28,12 @@ fn path_of(rt: &HostRuntime, bytes: &[u8]) -> Option<FilePath> {
     path.duplicate(rt.alloc()).ok()
 }
 
-/// Shows what the shelf gives for a word `w<n`.
+/// Shows what the shelf gives for a word `w<n`; nothing of another word.
 fn show_fetch<S: Shelf>(rt: &HostRuntime, shelf: &mut S, word: &[u8]) {
     let (name, limit) = split_at(b'<', word);
+    if limit.is_empty() {
+        return;
+    }
     match path_of(rt, name) {
         Some(path) => show_fetched(rt, &fetch(rt.alloc(), shelf, path.as_str(), size_of(limit))),
         None => show(rt, b" no-memory"),
@@ -43,9 +47,12 @@ fn has_put(rt: &HostRuntime, shelf: &mut MemShelf, path: &str, size: usize) -> b
     }
 }
 
-/// Puts the file of a word `w=n` on the shelf: n bytes.
+/// Puts the file of a word `w=n` on the shelf: n bytes; nothing of another word.
 fn put_file(rt: &HostRuntime, shelf: &mut MemShelf, word: &[u8]) {
     let (name, size) = split_at(b'=', word);
+    if size.is_empty() {
+        return;
+    }
     let is_put = match path_of(rt, name) {
         Some(path) => has_put(rt, shelf, path.as_str(), size_of(size) as usize),
         None => false,
@@ -83,11 +90,9 @@ pub(crate) fn show_shelf(rt: &HostRuntime, words: &[u8]) {
             if most > 0 {
                 shelf.set_most(most);
             }
-        } else if word.contains(&b'=') {
-            put_file(rt, &mut shelf, word);
-        } else if word.contains(&b'<') {
-            show_fetch(rt, &mut shelf, word);
         }
+        put_file(rt, &mut shelf, word);
+        show_fetch(rt, &mut shelf, word);
     }
 }
 
@@ -97,9 +102,7 @@ pub(crate) fn show_files(rt: &HostRuntime, words: &[u8]) {
     let mut rest = words;
     for _ in 0..words.len() {
         let (word, later) = split_at(b' ', rest);
-        if !word.is_empty() {
-            show_fetch(rt, &mut shelf, word);
-        }
+        show_fetch(rt, &mut shelf, word);
         rest = later;
     }
 }

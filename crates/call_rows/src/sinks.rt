@@ -1,15 +1,9 @@
 //! Sinks in memory.
 
-use row_text::{number_of, show, split_at};
+use crate::shelves::size_of;
+use row_text::{show, split_at};
 use sec_base::{MemSink, Sink};
 use std::rt::HostRuntime;
-
-fn small(digits: &[u8]) -> u32 {
-    match number_of(digits) {
-        Some(number) => (number % 1_000) as u32,
-        None => 0,
-    }
-}
 
 /// Shows what the sink takes, and whether it fails.
 fn show_written(rt: &HostRuntime, sink: &mut MemSink, piece: &[u8]) {
@@ -26,15 +20,15 @@ pub(crate) fn show_sink(rt: &HostRuntime, words: &[u8]) {
     let (room, words) = split_at(b' ', words);
     let (fail_at, words) = split_at(b' ', words);
     let (keep, piece) = split_at(b' ', words);
-    let fail_at = match small(fail_at) {
+    let fail_at = match size_of(fail_at) {
         0 => None,
         number => Some(number),
     };
     match MemSink::new(
         rt.alloc(),
-        small(room) as usize,
+        size_of(room) as usize,
         fail_at,
-        small(keep) as usize,
+        size_of(keep) as usize,
     ) {
         Ok(mut sink) => show_written(rt, &mut sink, piece),
         Err(_) => show(rt, b" no memory"),

@@ -3,11 +3,12 @@
 use row_text::{file_of, show, show_count};
 use sec_base::MAX_FILE_BYTES;
 use std::rt::HostRuntime;
+use std::str;
 use witness_report::{StimError, Stimulus, read_stimulus, reads_back, write_stimulus};
 
 /// Shows the stimulus as it is written, or its faulty line.
-pub(crate) fn show_stimulus(rt: &HostRuntime, path: &str) {
-    match file_of(rt, path) {
+pub(crate) fn show_stimulus(rt: &HostRuntime, path: &[u8]) {
+    match file_of(rt, str::from_utf8(path).unwrap_or("")) {
         Some(text) => show_text(rt, text.as_slice()),
         None => show(rt, b"lost\n"),
     }

@@ -1,7 +1,8 @@
 //! Tables of names and of pairs.
 
+use crate::circuits::show_counts;
 use base_tables::{NameTable, PlaceTable};
-use row_text::{show, show_count, show_word, split_at};
+use row_text::{show, show_count, show_number, show_word, split_at};
 use sec_base::{Duplicate, Ids, Orders, Words};
 use std::rt::HostRuntime;
 
@@ -82,12 +83,6 @@ pub(crate) fn show_names(rt: &HostRuntime, words: &[u8]) {
     show_copied(rt, &table);
 }
 
-fn show_ids(rt: &HostRuntime, ids: &Ids) {
-    for id in ids.as_slice() {
-        show_count(rt, u64::from(*id));
-    }
-}
-
 /// A copy of the first and the second numbers of the pairs.
 fn orders_of(rt: &HostRuntime, table: &PlaceTable) -> Option<Orders> {
     let mut left = Ids::new(rt.alloc());
@@ -105,16 +100,12 @@ fn show_lists(rt: &HostRuntime, table: &PlaceTable) {
     show(rt, b", copied");
     match orders_of(rt, table) {
         Some(copy) => {
-            show_ids(rt, &copy.left);
+            show_counts(rt, copy.left.as_slice());
             show(rt, b" and");
-            show_ids(rt, &copy.right);
+            show_counts(rt, copy.right.as_slice());
         }
         None => show(rt, b" no-memory"),
     }
-}
-
-fn digit_value(digit: u8) -> u32 {
-    u32::from(digit.saturating_sub(b'0'))
 }
 
 /// Shows the number of the pair of digits.
@@ -125,7 +116,9 @@ fn show_pair_number(rt: &HostRuntime, table: &mut PlaceTable, word: &[u8]) {
     if table.len() == u32::MAX {
         return show(rt, b" full");
     }
-    match table.intern(digit_value(*first), digit_value(*second)) {
+    let first = (*first).saturating_sub(b'0');
+    let second = (*second).saturating_sub(b'0');
+    match table.intern(u32::from(first), u32::from(second)) {
         Ok(number) => show_count(rt, u64::from(number)),
         Err(_) => show(rt, b" no-memory"),
     }
@@ -136,7 +129,7 @@ fn show_pairs(rt: &HostRuntime, table: &PlaceTable) {
     for number in 0..table.len() {
         let (first, second) = table.pair(number);
         show_count(rt, u64::from(first));
-        row_text::show_number(rt, u64::from(second));
+        show_number(rt, u64::from(second));
     }
 }
 

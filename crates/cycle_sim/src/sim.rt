@@ -118,9 +118,10 @@ fn powered_up(alloc: Global, latches: usize, power: &Power) -> Result<Vec<bool>,
     requires { FitsLatches latches power.now }
     ensures { IfOk result (λ bits. bits.items ≡ power_bits latches power.now) }
 {
-    match power {
-        Power::Zeros => Ok(vec![in alloc; false; latches]?),
-        Power::Ones => Ok(vec![in alloc; true; latches]?),
-        Power::Given(bits) => Ok(Vec::from_slice(alloc, bits.as_slice())?),
-    }
+    let made = match power {
+        Power::Zeros => vec![in alloc; false; latches],
+        Power::Ones => vec![in alloc; true; latches],
+        Power::Given(bits) => Vec::from_slice(alloc, bits.as_slice()),
+    };
+    Ok(made?)
 }

@@ -6,12 +6,9 @@ use std::alloc::Global;
 
 /// The parts of the bytes before and behind the first such byte; all and none where there is none.
 pub fn split_at(mark: u8, bytes: &[u8]) -> (&[u8], &[u8]) {
-    for (place, byte) in bytes.iter().enumerate() {
-        if *byte == mark {
-            return (
-                bytes.get(..place).unwrap_or(&[]),
-                bytes.get(place.saturating_add(1)..).unwrap_or(&[]),
-            );
+    for place in 0..bytes.len() {
+        if bytes[place] == mark {
+            return (&bytes[..place], &bytes[place + 1..]);
         }
     }
     (bytes, &[])

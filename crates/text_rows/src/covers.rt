@@ -2,7 +2,7 @@
 
 ghost use Rattle.std.specs.Prelude.{◌≡◌, ◌≤◌, length, vec_len, IfOk};
 
-use blif_read::{BlifModel, Design, Statement, read_design};
+use blif_read::{BlifModel, Design, Statement};
 use row_text::{show, show_bit};
 use sec_base::{Cover, NoMemory};
 use std::alloc::Global;
@@ -68,18 +68,9 @@ fn show_model(rt: &HostRuntime, model: &BlifModel) {
     }
 }
 
-fn show_design(rt: &HostRuntime, design: &Design) {
+/// Shows the values of each cover of the design, over all bits of its fan-ins, of which the first counts most.
+pub(crate) fn show_covers(rt: &HostRuntime, design: &Design) {
     for model in design.models.as_slice() {
         show_model(rt, model);
-    }
-}
-
-/// Shows the values of each cover of the text, over all bits of its fan-ins, of which the first counts most.
-pub(crate) fn show_covers(rt: &HostRuntime, text: &[u8])
-    requires { length text.now ≤ 16777216 }
-{
-    match read_design(rt.alloc(), text) {
-        Ok(design) => show_design(rt, &design),
-        Err(_) => show(rt, b" no design"),
     }
 }

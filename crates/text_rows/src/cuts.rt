@@ -2,20 +2,15 @@
 
 ghost use Rattle.std.specs.Prelude.{◌<◌, length};
 
-use crate::nets::{flattened, show_net};
+use crate::faults::show_fault;
+use crate::nets::show_net;
 use blif_read::Design;
 use flat_net::Net;
+use flatten::flatten;
 use row_text::{show, show_bit, show_count};
 use sec_base::{Ids, NoMemory};
 use std::alloc::Global;
 use std::rt::HostRuntime;
-
-fn show_place(rt: &HostRuntime, place: Option<u32>) {
-    match place {
-        Some(place) => show_count(rt, u64::from(place)),
-        None => show(rt, b" none"),
-    }
-}
 
 /// Shows the place at which each latch is found by its name.
 fn show_places(rt: &HostRuntime, net: &Net) {
@@ -23,7 +18,10 @@ fn show_places(rt: &HostRuntime, net: &Net) {
         show(rt, b" named");
     }
     for latch in net.latches() {
-        show_place(rt, net.latch_named(latch.name.as_slice()));
+        match net.latch_named(latch.name.as_slice()) {
+            Some(place) => show_count(rt, u64::from(place)),
+            None => show(rt, b" none"),
+        }
     }
 }
 
@@ -67,34 +65,30 @@ fn show_reads(rt: &HostRuntime, net: &Net) {
     }
 }
 
-fn show_rest(rt: &HostRuntime, rest: &Net) {
-    show(rt, b", cut");
-    show_net(rt, rest);
-    show_reads(rt, rest);
-}
-
 /// Shows the net without its first latch, and for each of its inputs whether it is read.
 fn show_without_first(rt: &HostRuntime, net: &Net) {
     if net.latches().is_empty() {
         return;
     }
     match cut_first(rt.alloc(), net) {
-        Ok(rest) => show_rest(rt, &rest),
+        Ok(rest) => {
+            show(rt, b", cut");
+            show_net(rt, &rest);
+            show_reads(rt, &rest);
+        }
         Err(_) => show(rt, b" no memory"),
     }
 }
 
-/// Shows the net, what is found in it, and the net without its first latch.
-fn show_cut(rt: &HostRuntime, net: &Net) {
-    show_net(rt, net);
-    show_places(rt, net);
-    show_values(rt, net);
-    show_without_first(rt, net);
-}
-
 /// Shows the design's net, what is found in it, and the net without its first latch.
 pub(crate) fn show_cuts(rt: &HostRuntime, design: &Design) {
-    if let Some(net) = flattened(rt, design) {
-        show_cut(rt, &net);
+    match flatten(rt.alloc(), design) {
+        Ok(net) => {
+            show_net(rt, &net);
+            show_places(rt, &net);
+            show_values(rt, &net);
+            show_without_first(rt, &net);
+        }
+        Err(error) => show_fault(rt, &error),
     }
 }

@@ -15,21 +15,17 @@ fn hex_digit(value: u8) -> u8 {
     }
 }
 
-fn show_marked_byte(rt: &HostRuntime, byte: u8) {
-    if byte < 32 || 127 <= byte || byte == b'<' || byte == b'>' {
-        show(
-            rt,
-            &[b'<', hex_digit(byte / 16), hex_digit(byte % 16), b'>'],
-        );
-    } else {
-        show_byte(rt, byte);
-    }
-}
-
 /// Shows the bytes, with marks for those that can't be seen.
 pub(crate) fn show_marked(rt: &HostRuntime, bytes: &[u8]) {
     for byte in bytes {
-        show_marked_byte(rt, *byte);
+        if *byte < 32 || 127 <= *byte || *byte == b'<' || *byte == b'>' {
+            show(
+                rt,
+                &[b'<', hex_digit(*byte / 16), hex_digit(*byte % 16), b'>'],
+            );
+        } else {
+            show_byte(rt, *byte);
+        }
     }
 }
 
@@ -51,32 +47,27 @@ fn show_names(rt: &HostRuntime, names: &Words) {
     }
 }
 
-/// The word of an initial value.
-fn word_of_init(init: Init) -> &'static [u8] {
+fn show_init(rt: &HostRuntime, init: Init) {
     match init {
-        Init::Zero => b"zero",
-        Init::One => b"one",
-        Init::DontCare => b"either",
-        Init::Unknown => b"unknown",
+        Init::Zero => show(rt, b" zero"),
+        Init::One => show(rt, b" one"),
+        Init::DontCare => show(rt, b" either"),
+        Init::Unknown => show(rt, b" unknown"),
     }
-}
-
-fn word_of_edge(edge: Edge) -> &'static [u8] {
-    match edge {
-        Edge::Rising => b"rising",
-        Edge::Falling => b"falling",
-    }
-}
-
-fn show_row(rt: &HostRuntime, row: &[u8]) {
-    show_word(rt, if row.is_empty() { b"-" } else { row });
 }
 
 fn show_cover(rt: &HostRuntime, cover: &Cover) {
     show_count(rt, u64::from(cover.width()));
     show_word(rt, if cover.on() { b"on" } else { b"off" });
     for row in cover.rows() {
-        show_row(rt, row.as_slice());
+        show_word(
+            rt,
+            if row.as_slice().is_empty() {
+                b"-"
+            } else {
+                row.as_slice()
+            },
+        );
     }
 }
 
@@ -88,28 +79,20 @@ fn show_gate(rt: &HostRuntime, line: u32, fanins: &Words, out: &Word, cover: &Co
 }
 
 fn show_edge(rt: &HostRuntime, edge: Option<Edge>) {
-    if let Some(edge) = edge {
-        show_word(rt, word_of_edge(edge));
+    match edge {
+        Some(Edge::Rising) => show(rt, b" rising"),
+        Some(Edge::Falling) => show(rt, b" falling"),
+        None => {}
     }
-}
-
-fn show_control(rt: &HostRuntime, control: Option<&Word>) {
-    if let Some(control) = control {
-        show_name(rt, control.as_slice());
-    }
-}
-
-fn show_pair(rt: &HostRuntime, pair: &Pair) {
-    show_name(rt, pair.formal.as_slice());
-    show(rt, b" =");
-    show_name(rt, pair.actual.as_slice());
 }
 
 fn show_instance(rt: &HostRuntime, line: u32, model: &Word, pairs: &[Pair]) {
     show_at(rt, b"subckt@", u64::from(line));
     show_name(rt, model.as_slice());
     for pair in pairs {
-        show_pair(rt, pair);
+        show_name(rt, pair.formal.as_slice());
+        show(rt, b" =");
+        show_name(rt, pair.actual.as_slice());
     }
 }
 
@@ -137,8 +120,10 @@ fn show_statement(rt: &HostRuntime, statement: &Statement) {
         } => {
             show_latch_names(rt, *line, input, output);
             show_edge(rt, *edge);
-            show_control(rt, control.as_ref());
-            show_word(rt, word_of_init(*init));
+            if let Some(control) = control {
+                show_name(rt, control.as_slice());
+            }
+            show_init(rt, *init);
         }
         Statement::Subckt { line, model, pairs } => {
             show_instance(rt, *line, model, pairs.as_slice())
@@ -187,19 +172,15 @@ fn word_of_kind(kind: &ReadKind) -> &'static [u8] {
     }
 }
 
-fn show_kind(rt: &HostRuntime, kind: &ReadKind) {
-    show_word(rt, word_of_kind(kind));
-    if let ReadKind::Unsupported(word) = kind {
-        show_name(rt, word.as_slice());
-    }
-}
-
 fn show_error(rt: &HostRuntime, error: &ReadError) {
     match error {
         ReadError::NoMemory => show(rt, b" no-memory"),
         ReadError::At { line, kind } => {
             show_count(rt, u64::from(*line));
-            show_kind(rt, kind);
+            show_word(rt, word_of_kind(kind));
+            if let ReadKind::Unsupported(word) = kind {
+                show_name(rt, word.as_slice());
+            }
         }
     }
 }

@@ -2,7 +2,7 @@
 
 use crate::faults::{show_fault, show_named, show_short};
 use blif_read::Design;
-use flat_net::{Gate, Net, Port};
+use flat_net::{Net, Port};
 use flatten::flatten;
 use row_text::show;
 use std::rt::HostRuntime;
@@ -19,12 +19,6 @@ fn show_latches(rt: &HostRuntime, net: &Net) {
     }
 }
 
-fn show_gate(rt: &HostRuntime, net: &Net, gate: &Gate) {
-    if gate.out.0 < net.size() {
-        show_named(rt, b"gate", net.name(gate.out));
-    }
-}
-
 /// Shows the net: its inputs, outputs, latches, gates and clock by their names.
 pub(crate) fn show_net(rt: &HostRuntime, net: &Net) {
     show(rt, b" in");
@@ -33,27 +27,19 @@ pub(crate) fn show_net(rt: &HostRuntime, net: &Net) {
     show_ports(rt, net.outputs());
     show_latches(rt, net);
     for gate in net.gates() {
-        show_gate(rt, net, gate);
+        if gate.out.0 < net.size() {
+            show_named(rt, b"gate", net.name(gate.out));
+        }
     }
     if let Some(clock) = net.clock() {
         show_named(rt, b"clock", clock);
     }
 }
 
-/// The design's net; where it has none, the fault is shown.
-pub(crate) fn flattened(rt: &HostRuntime, design: &Design) -> Option<Net> {
-    match flatten(rt.alloc(), design) {
-        Ok(net) => Some(net),
-        Err(error) => {
-            show_fault(rt, &error);
-            None
-        }
-    }
-}
-
 /// Shows the design's net, or its fault.
 pub(crate) fn show_flattened(rt: &HostRuntime, design: &Design) {
-    if let Some(net) = flattened(rt, design) {
-        show_net(rt, &net);
+    match flatten(rt.alloc(), design) {
+        Ok(net) => show_net(rt, &net),
+        Err(error) => show_fault(rt, &error),
     }
 }

@@ -7,16 +7,12 @@ use elaborate::{Flat, FlatKind, FlatStatement, walk};
 use row_text::show;
 use std::rt::HostRuntime;
 
-fn word_of(kind: &FlatKind) -> &'static [u8] {
-    match kind {
-        FlatKind::Gate { .. } => b"g ",
-        FlatKind::Latch { .. } => b"l ",
-        FlatKind::Port => b"p ",
-    }
-}
-
 fn show_statement(rt: &HostRuntime, flat: &Flat, statement: &FlatStatement) {
-    show(rt, word_of(&statement.kind));
+    match &statement.kind {
+        FlatKind::Gate { .. } => show(rt, b"g "),
+        FlatKind::Latch { .. } => show(rt, b"l "),
+        FlatKind::Port => show(rt, b"p "),
+    }
     if statement.out < flat.names.len() {
         show(rt, flat.name(statement.out));
     }
@@ -30,21 +26,11 @@ fn show_statements(rt: &HostRuntime, flat: &Flat) {
     }
 }
 
-/// The flat statements of the design; where the walk has a fault, it is shown.
-fn walked(rt: &HostRuntime, design: &Design) -> Option<Flat> {
-    match walk(rt.alloc(), design) {
-        Ok(flat) => Some(flat),
-        Err(error) => {
-            show_fault(rt, &error);
-            None
-        }
-    }
-}
-
 /// Shows the signals that the flat statements drive, or the walk's fault.
 pub(crate) fn show_walk(rt: &HostRuntime, design: &Design) {
-    if let Some(flat) = walked(rt, design) {
-        show_statements(rt, &flat);
+    match walk(rt.alloc(), design) {
+        Ok(flat) => show_statements(rt, &flat),
+        Err(error) => show_fault(rt, &error),
     }
 }
 
@@ -58,7 +44,8 @@ fn show_wire_fault(rt: &HostRuntime, flat: &Flat) {
 
 /// Shows the fault of drivers and clocks, or the walk's.
 pub(crate) fn show_wires(rt: &HostRuntime, design: &Design) {
-    if let Some(flat) = walked(rt, design) {
-        show_wire_fault(rt, &flat);
+    match walk(rt.alloc(), design) {
+        Ok(flat) => show_wire_fault(rt, &flat),
+        Err(error) => show_fault(rt, &error),
     }
 }

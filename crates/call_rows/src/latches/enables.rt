@@ -4,7 +4,7 @@ ghost use Rattle.std.specs.Prelude.{◌<◌, ◌≤◌, length};
 
 use crate::latches::nets::net_of;
 use flat_net::Net;
-use latch_kinds::unate_enable::{LatchCone, RecoverError, Recovery, cone, recover};
+use latch_kinds::unate_enable::{RecoverError, Recovery, cone, recover};
 use row_text::{show, show_count, show_word};
 use sec_base::{Bits, Ids, MAX_CONFLICTS};
 use std::rt::HostRuntime;
@@ -49,12 +49,6 @@ fn show_others(rt: &HostRuntime, net: &Net, latches: &Ids) {
     }
 }
 
-/// Shows the names of the inputs and of the other latches of the cone.
-fn show_found(rt: &HostRuntime, net: &Net, found: &LatchCone) {
-    show_inputs(rt, net, &found.inputs);
-    show_others(rt, net, &found.latches);
-}
-
 /// Shows the name of the latch.
 fn show_name(rt: &HostRuntime, net: &Net, latch: u32)
     requires { latch < length net.now.latches }
@@ -68,7 +62,10 @@ fn show_cone(rt: &HostRuntime, net: &Net, latch: u32)
 {
     show_name(rt, net, latch);
     match cone(rt.alloc(), net, latch) {
-        Ok(found) => show_found(rt, net, &found),
+        Ok(found) => {
+            show_inputs(rt, net, &found.inputs);
+            show_others(rt, net, &found.latches);
+        }
         Err(_) => show(rt, b" no memory"),
     }
     show(rt, b"\n");
@@ -88,21 +85,15 @@ fn show_enable(rt: &HostRuntime, net: &Net, latch: u32, conflicts: u32)
 
 fn show_answer(rt: &HostRuntime, answer: &Result<Recovery, RecoverError>) {
     match answer {
-        Ok(recovery) => show_recovery(rt, recovery),
-        Err(RecoverError::TooLarge) => show(rt, b" too large"),
-        Err(RecoverError::NoMemory) => show(rt, b" no memory"),
-    }
-}
-
-fn show_recovery(rt: &HostRuntime, recovery: &Recovery) {
-    match recovery {
-        Recovery::Plain => show(rt, b" plain"),
-        Recovery::Enabled => show(rt, b" enabled"),
-        Recovery::NotUnate(bits) => show_bits(rt, bits),
-        Recovery::Limit(proof) => {
+        Ok(Recovery::Plain) => show(rt, b" plain"),
+        Ok(Recovery::Enabled) => show(rt, b" enabled"),
+        Ok(Recovery::NotUnate(bits)) => show_bits(rt, bits),
+        Ok(Recovery::Limit(proof)) => {
             show(rt, b" limit with chains");
             show_count(rt, proof.log.len() as u64);
         }
+        Err(RecoverError::TooLarge) => show(rt, b" too large"),
+        Err(RecoverError::NoMemory) => show(rt, b" no memory"),
     }
 }
 

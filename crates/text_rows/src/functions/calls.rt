@@ -11,72 +11,26 @@ use aig::{Aig, Lit, Node};
 use row_text::{show, show_count, show_number};
 use std::alloc::{AllocError, Global};
 use std::rt::HostRuntime;
-
-/// What a row calls.
-#[derive(Clone, Copy)]
-enum Asked {
-    Literals,
-    Size,
-    Cone,
-    Value,
-    Table,
-    Signatures,
-    AndBlock,
-    Encode,
-    Decide,
-    Sweep,
-    Cases,
-}
-
-/// The name of each call.
-const NAMES: [(&[u8], Asked); 11] = [
-    (b"literals", Asked::Literals),
-    (b"size", Asked::Size),
-    (b"cone", Asked::Cone),
-    (b"value", Asked::Value),
-    (b"table_differs", Asked::Table),
-    (b"signatures", Asked::Signatures),
-    (b"and_block", Asked::AndBlock),
-    (b"encode", Asked::Encode),
-    (b"decide", Asked::Decide),
-    (b"sweep", Asked::Sweep),
-    (b"agree_by_cases", Asked::Cases),
-];
-
-/// The call of this name.
-fn asked_of(name: &[u8]) -> Option<Asked> {
-    for (spelled, asked) in NAMES {
-        if name == spelled {
-            return Some(asked);
-        }
-    }
-    None
-}
+use std::str;
 
 /// Shows the answer of the call that the words spell. False where they spell none on this graph.
 pub(crate) fn show_call(rt: &HostRuntime, sketch: &Sketch, words: &[&[u8]]) -> bool {
     let [name, given @ ..] = words else {
         return false;
     };
-    match asked_of(name) {
-        Some(asked) => show_asked(rt, sketch, asked, given),
-        None => false,
-    }
-}
-
-fn show_asked(rt: &HostRuntime, sketch: &Sketch, asked: Asked, given: &[&[u8]]) -> bool {
-    match asked {
-        Asked::Literals => show_literals(rt, sketch),
-        Asked::Size => show_size(rt, &sketch.graph),
-        Asked::Cone => show_cone(rt, sketch, given),
-        Asked::Value => show_value(rt, sketch, given),
-        Asked::Table => show_table(rt, sketch, given),
-        Asked::Signatures => show_signatures(rt, &sketch.graph, given),
-        Asked::AndBlock => show_and_block(rt, given),
-        Asked::Encode => show_clauses(rt, sketch, given),
-        Asked::Decide => show_decision(rt, sketch, given),
-        Asked::Sweep => show_swept(rt, sketch, given),
-        Asked::Cases => show_cases(rt, sketch, given),
+    match str::from_utf8(name).unwrap_or("") {
+        "literals" => show_literals(rt, sketch),
+        "size" => show_size(rt, &sketch.graph),
+        "cone" => show_cone(rt, sketch, given),
+        "value" => show_value(rt, sketch, given),
+        "table_differs" => show_table(rt, sketch, given),
+        "signatures" => show_signatures(rt, &sketch.graph, given),
+        "and_block" => show_and_block(rt, given),
+        "encode" => show_clauses(rt, sketch, given),
+        "decide" => show_decision(rt, sketch, given),
+        "sweep" => show_swept(rt, sketch, given),
+        "agree_by_cases" => show_cases(rt, sketch, given),
+        _ => false,
     }
 }
 

@@ -19,13 +19,6 @@ pub(crate) struct Sketch {
 }
 
 impl Sketch {
-    /// The graph of the constant.
-    fn new(alloc: Global) -> Result<Sketch, NoMemory> {
-        let graph = Aig::new(alloc)?;
-        let made = Vec::new(alloc);
-        Ok(Sketch { graph, made })
-    }
-
     /// The literal that a word names: a number, or `@k` for what definition k gave; with `~` before it, the complement.
     /// None where the graph has no such literal.
     pub(crate) fn literal(&self, word: &[u8]) -> Option<Lit>
@@ -90,12 +83,15 @@ impl Sketch {
 
     /// The and or the or that a word spells.
     fn gate(&mut self, word: &[u8]) -> Option<Lit> {
-        let at = word.iter().position(|byte| *byte == b'&' || *byte == b'|')?;
-        let l = self.literal(&word[..at])?;
-        let r = self.literal(&word[at + 1..])?;
-        if word[at] == b'&' {
+        let (first, second) = split_at(b'&', word);
+        if !second.is_empty() {
+            let l = self.literal(first)?;
+            let r = self.literal(second)?;
             return self.and_of(l, r);
         }
+        let (first, second) = split_at(b'|', word);
+        let l = self.literal(first)?;
+        let r = self.literal(second)?;
         let neither = self.and_of(Aig::not(l), Aig::not(r))?;
         Some(Aig::not(neither))
     }
@@ -150,7 +146,10 @@ impl Sketch {
 
 /// The graph of the definitions, or None where one isn't of its graph.
 pub(crate) fn sketched(alloc: Global, definitions: &[u8]) -> Option<Sketch> {
-    let mut sketch = Sketch::new(alloc).ok()?;
+    let mut sketch = Sketch {
+        graph: Aig::new(alloc).ok()?,
+        made: Vec::new(alloc),
+    };
     let mut rest = definitions;
     for _ in 0..definitions.len() {
         let (word, later) = split_at(b' ', rest);

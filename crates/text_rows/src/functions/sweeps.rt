@@ -1,6 +1,6 @@
 //! Calls of the sweep, and of agreement by cases.
 
-ghost use Rattle.std.specs.Prelude.{◌≡◌, ◌*◌, ◌<◌, length, All};
+ghost use Rattle.std.specs.Prelude.{◌≡◌, ◌*◌, ◌<◌, length};
 
 use crate::functions::calls::literal_at;
 use crate::functions::decisions::conflicts_at;
@@ -26,15 +26,6 @@ fn fill(words: &mut [u64])
     }
 }
 
-/// The sweep with 512 assignments that a generator gives.
-fn sweep_of(alloc: Global, graph: &Aig, roots: &Lits, conflicts: u32) -> Result<Swept, NoMemory>
-    requires { All (λ l. l.0 < 2 * length graph.now) roots.now }
-{
-    let mut words = vec![in alloc; 0; 8 * (graph.vars() as usize)]?;
-    fill(words.as_mut_slice());
-    sweep(alloc, graph, roots, conflicts, words.as_slice())
-}
-
 fn show_merged(rt: &HostRuntime, swept: &Swept) {
     let lits = swept.lits.as_slice();
     if lits.first() == lits.get(1) {
@@ -44,6 +35,7 @@ fn show_merged(rt: &HostRuntime, swept: &Swept) {
     }
 }
 
+/// The sweep of both with 512 assignments that a generator gives.
 fn sweep_both(
     alloc: Global,
     graph: &Aig,
@@ -57,7 +49,9 @@ fn sweep_both(
     let mut roots = Lits::new(alloc);
     roots.push(left)?;
     roots.push(right)?;
-    sweep_of(alloc, graph, &roots, conflicts)
+    let mut words = vec![in alloc; 0; 8 * (graph.vars() as usize)]?;
+    fill(words.as_mut_slice());
+    sweep(alloc, graph, &roots, conflicts, words.as_slice())
 }
 
 /// Shows whether a sweep with at most so many conflicts as the third word says gives both sides one literal.

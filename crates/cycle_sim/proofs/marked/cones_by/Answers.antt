@@ -1,6 +1,6 @@
 -- One latch more has the parts of its cone.
 use Rattle.std.proofs.Common.{◌≡◌, ◌∙◌, ℕ, true, false, List, [], ◌∷◌, ◌++◌, length, get_or, slice_get, Some, ap, subst, arith, length-append, inl, inr, ◌⊎◌}
-use Rattle.std.proofs.lemmas.Option.{get_or_from_slice_get}
+use Rattle.std.proofs.lemmas.Option.{get_or_from_slice_get, slice_get_within}
 use Rattle.flat_net.specs.declared.parts.LatchAt.{LatchAt}
 use Rattle.flat_net.proofs.Growth.{slice_get-push_cases}
 use Rattle.inner_cone.specs.declared.parts.InnerParts.{InnerParts}
@@ -10,6 +10,14 @@ use Rattle.cycle_sim.proofs.marked.cones_by.Goals as goal
 
 pub overflow_cast-j : goal.overflow_cast-j
 overflow_cast-j c = let s = c.keeps.ensures.sound in omega (arith, c.loop-j-test.true, c.requires.enabled, s.few_latches, s.few)
+
+pub loop-j-init : goal.loop-j-init
+loop-j-init c =
+    let size = ap length c.in_ok-cones.ensures.items in record {
+      each = size;
+      sides = λ k m cone at bit there. absurd (omega (arith, size, slice_get_within c.in_ok-cones.cones.items k cone there));
+      gates = λ k m cone at bit there. absurd (omega (arith, size, slice_get_within c.in_ok-cones.cones.items k cone there));
+    }
 
 pub loop-j-preserved : goal.loop-j-preserved
 loop-j-preserved c =

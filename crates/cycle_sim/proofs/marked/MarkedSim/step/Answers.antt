@@ -8,6 +8,21 @@ use Rattle.cycle_sim.specs.Steps.{HasValues, AreMarksAhead, AreMarks, AreConesKe
 use Rattle.cycle_sim.proofs.MarkedRuns.{steps_marked}
 use Rattle.cycle_sim.proofs.marked.MarkedSim.step.Goals as goal
 
+pub mark_ahead-requires-clause-enabled : goal.mark_ahead-requires-clause-enabled
+mark_ahead-requires-clause-enabled c = ap length c.as_slice.ensures ∙ c.self.invariant.1
+
+pub mark_ahead-requires-clause-marks : goal.mark_ahead-requires-clause-marks
+mark_ahead-requires-clause-marks c =
+    let m = c.self.inside in
+    let marks_len : length c.mark.new.marks ≡ m.marks.len = omega (arith, c.mark.ensures.size, c.deref_mut.ensures.len) in
+    ap length (c.deref-3.ensures.value ∙ with_items_is m.marks c.mark.new.marks marks_len) ∙ (marks_len ∙ (m.marks.ok.0 ∙ c.self.invariant.4))
+
+pub mark_ahead-requires-clause-tried : goal.mark_ahead-requires-clause-tried
+mark_ahead-requires-clause-tried c = c.deref_mut-2.ensures.len ∙ (c.self.inside.tried.ok.0 ∙ c.self.invariant.3)
+
+pub mark_ahead-requires-clause-latches : goal.mark_ahead-requires-clause-latches
+mark_ahead-requires-clause-latches c = c.deref_mut-3.ensures.len ∙ (c.self.inside.marks_ahead.ok.0 ∙ c.self.invariant.5)
+
 pub mark_ahead-requires-clause-cones : goal.mark_ahead-requires-clause-cones
 mark_ahead-requires-clause-cones c =
     subst (λ (bits : List Bool). AreConesKept c.self.inside.net.now bits c.deref-2.result.now) (sym c.as_slice.ensures)

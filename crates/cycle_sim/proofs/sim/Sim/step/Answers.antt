@@ -7,6 +7,15 @@ use Rattle.cycle_sim.specs.View.{SimView}
 use Rattle.cycle_sim.proofs.Runs.{steps}
 use Rattle.cycle_sim.proofs.sim.Sim.step.Goals as goal
 
+pub invariant_of-self : goal.invariant_of-self
+invariant_of-self c =
+    let s = c.self.inside in
+    let values_len : length c.compute.new.values ≡ s.values.len = omega (arith, c.compute.ensures.size, c.deref_mut.ensures.len) in
+    let ahead_len : length c.take_over.new.latches ≡ s.ahead.len = omega (arith, c.take_over.auto.latches, c.deref_mut-2.ensures.len) in (
+      omega (arith, ap length (with_items_is s.values c.compute.new.values values_len), c.compute.ensures.size, ap length c.deref_mut.ensures.value, c.self.invariant.0),
+      omega (arith, ap length (with_items_is s.ahead c.take_over.new.latches ahead_len), c.take_over.auto.latches, ap length c.deref_mut-2.ensures.value, c.self.invariant.1),
+    )
+
 pub returns-clause-run : goal.returns-clause-run
 returns-clause-run c =
     let s = c.self.inside in

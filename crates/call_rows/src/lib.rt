@@ -1,4 +1,4 @@
-//! Makes single calls of the crates below the jobs, and prints what comes of them. Each file has rows of one kind. Of the base's tables,
+//! Makes single calls of the crates below the jobs, and shows what comes of them. Each file has rows of one kind. Of the base's tables,
 //! lists, shelves and sinks a row is a name, a tab and words.
 //!
 //! `names`: `+w` adds the name w, `=w` numbers it, `?w` looks it up; behind stand the names in their order.
@@ -107,17 +107,18 @@ fn show_file(rt: &HostRuntime, asked: Asked, path: &str) {
     }
 }
 
-fn main(rt: HostRuntime) {
-    show_file(&rt, Asked::Names, "names");
-    show_file(&rt, Asked::Places, "places");
-    show_file(&rt, Asked::Shelves, "shelves");
-    show_file(&rt, Asked::Sinks, "sinks");
-    show_file(&rt, Asked::Files, "files");
-    show_file(&rt, Asked::Cells, "cells");
-    show_file(&rt, Asked::Clauses, "clauses");
-    show_file(&rt, Asked::Calls, "calls");
-    show_file(&rt, Asked::Enables, "enables");
-    show_file(&rt, Asked::Blocks, "blocks");
-    show_file(&rt, Asked::Classes, "classes");
-    show_file(&rt, Asked::Limited, "limited");
+/// Shows what the rows of each file tell.
+pub fn show_rows(rt: &HostRuntime) {
+    show_file(rt, Asked::Names, "names");
+    show_file(rt, Asked::Places, "places");
+    show_file(rt, Asked::Shelves, "shelves");
+    show_file(rt, Asked::Sinks, "sinks");
+    show_file(rt, Asked::Files, "files");
+    show_file(rt, Asked::Cells, "cells");
+    show_file(rt, Asked::Clauses, "clauses");
+    show_file(rt, Asked::Calls, "calls");
+    show_file(rt, Asked::Enables, "enables");
+    show_file(rt, Asked::Blocks, "blocks");
+    show_file(rt, Asked::Classes, "classes");
+    show_file(rt, Asked::Limited, "limited");
 }

@@ -1,4 +1,4 @@
-//! Prints what the rows of nine files tell of texts of circuits, and of functions. A row of a text is a name, a tab and a text, with marks for what a row can't hold
+//! Shows what the rows of nine files tell of texts of circuits, and of functions. A row of a text is a name, a tab and a text, with marks for what a row can't hold
 //! as it is (`row_text::text_of`).
 //!
 //! Of what a text spells: the lines and tokens of each text of `lines`, what each text of `designs` spells in BLIF, or its fault, the
@@ -27,7 +27,7 @@ mod walks;
 ghost use Rattle.std.specs.Prelude.{◌≤◌, length};
 
 use aiger_files::show_text;
-use blif_read::{Design, read_design};
+use blif_read::read_design;
 use covers::show_covers;
 use cuts::show_cuts;
 use designs::show_design;
@@ -53,20 +53,18 @@ enum Asked {
     Function,
 }
 
-fn show_asked(rt: &HostRuntime, asked: Asked, design: &Design) {
-    match asked {
-        Asked::Walk => show_walk(rt, design),
-        Asked::Wires => show_wires(rt, design),
-        Asked::Net => show_flattened(rt, design),
-        _ => show_cuts(rt, design),
-    }
-}
-
+/// Shows what is asked of a design that the text spells.
 fn show_read(rt: &HostRuntime, asked: Asked, text: &[u8])
     requires { length text.now ≤ 16777216 }
 {
     match read_design(rt.alloc(), text) {
-        Ok(design) => show_asked(rt, asked, &design),
+        Ok(design) => match asked {
+            Asked::Covers => show_covers(rt, &design),
+            Asked::Walk => show_walk(rt, &design),
+            Asked::Wires => show_wires(rt, &design),
+            Asked::Net => show_flattened(rt, &design),
+            _ => show_cuts(rt, &design),
+        },
         Err(_) => show(rt, b" no design"),
     }
 }
@@ -78,7 +76,6 @@ fn show_told(rt: &HostRuntime, asked: Asked, text: &[u8]) {
     match asked {
         Asked::Lines => show_lines(rt, text),
         Asked::Design => show_design(rt, text),
-        Asked::Covers => show_covers(rt, text),
         Asked::Aiger => show_text(rt, text),
         _ => show_read(rt, asked, text),
     }
@@ -111,17 +108,18 @@ fn show_file(rt: &HostRuntime, asked: Asked, path: &str, long: &[u8]) {
     }
 }
 
-fn main(rt: HostRuntime) {
+/// Shows what the rows of each file tell, and behind those of designs a net that is made by hand.
+pub fn show_rows(rt: &HostRuntime) {
     let text = [b'n'; 4_096];
-    show_file(&rt, Asked::Lines, "lines", &text);
-    show_file(&rt, Asked::Design, "designs", &text);
-    show_file(&rt, Asked::Covers, "covers", &text);
-    show_file(&rt, Asked::Aiger, "aiger", &text);
+    show_file(rt, Asked::Lines, "lines", &text);
+    show_file(rt, Asked::Design, "designs", &text);
+    show_file(rt, Asked::Covers, "covers", &text);
+    show_file(rt, Asked::Aiger, "aiger", &text);
     let part = [b'x'; 4_093];
-    show_file(&rt, Asked::Walk, "walks", &part);
-    show_file(&rt, Asked::Wires, "wires", &part);
-    show_file(&rt, Asked::Net, "nets", &part);
-    show_file(&rt, Asked::Cut, "cuts", &part);
-    show_made(&rt);
-    show_file(&rt, Asked::Function, "functions", &part);
+    show_file(rt, Asked::Walk, "walks", &part);
+    show_file(rt, Asked::Wires, "wires", &part);
+    show_file(rt, Asked::Net, "nets", &part);
+    show_file(rt, Asked::Cut, "cuts", &part);
+    show_made(rt);
+    show_file(rt, Asked::Function, "functions", &part);
 }
