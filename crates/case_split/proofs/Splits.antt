@@ -1,11 +1,11 @@
 -- A literal pair that is split into the cases of a variable.
-use Rattle.std.proofs.Common.{◌≡◌, ℕ, Bool, true, false, List, [], ◌∷◌, ◌++◌, Option, Some, Result, Ok, Err, refl, sym, ◌∙◌, subst}
-use Rattle.std.specs.Prelude.{IfOk, IfSome}
+use Rattle.std.proofs.Common.{◌≡◌, ℕ, Bool, true, false, List, [], ◌∷◌, ◌++◌, Some, Result, Ok, Err, refl, sym, ◌∙◌, subst}
+use Rattle.std.specs.Prelude.{IfOk}
 use Rattle.std.proofs.lemmas.List.Elements.{All-pop, All-push}
 use Rattle.aig.specs.declared.node.Node.{Node}
 use Rattle.aig.specs.Values.{value}
 use Rattle.case_split.specs.declared.case.Case.{Case}
-use Rattle.case_split.specs.Under.{AgreeIn, IsCaseOf, AllAgree, IsSplitOf, AreBoth}
+use Rattle.case_split.specs.Under.{AgreeIn, IsCaseOf, AllAgree, IsSplitOf, IsPutBehind}
 
 -- what agrees in both cases of a variable agrees
 pub both-cases : (g : List Node) (x y v : ℕ) (low high : Case) → IsCaseOf g x y v false low → IsCaseOf g x y v true high
@@ -17,15 +17,12 @@ both-cases g x y v low high is-low is-high first second a = go (a v) refl
     go true e = sym (is-high.left.same a e) ∙ second a ∙ is-high.right.same a e
 
 -- what both cases tell, which stand behind the rest
-pub split-both : (g : List Node) (x y v : ℕ) (low high : Option Case) → IfSome low (IsCaseOf g x y v false) → IfSome high (IsCaseOf g x y v true)
-    → (old new : List Case) → AreBoth low high old new → IsSplitOf g x y old new
-split-both g x y v low high is-low is-high old new both all =
+pub split-both : (g : List Node) (x y v : ℕ) (old between new : List Case) → IsPutBehind g x y v false old between → IsPutBehind g x y v true between new → IsSplitOf g x y old new
+split-both g x y v old between new low high all =
     let agree : Case → Type 0 = λ c. AgreeIn c.graph c.left.0 c.right.0 in
-    let (before, second) = All-pop agree new (old ++ both.first ∷ []) (Some both.second) both.behind all in
-    let (rest, first) = All-pop agree (old ++ both.first ∷ []) old (Some both.first) refl before in
-    let one : IsCaseOf g x y v false both.first = subst (λ (o : Option Case). IfSome o (IsCaseOf g x y v false)) both.is-low is-low in
-    let other : IsCaseOf g x y v true both.second = subst (λ (o : Option Case). IfSome o (IsCaseOf g x y v true)) both.is-high is-high in
-    (both-cases g x y v both.first both.second one other first second, rest)
+    let (before, second) = All-pop agree new between (Some high.case) high.behind all in
+    let (rest, first) = All-pop agree between old (Some low.case) low.behind before in
+    (both-cases g x y v low.case high.case low.stands high.stands first second, rest)
 
 -- one case less, where that one was split
 pub split-next : (g : List Node) (x y : ℕ) (case : Case) (before rest new : List Case) → before ≡ rest ++ case ∷ [] → (AllAgree before → AgreeIn g x y)

@@ -31,10 +31,8 @@ AllAgree cases = All (λ c. AgreeIn c.graph c.left.0 c.right.0) cases
 abbrev pub IsSplitOf : List Node → ℕ → ℕ → List Case → List Case → Type 0
 IsSplitOf g x y old new = AllAgree new → AgreeIn g x y × AllAgree old
 
--- there are both, and they stand behind the rest
-pub record AreBoth (low high : Option Case) (old new : List Case) : Type 0 where
-  pub first : Case
-  pub second : Case
-  pub is-low : low ≡ Some first
-  pub is-high : high ≡ Some second
-  pub behind : new ≡ (old ++ first ∷ []) ++ second ∷ []
+-- a case of the two literals stands behind the rest
+pub record IsPutBehind (g : List Node) (x y v : ℕ) (bit : Bool) (old new : List Case) : Type 0 where
+  pub case : Case
+  pub stands : IsCaseOf g x y v bit case
+  pub behind : new ≡ old ++ case ∷ []

@@ -1,9 +1,9 @@
 //! A graph where one variable has a bit.
 
-ghost use Rattle.std.specs.Prelude.{◌≡◌, ℕ, ◌+◌, ◌*◌, ◌/◌, ◌^◌, ◌<◌, ◌≤◌, Bool, List, length, IfOk, IfSome, OnOk};
+ghost use Rattle.std.specs.Prelude.{◌≡◌, ℕ, ◌+◌, ◌*◌, ◌/◌, ◌^◌, ◌<◌, ◌≤◌, Bool, List, length, IfOk, IfSome, OnOk, IsTrue};
 ghost use Rattle.aig.specs.declared.node.Node.{Node};
 ghost use Rattle.aig.specs.Values.{KeepsValues};
-ghost use Rattle.case_split.specs.Under.{StandsUnder, AreUnder, IsCaseOf};
+ghost use Rattle.case_split.specs.Under.{StandsUnder, AreUnder, IsPutBehind};
 
 use crate::lits::{constant, literal_for};
 use crate::marks::is_marked;
@@ -30,8 +30,9 @@ struct Part {
     lits: Vec<Option<Lit>>,
 }
 
-/// The two literals where the variable has the bit, in a graph of the marked nodes, if all that they reach is marked.
-pub(crate) fn case_of(
+/// Puts the two literals where the variable has the bit behind the rest, in a graph of the marked nodes. False where they reach what
+/// isn't marked.
+pub(crate) fn put_case(
     alloc: Global,
     graph: &Aig,
     marks: &[bool],
@@ -39,20 +40,22 @@ pub(crate) fn case_of(
     before: usize,
     var: u32,
     bit: bool,
-) -> Result<Option<Case>, NoMemory>
-    ensures { IfOk result (λ found. IfSome found (IsCaseOf graph.now lits.0.0 lits.1.0 var bit)) }
+    waiting: &mut Vec<Case>,
+) -> Result<bool, NoMemory>
+    ensures { IfOk result (λ told. IsTrue told → IsPutBehind graph.now lits.0.0 lits.1.0 var bit waiting.old.items waiting.new.items) }
 {
     let part = part_of(alloc, graph, marks, var, bit)?;
     let known = part.lits.as_slice();
     let (Some(left), Some(right)) = (literal_for(known, lits.0), literal_for(known, lits.1)) else {
-        return Ok(None);
+        return Ok(false);
     };
-    Ok(Some(Case {
+    waiting.push(Case {
         graph: part.graph,
         left,
         right,
         before,
-    }))
+    })?;
+    Ok(true)
 }
 
 /// The graph of the marked nodes where the variable has the bit.

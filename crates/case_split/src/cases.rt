@@ -1,9 +1,9 @@
 //! All cases.
 
 ghost use Rattle.std.specs.Prelude.{IfOk, IsTrue};
-ghost use Rattle.case_split.specs.Under.{AgreeIn, IsSplitOf, AreBoth};
+ghost use Rattle.case_split.specs.Under.{AgreeIn, IsSplitOf};
 
-use crate::case::{Case, case_of};
+use crate::case::{Case, put_case};
 use crate::marks::{count_of, most_read, reached};
 use aig::{Aig, Lit, NoMemory};
 use std::alloc::Global;
@@ -87,9 +87,12 @@ fn split(
     let Some(var) = most_read(alloc, graph.nodes(), marks.as_slice(), size / 32)? else {
         return Ok(false);
     };
-    let low = case_of(alloc, graph, marks.as_slice(), lits, size, var, false)?;
-    let high = case_of(alloc, graph, marks.as_slice(), lits, size, var, true)?;
-    put_both(waiting, low, high)
+    let marks = marks.as_slice();
+    let low = put_case(alloc, graph, marks, lits, size, var, false, waiting)?;
+    if !low {
+        return Ok(false);
+    }
+    put_case(alloc, graph, marks, lits, size, var, true, waiting)
 }
 
 /// Whether cones of so many nodes are to be split, which had so many before. It takes them from the room.
@@ -102,20 +105,4 @@ fn is_worth(size: usize, before: usize, room: &mut usize) -> bool {
     }
     *room = room.saturating_sub(size);
     true
-}
-
-/// Puts both cases behind the rest, if there are both.
-fn put_both(
-    waiting: &mut Vec<Case>,
-    low: Option<Case>,
-    high: Option<Case>,
-) -> Result<bool, NoMemory>
-    ensures { IfOk result (λ told. IsTrue told → AreBoth low high waiting.old.items waiting.new.items) }
-{
-    let (Some(low), Some(high)) = (low, high) else {
-        return Ok(false);
-    };
-    waiting.push(low)?;
-    waiting.push(high)?;
-    Ok(true)
 }

@@ -51,11 +51,6 @@ impl Budget {
         self.left = self.left.saturating_sub(conflicts);
     }
 
-    /// Whether an attempt by cases may be made: one of 16, where more failed.
-    pub(crate) fn may_split(&self) -> bool {
-        self.in_vain < 16 || self.in_vain % 16 == 0
-    }
-
     /// Notes an attempt by cases in a graph of so many nodes, which are walked where it fails.
     pub(crate) fn note_split(&mut self, same: bool, nodes: u32) {
         if same {

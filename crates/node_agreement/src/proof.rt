@@ -50,8 +50,7 @@ pub fn prove(
     ensures same { IfOk result (λ p. p ≡ proved.Same → Agree graph.now x.0 k.0) }
     ensures apart { IfOk result (λ p. (m : Model) → p ≡ proved.Apart m → DifferAt graph.now x.0 k.0 m.vars.items m.bits.items) }
 {
-    let came = attempt(alloc, graph, levels, x, k, budget)?;
-    Ok(came)
+    attempt(alloc, graph, levels, x, k, budget)
 }
 
 /// The same as one relation.
@@ -100,7 +99,8 @@ fn prove_nearby(
     prove_in_window(alloc, graph, levels, x, k, budget)
 }
 
-/// Tries it by cases of the variables that most nodes read. An attempt that fails costs a walk over the graph.
+/// Tries it by cases of the variables that most nodes read. An attempt that fails costs a walk over the graph: where 16 failed one
+/// after the other, one of 16 is made.
 fn prove_by_cases(
     alloc: Global,
     graph: &Aig,
@@ -110,7 +110,8 @@ fn prove_by_cases(
 ) -> Result<Proved, NoMemory>
     ensures { IfOk result (IsProved graph.now x.0 k.0) }
 {
-    if !budget.may_split() {
+    let may_split = budget.in_vain < 16 || budget.in_vain % 16 == 0;
+    if !may_split {
         budget.note_split(false, 0);
         return Ok(Proved::Open);
     }
@@ -167,7 +168,7 @@ fn prove_wholly(
 }
 
 /// Tries it over the small graph of these nodes. Where the literals differ there, so they do in the graph if its variables are the
-/// graph's own.
+/// graph's own. A search that fails is paid for.
 fn prove_in(
     alloc: Global,
     graph: &Aig,
@@ -178,7 +179,9 @@ fn prove_in(
 ) -> Result<Proved, NoMemory>
     ensures { IfOk result (IsProved graph.now x.0 k.0) }
 {
-    let tried = try_in(alloc, graph, numbers, x, k, budget)?;
+    let conflicts = budget.conflicts();
+    let tried = try_small(alloc, graph, numbers, x, k, conflicts)?;
+    budget.note(&tried, conflicts);
     match tried {
         Tried::Same(_) => Ok(Proved::Same),
         Tried::Differs(vars, bits) => {
@@ -197,23 +200,6 @@ fn apart_by(found: Option<Model>) -> Proved
         Some(model) => Proved::Apart(model),
         None => Proved::Open,
     }
-}
-
-/// Tries to prove that two literals agree over the small graph of these nodes. A search that fails is paid for.
-fn try_in(
-    alloc: Global,
-    graph: &Aig,
-    numbers: &[u32],
-    x: Lit,
-    k: Lit,
-    budget: &mut Budget,
-) -> Result<Tried, NoMemory>
-    ensures { IfOk result (IsToldOf graph.now x.0 k.0) }
-{
-    let conflicts = budget.conflicts();
-    let tried = try_small(alloc, graph, numbers, x, k, conflicts)?;
-    budget.note(&tried, conflicts);
-    Ok(tried)
 }
 
 /// Tries to prove that two literals agree over the small graph of these nodes.

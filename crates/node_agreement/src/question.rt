@@ -37,13 +37,6 @@ pub(crate) enum Tried {
     Open,
 }
 
-impl Tried {
-    /// Whether the limit of conflicts was met.
-    fn is_at_limit(&self) -> bool {
-        matches!(self, Tried::Limit)
-    }
-}
-
 /// Tries to prove that two literals agree over all variables of the graph. Where a table of up to 24 variables takes no longer than so
 /// many conflicts, it follows a short search.
 pub(crate) fn ask(
@@ -60,23 +53,12 @@ pub(crate) fn ask(
 {
     let vars = variables(alloc, graph)?;
     let light = is_light(graph.size(), vars.len(), conflicts);
-    let most = most_conflicts(conflicts, light);
+    let most = conflicts.min(if light { SHORT } else { u32::MAX });
     let tried = ask_search(alloc, graph, left, right, vars, most)?;
-    if light && tried.is_at_limit() {
+    if light && matches!(tried, Tried::Limit) {
         return ask_table(alloc, graph, left, right);
     }
     Ok(tried)
-}
-
-/// The most conflicts of the search.
-fn most_conflicts(conflicts: u32, light: bool) -> u32
-    ensures { result ≤ conflicts }
-{
-    if light {
-        conflicts.min(SHORT)
-    } else {
-        conflicts
-    }
 }
 
 /// Tries it by a table where the variables are at most 16, and else by a search, if that may have conflicts.

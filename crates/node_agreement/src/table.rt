@@ -1,6 +1,6 @@
 //! Whether two literals of a small graph agree, by a table of up to 24 variables.
 
-ghost use Rattle.std.specs.Prelude.{◌≡◌, ℕ, ◌*◌, ◌<◌, ◌≤◌, List, Some, length, IfOk};
+ghost use Rattle.std.specs.Prelude.{◌≡◌, ℕ, ◌*◌, ◌<◌, List, Some, length, IfOk};
 ghost use Rattle.circuit_theory.specs.Query.{bits_of};
 ghost use Rattle.lane_eval.specs.root_classes.aig.declared.node.Node.{Node};
 ghost use Rattle.lane_eval.specs.root_classes.Inputs.{inputs_of};
@@ -42,7 +42,8 @@ pub(crate) fn ask_table(
     if vars.len() > WIDE {
         return Ok(Tried::Open);
     }
-    let found = number_of(alloc, graph, left, right, &vars)?;
+    graph.keeps();
+    let found = table_differs(alloc, graph, left, right, Lit::TRUE, &vars)?;
     match found {
         None => Ok(Tried::Same(Cost {
             conflicts: 0,
@@ -58,25 +59,6 @@ fn differing_by(alloc: Global, vars: Ids, number: u32) -> Result<Tried, NoMemory
 {
     let bits = low_bits(alloc, vars.len(), number)?;
     Ok(Tried::Differs(vars, bits))
-}
-
-/// The number of an assignment of these variables, which are all of the graph's, under which the literals differ.
-fn number_of(
-    alloc: Global,
-    graph: &Aig,
-    left: Lit,
-    right: Lit,
-    vars: &Ids,
-) -> Result<Option<u32>, NoMemory>
-    requires left { left.0 < 2 * length graph.now }
-    requires right { right.0 < 2 * length graph.now }
-    requires vars { vars.now ≡ inputs_of graph.now }
-    requires few { length vars.now ≤ 24 }
-    ensures { IfOk result (IsFound graph.now left.0 right.0 vars.now) }
-{
-    graph.keeps();
-    let found = table_differs(alloc, graph, left, right, Lit::TRUE, vars)?;
-    Ok(found)
 }
 
 /// So many of the number's low bits, the lowest first.

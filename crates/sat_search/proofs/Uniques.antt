@@ -1,6 +1,6 @@
 -- Clauses with a single late literal, and how they are shortened.
-use Rattle.std.proofs.Common.{◌≡◌, ◌≢◌, ◌⊎◌, ℕ, ◌+◌, ◌<◌, ◌≤◌, List, length, refl, sym, ap, subst, arith, inl, inr, Option, Some, None}
-use Rattle.std.specs.Prelude.{◌↔◌, ◌^◌, slice_get}
+use Rattle.std.proofs.Common.{◌≡◌, ◌≢◌, ◌⊎◌, ℕ, ◌+◌, ◌<◌, ◌≤◌, List, length, refl, sym, ap, subst, arith, inl, inr, Option, Some, None, Result, Ok, Err}
+use Rattle.std.specs.Prelude.{◌↔◌, ◌^◌, slice_get, IfOk}
 use Rattle.std.specs.List.{Contains}
 use Rattle.std.proofs.lemmas.Bool.{cases_eq}
 use Rattle.std.proofs.lemmas.List.Elements.{All-contains}
@@ -12,11 +12,13 @@ use Rattle.proof_check.proofs.Deriving.{steps_push}
 use Rattle.clause_watch.specs.Range.{AllInRange, InRange}
 use Rattle.clause_watch.specs.Trails.{TrailView, At, TrueBefore, FalseBefore, OthersFalse, IsTrail}
 use Rattle.sat_search.specs.Answers.{IsDistinct, IsLastFalse, IsLastDecision, IsUniqueAt, IsSmallPlace, HasReason, place_after}
-use Rattle.sat_search.specs.Lessons.{IsLate, IsAnalysing, IsLearnt}
+use Rattle.sat_search.specs.Lessons.{IsLate, IsAnalysing, IsLearnt, IsLesson}
 use Rattle.clause_watch.specs.Learning.{IsAsserting}
-use Rattle.sat_search.specs.Uniques.{IsUnique, IsReasonStep, IsLearntFrom}
+use Rattle.sat_search.specs.Uniques.{IsUnique, IsReasonStep, IsLearntFrom, IsLessonFrom}
 use Rattle.clause_watch.specs.declared.entry.Entry.{Entry}
 use Rattle.sat_search.specs.declared.lesson.Learnt.{Learnt}
+use Rattle.sat_search.specs.declared.lesson.Lesson.{Lesson}
+use Rattle.sat_search.specs.declared.lesson.Lesson.TheVariants.{Refutation, Asserting}
 use Rattle.clause_watch.specs.declared.places.Placed.{Placed}
 use Rattle.clause_watch.proofs.Lists.{get_one, at_number}
 use Rattle.clause_watch.proofs.Trails.{at_one, at_within, true_more}
@@ -188,3 +190,8 @@ unique_learnt known t d c chain last learnt is u m = (
     asserts =
         asserting known t (Some d) chain.start c chain.steps (length t.entries) d learnt.keep last learnt.second m.ordered is a u.is_last m.other
         (second_unique d learnt.second (second_early t.entries c d last learnt.second is.distinct u.alone m.other)) m.kept
+
+pub lesson_learnt : {E : Type 0} (known : List (List Literal)) (t : TrailView) (d : ℕ) (c : List Literal) (chain : Chain) (last : Placed) (r : Result Lesson E) → IsTrail known t.entries → IsUnique known t d c chain last → IfOk r (IsLessonFrom t.entries c chain last d) → IfOk r (IsLesson known t)
+lesson_learnt known t d c chain last (Ok (Asserting learnt)) is u m = unique_learnt known t d c chain last learnt is u m
+lesson_learnt known t d c chain last (Ok (Refutation other)) is u m = absurd m
+lesson_learnt known t d c chain last (Err e) is u m = tt

@@ -19,15 +19,22 @@ const LEVELS: u32 = 64;
 /// How many conflicts come before the first restart.
 const UNIT: u32 = 1000;
 
+/// What is known of a variable.
+#[derive(Clone, Copy)]
+struct Rank {
+    score: f64,
+    /// Its last sign.
+    sign: bool,
+    /// Where it stands in the list of all variables.
+    place: usize,
+}
+
 /// Scores of variables by the conflicts in which they took part, the late ones counting most, and
 /// the last sign of each. Variable k + 1 has number k here.
 pub(crate) struct Activity {
-    scores: Vec<f64>,
-    signs: Vec<bool>,
+    ranks: Vec<Rank>,
     /// All variables. The first ones are a heap by their scores, and each free one is among them.
     heap: Vec<u32>,
-    /// Where each variable stands there.
-    places: Vec<usize>,
     /// How many are in the heap.
     size: usize,
     step: f64,
@@ -43,10 +50,8 @@ pub(crate) struct Activity {
 impl Drop for Activity {
     fn drop(self) {
         let Activity {
-            scores: _,
-            signs: _,
+            ranks: _,
             heap: _,
-            places: _,
             size: _,
             step: _,
             left: _,
@@ -60,10 +65,8 @@ impl Activity {
     /// All variables alike.
     pub(crate) fn new(alloc: Global, variables: u32) -> Result<Activity, NoMemory> {
         let mut made = Activity {
-            scores: Vec::new(alloc),
-            signs: Vec::new(alloc),
+            ranks: Vec::new(alloc),
             heap: Vec::new(alloc),
-            places: Vec::new(alloc),
             size: variables as usize,
             step: 1.0,
             left: UNIT,
@@ -78,10 +81,12 @@ impl Activity {
 
     /// Puts a variable last.
     fn add(&mut self, index: u32) -> Result<(), NoMemory> {
-        self.scores.push(0.0)?;
-        self.signs.push(false)?;
         self.heap.push(index)?;
-        self.places.push(index as usize)?;
+        self.ranks.push(Rank {
+            score: 0.0,
+            sign: false,
+            place: index as usize,
+        })?;
         Ok(())
     }
 
@@ -90,10 +95,10 @@ impl Activity {
         ensures { IsChoice trail.now result }
     {
         if let Some(variable) = self.take_free(trail) {
-            return Some(Literal::new(variable, self.sign(variable)));
+            return Some(Literal::new(variable, self.rank(variable - 1).sign));
         }
         match first_free(trail) {
-            Some(variable) => Some(Literal::new(variable, self.sign(variable))),
+            Some(variable) => Some(Literal::new(variable, self.rank(variable - 1).sign)),
             None => None,
         }
     }
@@ -154,7 +159,8 @@ impl Activity {
             self.left -= 1;
             return false;
         }
-        if lowest_bit(self.restart) == self.units {
+        let lowest_bit = self.restart & !self.restart.wrapping_sub(1);
+        if lowest_bit == self.units {
             self.restart = self.restart.wrapping_add(1);
             self.units = 1;
         } else {
@@ -166,27 +172,28 @@ impl Activity {
 
     /// Makes all scores smaller alike.
     fn shrink(&mut self) {
-        for score in self.scores.iter_mut() {
-            *score = *score / TOP;
+        for rank in self.ranks.iter_mut() {
+            rank.score = rank.score / TOP;
         }
         self.step = self.step / TOP;
     }
 
     fn bump(&mut self, variable: u32) {
-        let index = variable as usize;
-        if 0 < index && index <= self.scores.len() {
-            self.scores[index - 1] = self.scores[index - 1] + self.step;
-            let place = self.place(index - 1);
-            if place < self.size {
-                self.rise(place);
+        let index = (variable as usize).wrapping_sub(1);
+        if index < self.ranks.len() {
+            let mut rank = self.ranks[index];
+            rank.score = rank.score + self.step;
+            self.ranks[index] = rank;
+            if rank.place < self.size {
+                self.rise(rank.place);
             }
         }
     }
 
     fn keep_sign(&mut self, literal: Literal) {
         let index = literal.variable() as usize;
-        if index <= self.signs.len() {
-            self.signs[index - 1] = literal.is_positive();
+        if index <= self.ranks.len() {
+            self.ranks[index - 1].sign = literal.is_positive();
         }
     }
 
@@ -194,7 +201,7 @@ impl Activity {
     fn put_back(&mut self, variable: u32)
         requires { 0 < variable }
     {
-        let place = self.place(variable as usize - 1);
+        let place = self.rank(variable - 1).place;
         let last = self.size;
         if last <= place && last < self.heap.len() {
             self.exchange(place, last);
@@ -218,7 +225,7 @@ impl Activity {
     /// Lets the variable at a place rise to where none of a lower score stands above it.
     fn rise(&mut self, from: usize) {
         let index = self.at(from);
-        let score = self.score(index);
+        let score = self.rank(index).score;
         let mut place = from;
         for _level in 0..LEVELS {
             if place == 0 {
@@ -226,7 +233,7 @@ impl Activity {
             }
             let above = (place - 1) / 2;
             let parent = self.at(above);
-            if self.score(parent) >= score {
+            if self.rank(parent).score >= score {
                 break;
             }
             self.set(place, parent);
@@ -238,7 +245,7 @@ impl Activity {
     /// Lets the first variable sink to where none of a greater score stands below it.
     fn sink(&mut self) {
         let index = self.at(0);
-        let score = self.score(index);
+        let score = self.rank(index).score;
         let mut place = 0;
         for _level in 0..LEVELS {
             if place >= self.size / 2 {
@@ -246,7 +253,7 @@ impl Activity {
             }
             let below = self.greater_child(place);
             let child = self.at(below);
-            if self.score(child) <= score {
+            if self.rank(child).score <= score {
                 break;
             }
             self.set(place, child);
@@ -260,16 +267,12 @@ impl Activity {
         requires { place < 2 ^ 63 - 1 }
     {
         let left = 2 * place + 1;
-        if left + 1 < self.size && self.is_before(left + 1, left) {
-            left + 1
+        let right = left + 1;
+        if right < self.size && self.rank(self.at(right)).score >= self.rank(self.at(left)).score {
+            right
         } else {
             left
         }
-    }
-
-    /// Whether the variable at the first place may stand above the other.
-    fn is_before(&self, first: usize, second: usize) -> bool {
-        self.score(self.at(first)) >= self.score(self.at(second))
     }
 
     /// Exchanges the variables at two places.
@@ -284,48 +287,22 @@ impl Activity {
         if place < self.heap.len() {
             self.heap[place] = index;
         }
-        if (index as usize) < self.places.len() {
-            self.places[index as usize] = place;
+        if (index as usize) < self.ranks.len() {
+            self.ranks[index as usize].place = place;
         }
     }
 
     fn at(&self, place: usize) -> u32 {
-        match self.heap.get(place) {
-            Some(index) => *index,
-            None => 0,
-        }
+        self.heap.get(place).copied().unwrap_or(0)
     }
 
-    fn place(&self, index: usize) -> usize {
-        match self.places.get(index) {
-            Some(place) => *place,
-            None => 0,
-        }
-    }
-
-    fn score(&self, index: u32) -> f64 {
-        match self.scores.get(index as usize) {
-            Some(score) => *score,
-            None => 0.0,
-        }
-    }
-
-    fn sign(&self, variable: u32) -> bool
-        requires { 0 < variable }
-    {
-        match self.signs.get(variable as usize - 1) {
-            Some(sign) => *sign,
-            None => false,
-        }
-    }
-}
-
-/// The lowest bit of a number that is set.
-fn lowest_bit(number: u32) -> u32 {
-    if number == 0 {
-        0
-    } else {
-        number ^ (number & (number - 1))
+    fn rank(&self, index: u32) -> Rank {
+        let none = Rank {
+            score: 0.0,
+            sign: false,
+            place: 0,
+        };
+        self.ranks.get(index as usize).copied().unwrap_or(none)
     }
 }
 

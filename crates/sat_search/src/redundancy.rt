@@ -49,11 +49,6 @@ impl Redundancy {
         })
     }
 
-    /// Whether the variable's literal follows, as far as that is known.
-    fn found(&self, variable: u32) -> Option<bool> {
-        *self.found.get(variable as usize)?
-    }
-
     /// Notes whether the variable's literal follows.
     fn note(&mut self, variable: u32, follows: bool) {
         if (variable as usize) < self.found.len() {
@@ -126,9 +121,9 @@ impl Redundancy {
         if other == variable {
             return Some(true);
         }
-        match self.found(other) {
-            Some(follows) => Some(follows),
-            None => { if depth == 0 { Some(false) } else { None } }
+        match self.found.get(other as usize) {
+            Some(Some(follows)) => Some(*follows),
+            _ => { if depth == 0 { Some(false) } else { None } }
         }
     }
 
@@ -164,7 +159,7 @@ fn place_in(trail: &Trail, resolver: &Resolver, variable: u32) -> Option<u32> {
 }
 
 /// Where the variable stands on the trail.
-fn place_of(trail: &Trail, variable: u32) -> Option<u32>
+pub(crate) fn place_of(trail: &Trail, variable: u32) -> Option<u32>
     ensures { IfSome result (λ place. place < length trail.now.entries) }
 {
     if variable == 0 || variable > trail.variables() {

@@ -4,7 +4,7 @@ use Rattle.case_split.proofs.cases.split.Goals as goal
 
 pub returns : goal.returns
 returns c =
-    IfOk-map c.put_both.result _ _
-    (λ told both yes.
-    split-both c.args.graph.now c.args.lits.0.0 c.args.lits.1.0 c.in-Some.var c.in_ok-low.low c.in_ok-high.high c.in_ok-low.ensures c.in_ok-high.ensures c.args.waiting.now.items c.put_both.new.waiting.items (both yes))
-    c.put_both.ensures
+    IfOk-map c.put_case-2.result _ _
+    (λ told second yes.
+    split-both c.args.graph.now c.args.lits.0.0 c.args.lits.1.0 c.in-Some.var c.args.waiting.now.items c.put_case.new.waiting.items c.put_case-2.new.waiting.items (c.in_ok-low.ensures c.if-not-low.false) (second yes))
+    c.put_case-2.ensures
