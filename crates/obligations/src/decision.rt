@@ -9,7 +9,7 @@ use crate::found::{Found, decide_queries};
 use crate::names::copy_name;
 use crate::obligation::{Difference, Obligation};
 use crate::sides::sweep_asked;
-use outcome::{Aig, MAX_CONFLICTS, NoMemory, PairAnswer, PairName, PairResult, PairResults, Proof};
+use outcome::{Aig, MAX_CONFLICTS, NoMemory, PairAnswer, PairName, PairResult, PairResults};
 use std::alloc::Global;
 use swept_queries::SweptQueries;
 
@@ -90,13 +90,31 @@ fn answer_of(
     ensures { IsAnswerOf name size decisive pair found result.0 result.1 }
 {
     match found {
-        Found::Same => (pair_result(name, size, PairAnswer::Equal, None), None),
+        Found::Same => (
+            PairResult {
+                name,
+                size,
+                answer: PairAnswer::Equal,
+                proof: None,
+            },
+            None,
+        ),
         Found::Differs(query, bits) => (
-            pair_result(name, size, differing(decisive), None),
+            PairResult {
+                name,
+                size,
+                answer: differing(decisive),
+                proof: None,
+            },
             Some(Difference { pair, query, bits }),
         ),
         Found::Limit(proof) => (
-            pair_result(name, size, PairAnswer::Limit, Some(proof)),
+            PairResult {
+                name,
+                size,
+                answer: PairAnswer::Limit,
+                proof: Some(proof),
+            },
             None,
         ),
     }
@@ -110,17 +128,6 @@ fn differing(decisive: bool) -> PairAnswer
         PairAnswer::Different
     } else {
         PairAnswer::NotShown
-    }
-}
-
-fn pair_result(name: PairName, size: u32, answer: PairAnswer, proof: Option<Proof>) -> PairResult
-    ensures { result ≡ record { name = name; size = size; answer = answer; proof = proof } }
-{
-    PairResult {
-        name,
-        size,
-        answer,
-        proof,
     }
 }
 

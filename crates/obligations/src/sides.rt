@@ -24,8 +24,7 @@ pub(crate) fn sweep_asked(
     ensures few { OnOk result (length (queries_of asked.now) < 2 ^ 64) }
 {
     let sides = all_sides(alloc, asked)?;
-    let swept = sweep_queries(alloc, aig, sides.as_slice(), conflicts)?;
-    Ok(swept)
+    sweep_queries(alloc, aig, sides.as_slice(), conflicts)
 }
 
 /// For each query, in order, its literals if it has many variables.

@@ -33,19 +33,15 @@ fn are_told_apart(table: &SignatureTable, sides: &Sides) -> bool
     let left = table.block(sides.left.node());
     let right = table.block(sides.right.node());
     let care = table.block(sides.care.node());
-    let flip_sides = flipping((sides.left.0 ^ sides.right.0) % 2 == 1);
-    let flip_care = flipping(sides.care.is_complement());
+    // A word of ones complements one.
+    let flip_sides = u64::from((sides.left.0 ^ sides.right.0) % 2).wrapping_mul(u64::MAX);
+    let flip_care = u64::from(sides.care.0 % 2).wrapping_mul(u64::MAX);
     for i in 0..8 {
         if (left[i] ^ right[i] ^ flip_sides) & (care[i] ^ flip_care) != 0 {
             return true;
         }
     }
     false
-}
-
-/// The word that complements one, or leaves it.
-fn flipping(flip: bool) -> u64 {
-    if flip { u64::MAX } else { 0 }
 }
 
 /// The literal's value under the assignment of this number.

@@ -17,7 +17,7 @@ use crate::sweep::{
     Aig, Decision, Effort, Lits, MAX_CONFLICTS, NoMemory, Query, SameBy, Swept, decide,
     sweep_across,
 };
-use crate::targets::{is_any_left, kept_lits, tried_lits};
+use crate::targets::{is_any_left, lits_of};
 use crate::words::{bits_at, seeded_words};
 use std::alloc::Global;
 
@@ -156,8 +156,8 @@ fn sweep_open(
     requires words { length words.now ≡ 8 * vars_of aig.now }
     ensures { IfOk result (IsSwept aig.now roots.now) }
 {
-    let tried = tried_lits(alloc, known)?;
-    let kept = kept_lits(alloc, known)?;
+    let tried = lits_of(alloc, known, true)?;
+    let kept = lits_of(alloc, known, false)?;
     sweep_across(
         alloc,
         aig,

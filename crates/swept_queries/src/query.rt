@@ -38,9 +38,9 @@ fn reads_only(alloc: Global, aig: &Aig, sides: &Sides, vars: &Ids) -> Result<boo
     requires { AreWithin aig.now sides.now }
     ensures { IfOk result (λ only. IsTrue only → ReadsOnly aig.now sides.now vars.now) }
 {
-    let cone = aig.cone(alloc, &[sides.left, sides.right, sides.care])?;
     let mut own = Vec::from_slice(alloc, vars.as_slice())?;
     own.sort()?;
+    let cone = aig.cone(alloc, &[sides.left, sides.right, sides.care])?;
     Ok(has_all(aig, cone.as_slice(), own.as_slice()))
 }
 

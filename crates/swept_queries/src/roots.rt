@@ -23,9 +23,7 @@ fn put_three(roots: &mut Vec<Lit>, known: Known) -> Result<(), NoMemory>
     ensures { OnOk result (roots.new.items ≡ roots.old.items ++ three known) }
 {
     let sides = sides_or_zero(known);
-    roots.push(sides.left)?;
-    roots.push(sides.right)?;
-    roots.push(sides.care)?;
+    roots.extend_from_slice(&[sides.left, sides.right, sides.care])?;
     Ok(())
 }
 

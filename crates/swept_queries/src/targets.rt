@@ -19,47 +19,30 @@ pub(crate) fn is_any_left(known: &[Known]) -> bool {
     false
 }
 
-/// All literals of these queries.
-pub(crate) fn tried_lits(alloc: Global, known: &[Known]) -> Result<Vec<Lit>, NoMemory>
+/// The left sides of these queries, or all their literals.
+pub(crate) fn lits_of(alloc: Global, known: &[Known], all: bool) -> Result<Vec<Lit>, NoMemory>
     ensures { IfOk result (λ lits. (g : List Node) → All (AreKnownWithin g) known.now → All (λ l. l.0 < 2 * length g) lits.items) }
 {
     let mut lits = Vec::new(alloc);
     for i in 0..known.len() {
-        put_tried(&mut lits, known[i])?;
+        put_open(&mut lits, known[i], all)?;
     }
     Ok(lits)
 }
 
-/// Their left sides.
-pub(crate) fn kept_lits(alloc: Global, known: &[Known]) -> Result<Vec<Lit>, NoMemory>
-    ensures { IfOk result (λ lits. (g : List Node) → All (AreKnownWithin g) known.now → All (λ l. l.0 < 2 * length g) lits.items) }
-{
-    let mut lits = Vec::new(alloc);
-    for i in 0..known.len() {
-        put_kept(&mut lits, known[i])?;
-    }
-    Ok(lits)
-}
-
-/// Puts the literals of the query, if it is one of these.
-fn put_tried(lits: &mut Vec<Lit>, known: Known) -> Result<(), NoMemory>
+/// Puts the left side of the query, or all its literals, if it is one of these.
+fn put_open(lits: &mut Vec<Lit>, known: Known, all: bool) -> Result<(), NoMemory>
     ensures { OnOk result ((g : List Node) → AreKnownWithin g known → All (λ l. l.0 < 2 * length g) lits.old.items → All (λ l. l.0 < 2 * length g) lits.new.items) }
 {
-    if let Some(sides) = open_sides(known) {
-        lits.push(sides.left)?;
-        lits.push(sides.right)?;
-        lits.push(sides.care)?;
+    let Some(sides) = open_sides(known) else {
+        return Ok(());
+    };
+    lits.push(sides.left)?;
+    if !all {
+        return Ok(());
     }
-    Ok(())
-}
-
-/// Puts the left side of the query, if it is one of these.
-fn put_kept(lits: &mut Vec<Lit>, known: Known) -> Result<(), NoMemory>
-    ensures { OnOk result ((g : List Node) → AreKnownWithin g known → All (λ l. l.0 < 2 * length g) lits.old.items → All (λ l. l.0 < 2 * length g) lits.new.items) }
-{
-    if let Some(sides) = open_sides(known) {
-        lits.push(sides.left)?;
-    }
+    lits.push(sides.right)?;
+    lits.push(sides.care)?;
     Ok(())
 }
 

@@ -61,16 +61,10 @@ pub(crate) fn grown(
     old.keeps();
     let mut growth = begun(alloc, old, effort, words)?;
     for n in 1..old.size() {
-        growth.put(alloc, old, n, words, role_of(roles, n))?;
+        let role = roles.get(n as usize).copied().unwrap_or(Role::Outside);
+        growth.put(alloc, old, n, words, role)?;
     }
     Ok(growth)
-}
-
-fn role_of(roles: &[Role], n: u32) -> Role {
-    match roles.get(n as usize) {
-        Some(role) => *role,
-        None => Role::Outside,
-    }
 }
 
 /// The graph of the constant.
@@ -78,10 +72,10 @@ fn begun(alloc: Global, old: &Aig, effort: Effort, words: &[u64]) -> Result<Grow
     ensures { IfOk result (λ w. IsGrown old.now w 1) }
 {
     old.keeps();
-    let graph = Aig::new(alloc)?;
-    graph.keeps();
     let mut map = Vec::new(alloc);
     map.push(Lit::FALSE)?;
+    let graph = Aig::new(alloc)?;
+    graph.keeps();
     let mut growth = Growth {
         graph,
         map,
@@ -111,22 +105,10 @@ impl Growth {
     {
         old.keeps();
         let x = put_node(&mut self.graph, old, n, self.map.as_slice())?;
-        let y = self.choose(alloc, x, words, role)?;
+        self.note(alloc, x.node(), words, role)?;
+        let y = follow(self.chosen.as_slice(), x);
         self.map.push(y)?;
         Ok(())
-    }
-
-    /// The kept literal for one of the graph.
-    fn choose(&mut self, alloc: Global, x: Lit, words: &[u64], role: Role) -> Result<Lit, NoMemory>
-        requires within { x.0 < 2 * length self.old.graph }
-        requires chosen { AreChosen self.old.graph self.old.chosen.items }
-        ensures graph { self.new.graph ≡ self.old.graph }
-        ensures map { self.new.map.items ≡ self.old.map.items }
-        ensures chosen { OnOk result (AreChosen self.new.graph self.new.chosen.items) }
-        ensures stands { IfOk result (λ y. StandsFor plainly self.new.graph self.new.graph x.0 y.0) }
-    {
-        self.note(alloc, x.node(), words, role)?;
-        Ok(follow(self.chosen.as_slice(), x))
     }
 
     /// Notes a kept literal for the node, if it is the next one.
