@@ -2,14 +2,14 @@
 use Rattle.std.proofs.Common.{◌≡◌, ℕ, ◌+◌, ◌*◌, List, sym, ◌∙◌, subst}
 use Rattle.std.specs.Prelude.{Ok, Err}
 use Rattle.flat_net.specs.View.{NetView}
-use Rattle.aiger_file.specs.aiger_graph.net_assembly.Order.{IsOrder}
-use Rattle.aiger_file.specs.aiger_graph.Literals.{graph_of}
+use Rattle.aiger_read.specs.aiger_file.aiger_graph.net_assembly.Order.{IsOrder}
+use Rattle.aiger_read.specs.aiger_file.aiger_graph.Literals.{graph_of}
 use Rattle.aiger_records.specs.declared.error.AigerError.{AigerError}
 use Rattle.aiger_records.specs.declared.error.AigerError.TheVariants as aiger
 use Rattle.aiger_records.specs.declared.error.AigerKind.TheVariants as kind
-use Rattle.aiger_file.specs.declared.file.AigerFile.{AigerFile}
-use Rattle.aiger_file.specs.Files.{IsKept, ReadsFile}
-use Rattle.aiger_file.specs.aiger_graph.Loops.{HasLoop, IsOrdered}
+use Rattle.aiger_read.specs.declared.aiger_file.file.AigerFile.{AigerFile}
+use Rattle.aiger_read.specs.aiger_file.Files.{IsKept, ReadsFile}
+use Rattle.aiger_read.specs.aiger_file.aiger_graph.Loops.{HasLoop, IsOrdered}
 use Rattle.aiger_read.specs.Made.{IsPlan}
 use Rattle.aiger_read.specs.Nets.{IsNetOf, HasFault, ReadsNet}
 use Rattle.aiger_read.proofs.Faultless.{faultless}

@@ -7,16 +7,16 @@ use Rattle.std.proofs.lemmas.List.Elements.{Contains-append_cases}
 use Rattle.circuit_theory.specs.Circuit.{Equation, IsInput, out_of, Gate as gate_equation}
 use Rattle.circuit_theory.proofs.Lists.{Contains-cases, Contains-map_from, Contains-map, only}
 use Rattle.base_tables.specs.Table.{AreDistinct}
-use Rattle.aiger_file.proofs.aiger_graph.net_assembly.DistinctLists.{distinct_nil, distinct_cons, distinct_append}
+use Rattle.aiger_read.proofs.aiger_file.aiger_graph.net_assembly.DistinctLists.{distinct_nil, distinct_cons, distinct_append}
 use Rattle.aiger_records.specs.declared.record.Record.{Record}
 use Rattle.aiger_records.specs.declared.record.Record.TheVariants.{Input, Latch, Output, Gate, Packed}
 use Rattle.aiger_records.specs.Faults.{defined_by, DefinesOnce}
-use Rattle.aiger_file.specs.declared.symbol.Named.{Named as Symbols}
-use Rattle.aiger_file.specs.declared.file.AigerFile.{AigerFile}
-use Rattle.aiger_file.specs.aiger_graph.Circuit.{LatchLine, circuit_of_file, constants, gate_of, is_used, inverter_of, gates_of, gates_in, latches_from, input_literals, latches_in, and_cover, not_cover, zero_cover, one_cover}
-use Rattle.aiger_file.specs.aiger_graph.Literals.{operands, reads_in}
-use Rattle.aiger_file.proofs.aiger_graph.ReadLiterals.{AreWell, IsGateHere, gates_from, inverter_from, gate_here}
-use Rattle.aiger_file.proofs.aiger_graph.NoLoops.{equation_cases, constant_cases}
+use Rattle.aiger_read.specs.declared.aiger_file.symbol.Named.{Named as Symbols}
+use Rattle.aiger_read.specs.declared.aiger_file.file.AigerFile.{AigerFile}
+use Rattle.aiger_read.specs.aiger_file.aiger_graph.Circuit.{LatchLine, circuit_of_file, constants, gate_of, is_used, inverter_of, gates_of, gates_in, latches_from, input_literals, latches_in, and_cover, not_cover, zero_cover, one_cover}
+use Rattle.aiger_read.specs.aiger_file.aiger_graph.Literals.{operands, reads_in}
+use Rattle.aiger_read.proofs.aiger_file.aiger_graph.ReadLiterals.{AreWell, IsGateHere, gates_from, inverter_from, gate_here}
+use Rattle.aiger_read.proofs.aiger_file.aiger_graph.NoLoops.{equation_cases, constant_cases}
 use Rattle.aiger_read.specs.SignalNames.{latch_literals}
 use Rattle.aiger_read.specs.Nets.{IsDrivenOnce}
 use Rattle.aiger_read.proofs.LiteralLists.{in_inputs, in_latch_literals, no_gate, input_not_latch, reading_gate, distinct_latches}

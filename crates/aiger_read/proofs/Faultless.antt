@@ -11,22 +11,22 @@ use Rattle.circuit_theory.specs.Interface.{◌or_else◌}
 use Rattle.circuit_theory.proofs.Lists.{All-from_each, Contains-head, Contains-tail, Contains-cases, at_of, only}
 use Rattle.base_tables.specs.Table.{is_among, AreDistinct}
 use Rattle.base_tables.proofs.TableLemmas.{Contains_not-is_among}
-use Rattle.aiger_file.proofs.aiger_graph.net_assembly.Rows.{slice_get-append}
-use Rattle.aiger_file.proofs.aiger_graph.net_assembly.DistinctLists.{distinct_nil, distinct_cons, distinct_append}
+use Rattle.aiger_read.proofs.aiger_file.aiger_graph.net_assembly.Rows.{slice_get-append}
+use Rattle.aiger_read.proofs.aiger_file.aiger_graph.net_assembly.DistinctLists.{distinct_nil, distinct_cons, distinct_append}
 use Rattle.aiger_records.specs.declared.header.Header.{Header}
 use Rattle.aiger_records.specs.declared.error.AigerKind.{AigerKind}
 use Rattle.aiger_records.specs.declared.error.AigerKind.TheVariants as kind
 use Rattle.aiger_records.specs.Headers.{guard, header_fault}
 use Rattle.aiger_records.specs.Records.{body_length}
 use Rattle.aiger_records.specs.Driven.{all_driven}
-use Rattle.aiger_file.specs.declared.symbol.Named.{Named}
-use Rattle.aiger_file.specs.Symbols.{Symbol, symbols_of, symbol_fault, count_of, is_bad_byte, is_bad_name}
-use Rattle.aiger_file.specs.Names.{key_of, name_beside, name_of, names_from, repeats}
-use Rattle.aiger_file.specs.declared.file.AigerFile.{AigerFile}
-use Rattle.aiger_file.specs.Reading.{at, fault_at, Headed, records_fault, first_symbol_fault, body_fault, body_of, headed, headed_fault, first_fault, those_there, file_with, spelled}
-use Rattle.aiger_file.specs.Whole.{file_fault, source_names, output_names}
-use Rattle.aiger_file.specs.Files.{IsKept, late_fault, fault_of_text}
-use Rattle.aiger_file.specs.aiger_graph.Circuit.{LatchLine, ports_from, input_literals, output_literals, latches_in}
+use Rattle.aiger_read.specs.declared.aiger_file.symbol.Named.{Named}
+use Rattle.aiger_read.specs.aiger_file.Symbols.{Symbol, symbols_of, symbol_fault, count_of, is_bad_byte, is_bad_name}
+use Rattle.aiger_read.specs.aiger_file.Names.{key_of, name_beside, name_of, names_from, repeats}
+use Rattle.aiger_read.specs.declared.aiger_file.file.AigerFile.{AigerFile}
+use Rattle.aiger_read.specs.aiger_file.Reading.{at, fault_at, Headed, records_fault, first_symbol_fault, body_fault, body_of, headed, headed_fault, first_fault, those_there, file_with, spelled}
+use Rattle.aiger_read.specs.aiger_file.Whole.{file_fault, source_names, output_names}
+use Rattle.aiger_read.specs.aiger_file.Files.{IsKept, late_fault, fault_of_text}
+use Rattle.aiger_read.specs.aiger_file.aiger_graph.Circuit.{LatchLine, ports_from, input_literals, output_literals, latches_in}
 use Rattle.aiger_read.specs.SignalNames.{latch_literals, sources_of}
 use Rattle.aiger_read.specs.Made.{IsFaultless}
 use Rattle.aiger_read.proofs.Naming.{ports_places, behind}

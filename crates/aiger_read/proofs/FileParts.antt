@@ -15,14 +15,14 @@ use Rattle.sec_base.specs.declared.basics.Init.TheVariants as init
 use Rattle.flat_net.specs.declared.signals.Signal.{Signal}
 use Rattle.flat_net.specs.declared.parts.LatchAt.{LatchAt}
 use Rattle.flat_net.specs.View.{equation_of_latch, start_of as net_start}
-use Rattle.aiger_file.specs.aiger_graph.net_assembly.Shown.{with_nexts}
+use Rattle.aiger_read.specs.aiger_file.aiger_graph.net_assembly.Shown.{with_nexts}
 use Rattle.aiger_records.specs.declared.record.Record.{Record}
 use Rattle.aiger_records.specs.Faults.{defined_by}
-use Rattle.aiger_file.specs.declared.symbol.Named.{Named as Symbols}
-use Rattle.aiger_file.specs.Names.{name_of}
-use Rattle.aiger_file.specs.aiger_graph.Circuit.{LatchLine, is_used, ports_from, latches_from, start_of}
-use Rattle.aiger_file.specs.aiger_graph.Literals.{operands, negated, reads_by, reads_among, reads_in}
-use Rattle.aiger_file.proofs.aiger_graph.ReadLiterals.{AreWell}
+use Rattle.aiger_read.specs.declared.aiger_file.symbol.Named.{Named as Symbols}
+use Rattle.aiger_read.specs.aiger_file.Names.{name_of}
+use Rattle.aiger_read.specs.aiger_file.aiger_graph.Circuit.{LatchLine, is_used, ports_from, latches_from, start_of}
+use Rattle.aiger_read.specs.aiger_file.aiger_graph.Literals.{operands, negated, reads_by, reads_among, reads_in}
+use Rattle.aiger_read.proofs.aiger_file.aiger_graph.ReadLiterals.{AreWell}
 use Rattle.aiger_read.specs.SignalNames.{init_of}
 use Rattle.aiger_read.specs.Signals.{literal_at}
 use Rattle.aiger_read.specs.Made.{LatchHead, heads_from, head_at, signal_at, nexts_of}

@@ -16,7 +16,7 @@ use Rattle.net_alike.specs.Renumbered.{latch_rows}
 use Rattle.net_alike.specs.FlatCircuit.{HasSignal, IsFlatCircuit}
 use Rattle.net_alike.proofs.Carrying.{map_fixed}
 use Rattle.base_tables.specs.Table.{AreDistinct}
-use Rattle.aiger_file.proofs.aiger_graph.net_assembly.Rows.{slice_get-take_to}
+use Rattle.aiger_read.proofs.aiger_file.aiger_graph.net_assembly.Rows.{slice_get-take_to}
 use Rattle.flat_net.specs.declared.signals.Signal.{Signal}
 use Rattle.flat_net.specs.declared.parts.Port.{Port as NetPort}
 use Rattle.flat_net.specs.declared.parts.LatchAt.{LatchAt}
@@ -25,21 +25,21 @@ use Rattle.flat_net.specs.declared.parts.Driver.TheVariants as driver
 use Rattle.flat_net.specs.View.{NetView, named, circuit_of, equation_of_gate, equation_of_latch, cover_of, start_of as net_start}
 use Rattle.flat_net.specs.Sound.{IsSound}
 use Rattle.flat_net.specs.Comparable.{IsComparable}
-use Rattle.aiger_file.specs.aiger_graph.net_assembly.Assembled.{IsAssembled}
-use Rattle.aiger_file.specs.aiger_graph.net_assembly.Shown.{with_nexts}
-use Rattle.aiger_file.proofs.aiger_graph.net_assembly.AssembledRuns.{assembled_is_flattened}
-use Rattle.aiger_file.proofs.aiger_graph.net_assembly.DistinctLists.{Contains-kept}
+use Rattle.aiger_read.specs.aiger_file.aiger_graph.net_assembly.Assembled.{IsAssembled}
+use Rattle.aiger_read.specs.aiger_file.aiger_graph.net_assembly.Shown.{with_nexts}
+use Rattle.aiger_read.proofs.aiger_file.aiger_graph.net_assembly.AssembledRuns.{assembled_is_flattened}
+use Rattle.aiger_read.proofs.aiger_file.aiger_graph.net_assembly.DistinctLists.{Contains-kept}
 use Rattle.aiger_records.specs.declared.record.Record.TheVariants.{Latch, Output}
-use Rattle.aiger_file.specs.declared.file.AigerFile.{AigerFile}
-use Rattle.aiger_file.specs.aiger_graph.Circuit.{LatchLine, circuit_of_file, constants, gates_in, latches_from, input_literals, output_literals, latches_in, start_of, zero_cover, one_cover}
-use Rattle.aiger_file.specs.aiger_graph.Literals.{reads_in, gate_at, cover_by}
+use Rattle.aiger_read.specs.declared.aiger_file.file.AigerFile.{AigerFile}
+use Rattle.aiger_read.specs.aiger_file.aiger_graph.Circuit.{LatchLine, circuit_of_file, constants, gates_in, latches_from, input_literals, output_literals, latches_in, start_of, zero_cover, one_cover}
+use Rattle.aiger_read.specs.aiger_file.aiger_graph.Literals.{reads_in, gate_at, cover_by}
 use Rattle.aiger_read.specs.SignalNames.{signal_name}
 use Rattle.aiger_read.specs.Signals.{is_gate, all_covers, all_literals, literal_at}
 use Rattle.aiger_read.specs.Made.{IsPlan, HasOutputs, signal_at, nexts_of}
 use Rattle.aiger_read.specs.Nets.{IsNetOf}
-use Rattle.aiger_file.proofs.aiger_graph.ReadLiterals.{IsGateHere, gate_made, gate_here, reads_below}
+use Rattle.aiger_read.proofs.aiger_file.aiger_graph.ReadLiterals.{IsGateHere, gate_made, gate_here, reads_below}
 use Rattle.aiger_read.proofs.LiteralLists.{in_outputs, in_latches, low_gate, reading_gate, gate_reads, gate_in, driven_in, reads_driven, reads_used, input_in, latch_in}
-use Rattle.aiger_file.proofs.aiger_graph.NoLoops.{equation_cases, constant_cases, no_latch_gate, no_port}
+use Rattle.aiger_read.proofs.aiger_file.aiger_graph.NoLoops.{equation_cases, constant_cases, no_latch_gate, no_port}
 use Rattle.aiger_read.proofs.FileParts.{names_behind, rows_behind, file_rows, moved_rows, moved_names, latch_line, port_literal, low_reads, latches_are, starts_are, inits_are, start_literal}
 use Rattle.aiger_read.proofs.Making.{size, fine, few, each, at_next}
 use Rattle.aiger_read.proofs.DrivenOnce.{driven_once}

@@ -11,18 +11,18 @@ use Rattle.std.proofs.lemmas.Option.{none-some, same_Some, slice_get_within, get
 use Rattle.circuit_theory.proofs.Lists.{Contains-head, Contains-tail, Contains-filter, Contains-map, Contains-map_from, filter_test, filter_map-from, at_of, only}
 use Rattle.base_tables.specs.Table.{AreDistinct}
 use Rattle.base_tables.proofs.TableLemmas.{take-push}
-use Rattle.aiger_file.proofs.aiger_graph.net_assembly.DistinctLists.{distinct_nil, distinct_cons, distinct_append, distinct_filter, Contains-kept}
-use Rattle.aiger_file.proofs.aiger_graph.net_assembly.Building.{list_all_place}
+use Rattle.aiger_read.proofs.aiger_file.aiger_graph.net_assembly.DistinctLists.{distinct_nil, distinct_cons, distinct_append, distinct_filter, Contains-kept}
+use Rattle.aiger_read.proofs.aiger_file.aiger_graph.net_assembly.Building.{list_all_place}
 use Rattle.aiger_records.specs.declared.record.Record.{Record}
 use Rattle.aiger_records.specs.declared.record.Record.TheVariants.{Input, Latch, Output, Gate, Packed}
 use Rattle.aiger_records.specs.Faults.{defined_by, is_literal, is_defined, DefinesOnce}
 use Rattle.aiger_records.specs.Driven.{used_by, is_driven, all_driven}
 use Rattle.aiger_records.proofs.DefinedOnce.{defined_there}
-use Rattle.aiger_file.specs.aiger_graph.Circuit.{LatchLine, is_used, input_of, output_of, latch_of, input_literals, output_literals, latches_in}
-use Rattle.aiger_file.specs.aiger_graph.Literals.{operands, reads_in}
+use Rattle.aiger_read.specs.aiger_file.aiger_graph.Circuit.{LatchLine, is_used, input_of, output_of, latch_of, input_literals, output_literals, latches_in}
+use Rattle.aiger_read.specs.aiger_file.aiger_graph.Literals.{operands, reads_in}
 use Rattle.aiger_read.specs.SignalNames.{latch_literals}
 use Rattle.aiger_read.specs.Signals.{is_gate, all_literals}
-use Rattle.aiger_file.proofs.aiger_graph.ReadLiterals.{AreWell, IsReader, reads_at, negation_reads, reader, operands_used}
+use Rattle.aiger_read.proofs.aiger_file.aiger_graph.ReadLiterals.{AreWell, IsReader, reads_at, negation_reads, reader, operands_used}
 
 -- what a function gives of some items of a list
 pub kept_has : {X Y : Type 0} (h : X → Option Y) (xs : List X) (j : ℕ) (x : X) (y : Y) → slice_get xs j ≡ Some x → h x ≡ Some y → Contains (filter_map h xs) y

@@ -19,23 +19,23 @@ use Rattle.flat_net.specs.declared.parts.Gate.{Gate as NetGate}
 use Rattle.flat_net.specs.View.{NetView, named, equation_of_gate}
 use Rattle.flat_net.specs.Makes.{MakerView, empty_net, with_input, with_latch, with_gate, with_output}
 use Rattle.flat_net.proofs.PlaceLists.{filter-take}
-use Rattle.aiger_file.proofs.aiger_graph.net_assembly.Rows.{same_or_not, slice_get-append, slice_get-set_same, slice_get-set_other, slice_get-take_to, length-set_is}
-use Rattle.aiger_file.proofs.aiger_graph.net_assembly.Building.{few_below}
-use Rattle.aiger_file.proofs.aiger_graph.net_assembly.DistinctLists.{Contains-kept}
+use Rattle.aiger_read.proofs.aiger_file.aiger_graph.net_assembly.Rows.{same_or_not, slice_get-append, slice_get-set_same, slice_get-set_other, slice_get-take_to, length-set_is}
+use Rattle.aiger_read.proofs.aiger_file.aiger_graph.net_assembly.Building.{few_below}
+use Rattle.aiger_read.proofs.aiger_file.aiger_graph.net_assembly.DistinctLists.{Contains-kept}
 use Rattle.aiger_records.specs.declared.record.Record.{Record}
 use Rattle.aiger_records.specs.declared.record.Record.TheVariants.{Input, Latch, Output, Gate, Packed}
-use Rattle.aiger_file.specs.declared.symbol.Named.{Named}
-use Rattle.aiger_file.specs.Names.{name_of}
-use Rattle.aiger_file.specs.declared.file.AigerFile.{AigerFile}
-use Rattle.aiger_file.specs.aiger_graph.Circuit.{LatchLine, is_used, ports_from, input_of, output_of, latch_of, input_literals, latches_in, zero_cover, one_cover}
-use Rattle.aiger_file.specs.aiger_graph.Literals.{negated, reads_among, reads_in, graph_of, gate_at, cover_by}
+use Rattle.aiger_read.specs.declared.aiger_file.symbol.Named.{Named}
+use Rattle.aiger_read.specs.aiger_file.Names.{name_of}
+use Rattle.aiger_read.specs.declared.aiger_file.file.AigerFile.{AigerFile}
+use Rattle.aiger_read.specs.aiger_file.aiger_graph.Circuit.{LatchLine, is_used, ports_from, input_of, output_of, latch_of, input_literals, latches_in, zero_cover, one_cover}
+use Rattle.aiger_read.specs.aiger_file.aiger_graph.Literals.{negated, reads_among, reads_in, graph_of, gate_at, cover_by}
 use Rattle.aiger_read.specs.SignalNames.{latch_literals, gate_name, signal_name, init_of}
 use Rattle.aiger_read.specs.Signals.{is_gate, all_covers, cover_number, all_literals, literal_at}
 use Rattle.aiger_read.specs.Made.{IsPlan, IsPlaced, IsNext, IsMade, LatchHead, heads_from, head_at, signal_at}
-use Rattle.aiger_file.proofs.aiger_graph.ReadLiterals.{AreWell, all_well, reads_below}
+use Rattle.aiger_read.proofs.aiger_file.aiger_graph.ReadLiterals.{AreWell, all_well, reads_below}
 use Rattle.aiger_read.proofs.LiteralLists.{kept_at, literals_once, literals_low, source_not_gate, driven_in, reads_driven, reads_used}
 use Rattle.aiger_read.proofs.Naming.{port_of, behind, input_name, latch_name, gate_name_is, names_once}
-use Rattle.aiger_file.proofs.aiger_graph.NoLoops.{graph_low}
+use Rattle.aiger_read.proofs.aiger_file.aiger_graph.NoLoops.{graph_low}
 
 -- the net without signals
 pub made_nothing : (f : AigerFile) (order : List ℕ) (maker : MakerView) (signals : List Signal) → maker ≡ record { net = record empty_net { covers = all_covers }; set = [] } → signals ≡ replicate (2 * f.header.greatest + 2) (record { 0 = 0 }) →

@@ -14,12 +14,12 @@ use Rattle.circuit_theory.proofs.Lists.{Contains-head, Contains-tail, at_of, of_
 use Rattle.circuit_theory.proofs.Numbers.{slice_get-map}
 use Rattle.base_tables.specs.Table.{AreDistinct}
 use Rattle.base_tables.proofs.TableLemmas.{key_at}
-use Rattle.aiger_file.proofs.aiger_graph.net_assembly.Rows.{slice_get-append}
-use Rattle.aiger_file.proofs.aiger_graph.net_assembly.DistinctLists.{distinct_tail}
-use Rattle.aiger_file.specs.declared.symbol.Named.{Named}
-use Rattle.aiger_file.specs.Names.{name_of}
-use Rattle.aiger_file.specs.declared.file.AigerFile.{AigerFile}
-use Rattle.aiger_file.specs.aiger_graph.Circuit.{ports_from, input_literals}
+use Rattle.aiger_read.proofs.aiger_file.aiger_graph.net_assembly.Rows.{slice_get-append}
+use Rattle.aiger_read.proofs.aiger_file.aiger_graph.net_assembly.DistinctLists.{distinct_tail}
+use Rattle.aiger_read.specs.declared.aiger_file.symbol.Named.{Named}
+use Rattle.aiger_read.specs.aiger_file.Names.{name_of}
+use Rattle.aiger_read.specs.declared.aiger_file.file.AigerFile.{AigerFile}
+use Rattle.aiger_read.specs.aiger_file.aiger_graph.Circuit.{ports_from, input_literals}
 use Rattle.aiger_read.specs.SignalNames.{gate_name, latch_literals, sources_of, name_among, signal_name}
 use Rattle.aiger_read.specs.Made.{IsFaultless}
 

@@ -12,15 +12,15 @@ use Rattle.flat_net.specs.declared.parts.Driver.TheVariants as driver
 use Rattle.flat_net.specs.View.{NetView}
 use Rattle.flat_net.specs.Sound.{IsSound}
 use Rattle.flat_net.specs.Makes.{MakerView, next_set, with_next}
-use Rattle.aiger_file.specs.aiger_graph.net_assembly.Shown.{with_nexts}
-use Rattle.aiger_file.proofs.aiger_graph.net_assembly.Nexts.{next_more, set_more, all_set}
+use Rattle.aiger_read.specs.aiger_file.aiger_graph.net_assembly.Shown.{with_nexts}
+use Rattle.aiger_read.proofs.aiger_file.aiger_graph.net_assembly.Nexts.{next_more, set_more, all_set}
 use Rattle.aiger_records.specs.declared.record.Record.{Record}
 use Rattle.aiger_records.specs.declared.record.Record.TheVariants.{Output, Latch}
 use Rattle.aiger_records.specs.Driven.{used_by}
-use Rattle.aiger_file.specs.declared.symbol.Named.{Named}
-use Rattle.aiger_file.specs.Names.{name_of}
-use Rattle.aiger_file.specs.declared.file.AigerFile.{AigerFile}
-use Rattle.aiger_file.specs.aiger_graph.Circuit.{LatchLine, ports_from, latch_of, output_of, input_literals, output_literals, latches_in}
+use Rattle.aiger_read.specs.declared.aiger_file.symbol.Named.{Named}
+use Rattle.aiger_read.specs.aiger_file.Names.{name_of}
+use Rattle.aiger_read.specs.declared.aiger_file.file.AigerFile.{AigerFile}
+use Rattle.aiger_read.specs.aiger_file.aiger_graph.Circuit.{LatchLine, ports_from, latch_of, output_of, input_literals, output_literals, latches_in}
 use Rattle.aiger_read.specs.SignalNames.{latch_literals, init_of}
 use Rattle.aiger_read.specs.Signals.{is_gate, all_literals, literal_at}
 use Rattle.aiger_read.specs.Made.{IsPlan, HasOutputs, LatchHead, heads_from, head_at, signal_at, nexts_of}

@@ -15,9 +15,9 @@ use Rattle.aiger_records.specs.declared.record.Section.TheVariants as section
 use Rattle.aiger_records.specs.declared.record.Record.{Record}
 use Rattle.aiger_records.specs.declared.record.Record.TheVariants.{Input, Latch, Output, Gate, Packed}
 use Rattle.aiger_records.specs.Records.{Taken, listed, input_lines, body_length, section_at, section_of, left_out, line_record, cut_record, second_difference, packed_record, is_packed, record_at, gate_literal, inputs_to, implied, followed_by}
-use Rattle.aiger_file.specs.declared.file.AigerFile.{AigerFile}
-use Rattle.aiger_file.specs.Reading.{body_with, body_from, body_of, those_there, file_with, Headed, headed, spelled}
-use Rattle.aiger_file.specs.aiger_graph.Circuit.{LatchLine, input_of, output_of, latch_of, input_literals, output_literals, latches_in}
+use Rattle.aiger_read.specs.declared.aiger_file.file.AigerFile.{AigerFile}
+use Rattle.aiger_read.specs.aiger_file.Reading.{body_with, body_from, body_of, those_there, file_with, Headed, headed, spelled}
+use Rattle.aiger_read.specs.aiger_file.aiger_graph.Circuit.{LatchLine, input_of, output_of, latch_of, input_literals, output_literals, latches_in}
 
 -- the section that a record is of
 abbrev section_by : Record → Section

@@ -2,3 +2,4 @@ pub mod Made
 pub mod Nets
 pub mod SignalNames
 pub mod Signals
+pub mod aiger_file

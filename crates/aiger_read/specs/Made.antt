@@ -10,14 +10,14 @@ use Rattle.flat_net.specs.declared.parts.Port.{Port as NetPort}
 use Rattle.flat_net.specs.declared.parts.Gate.{Gate as NetGate}
 use Rattle.flat_net.specs.declared.parts.LatchAt.{LatchAt}
 use Rattle.flat_net.specs.View.{NetView, named, equation_of_gate}
-use Rattle.aiger_file.specs.aiger_graph.net_assembly.Order.{IsOrder}
+use Rattle.aiger_read.specs.aiger_file.aiger_graph.net_assembly.Order.{IsOrder}
 use Rattle.aiger_records.specs.Driven.{all_driven}
-use Rattle.aiger_file.specs.declared.symbol.Named.{Named}
-use Rattle.aiger_file.specs.Names.{name_of}
-use Rattle.aiger_file.specs.aiger_graph.Circuit.{LatchLine, circuit_of_file, ports_from, input_literals, latches_in}
-use Rattle.aiger_file.specs.declared.file.AigerFile.{AigerFile}
-use Rattle.aiger_file.specs.Files.{IsKept}
-use Rattle.aiger_file.specs.aiger_graph.Literals.{gate_at, graph_of}
+use Rattle.aiger_read.specs.declared.aiger_file.symbol.Named.{Named}
+use Rattle.aiger_read.specs.aiger_file.Names.{name_of}
+use Rattle.aiger_read.specs.aiger_file.aiger_graph.Circuit.{LatchLine, circuit_of_file, ports_from, input_literals, latches_in}
+use Rattle.aiger_read.specs.declared.aiger_file.file.AigerFile.{AigerFile}
+use Rattle.aiger_read.specs.aiger_file.Files.{IsKept}
+use Rattle.aiger_read.specs.aiger_file.aiger_graph.Literals.{gate_at, graph_of}
 use Rattle.aiger_read.specs.SignalNames.{sources_of, signal_name, init_of}
 use Rattle.aiger_read.specs.Signals.{all_covers, all_literals, literal_at, is_gate}
 

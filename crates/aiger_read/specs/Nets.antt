@@ -18,13 +18,13 @@ use Rattle.aiger_records.specs.declared.error.AigerKind.{AigerKind}
 use Rattle.aiger_records.specs.declared.error.AigerKind.TheVariants as kind
 use Rattle.aiger_records.specs.Headers.{header_of}
 use Rattle.aiger_records.specs.Records.{record_at}
-use Rattle.aiger_file.specs.Symbols.{symbol_of}
-use Rattle.aiger_file.specs.declared.file.AigerFile.{AigerFile}
-use Rattle.aiger_file.specs.Reading.{spelled, at, body_of}
-use Rattle.aiger_file.specs.Whole.{file_fault}
-use Rattle.aiger_file.specs.Files.{fault_of_text}
-use Rattle.aiger_file.specs.aiger_graph.Circuit.{circuit_of_file, constants, not_cover}
-use Rattle.aiger_file.specs.aiger_graph.Loops.{HasLoop}
+use Rattle.aiger_read.specs.aiger_file.Symbols.{symbol_of}
+use Rattle.aiger_read.specs.declared.aiger_file.file.AigerFile.{AigerFile}
+use Rattle.aiger_read.specs.aiger_file.Reading.{spelled, at, body_of}
+use Rattle.aiger_read.specs.aiger_file.Whole.{file_fault}
+use Rattle.aiger_read.specs.aiger_file.Files.{fault_of_text}
+use Rattle.aiger_read.specs.aiger_file.aiger_graph.Circuit.{circuit_of_file, constants, not_cover}
+use Rattle.aiger_read.specs.aiger_file.aiger_graph.Loops.{HasLoop}
 use Rattle.aiger_read.specs.SignalNames.{signal_name, inits_of}
 
 -- each place is driven by one equation at most, counted by its place in the list, and the inputs by none

@@ -5,8 +5,8 @@ use Rattle.circuit_theory.specs.Circuit.{Named as Port}
 use Rattle.sec_base.specs.declared.basics.Init.{Init}
 use Rattle.sec_base.specs.declared.basics.Init.TheVariants as init
 use Rattle.aiger_records.specs.declared.record.Record.{Record}
-use Rattle.aiger_file.specs.aiger_graph.Circuit.{LatchLine, ports_from, input_literals, latches_in}
-use Rattle.aiger_file.specs.declared.file.AigerFile.{AigerFile}
+use Rattle.aiger_read.specs.aiger_file.aiger_graph.Circuit.{LatchLine, ports_from, input_literals, latches_in}
+use Rattle.aiger_read.specs.declared.aiger_file.file.AigerFile.{AigerFile}
 
 -- the name of the gate of a literal: `#v` of variable v, `#v!` of its negation
 abbrev pub gate_name : ℕ → List ℕ

@@ -1,8 +1,8 @@
 //! What latches take over, and the finished net.
 
 ghost use Rattle.std.specs.Prelude.{◌≡◌, true, [], All, IfOk};
-ghost use Rattle.aiger_file.specs.aiger_graph.net_assembly.Shown.{with_nexts};
-ghost use Rattle.aiger_file.specs.aiger_graph.Circuit.{latches_in, output_literals};
+ghost use Rattle.aiger_read.specs.aiger_file.aiger_graph.net_assembly.Shown.{with_nexts};
+ghost use Rattle.aiger_read.specs.aiger_file.aiger_graph.Circuit.{latches_in, output_literals};
 ghost use Rattle.aiger_read.specs.Made.{IsPlan, IsMade, HasOutputs, nexts_of};
 ghost use Rattle.aiger_read.specs.Nets.{IsNetOf};
 

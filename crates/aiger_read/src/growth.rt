@@ -2,7 +2,7 @@
 
 ghost use Rattle.std.specs.Prelude.{◌≡◌, ◌+◌, ◌*◌, ◌<◌, true, [], length, map, take, slice_get, Some, All, OnOk};
 ghost use Rattle.std.specs.List.{filter};
-ghost use Rattle.aiger_file.specs.aiger_graph.Circuit.{input_literals, latches_in, output_literals};
+ghost use Rattle.aiger_read.specs.aiger_file.aiger_graph.Circuit.{input_literals, latches_in, output_literals};
 ghost use Rattle.aiger_read.specs.Signals.{is_gate};
 ghost use Rattle.aiger_read.specs.SignalNames.{init_of};
 ghost use Rattle.aiger_read.specs.Made.{IsPlan, IsMade, HasGates, HasOutputs};

@@ -3,6 +3,7 @@
 //! The formats are those of the AIGER format, version 20071012, with the resets of version 1.9.
 #![tactic(auto)]
 
+pub mod aiger_file;
 mod assembly;
 mod covers;
 mod finish;
@@ -10,5 +11,5 @@ mod growth;
 mod plan;
 mod reader;
 
-pub use aiger_file::{AigerError, AigerKind};
+pub use crate::aiger_file::{AigerError, AigerKind};
 pub use reader::read_aiger;

@@ -1,11 +1,11 @@
 //! What a net is made by.
 
 ghost use Rattle.std.specs.Prelude.{◌≡◌, ◌+◌, ◌*◌, ◌<◌};
-ghost use Rattle.aiger_file.specs.aiger_graph.Literals.{reads_in};
+ghost use Rattle.aiger_read.specs.aiger_file.aiger_graph.Literals.{reads_in};
 ghost use Rattle.aiger_read.specs.Signals.{is_gate};
 ghost use Rattle.aiger_read.specs.Made.{IsPlan};
 
-use aiger_file::AigerFile;
+use crate::aiger_file::AigerFile;
 use sec_base::Ids;
 
 /// A file without a fault, what its literals read, and an order in which each stands behind those that it reads.

@@ -3,10 +3,10 @@
 ghost use Rattle.std.specs.Prelude.{◌≤◌, length};
 ghost use Rattle.aiger_read.specs.Nets.{ReadsNet};
 
+use crate::aiger_file::aiger_graph::{Ordered, order_literals};
+use crate::aiger_file::{AigerError, AigerKind, read_file};
 use crate::finish::make;
 use crate::plan::Plan;
-use aiger_file::aiger_graph::{Ordered, order_literals};
-use aiger_file::{AigerError, AigerKind, read_file};
 use flat_net::Net;
 use std::alloc::Global;
 

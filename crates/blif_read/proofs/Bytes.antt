@@ -4,8 +4,8 @@ use Rattle.std.specs.List.{slice_split, onto_first, before_first, position_or_le
 use Rattle.std.specs.Io.BufRead.{strip_last, ends_with_byte}
 use Rattle.std.proofs.lemmas.List.Sums.{length-filter, count_by-le-length}
 use Rattle.std.proofs.lemmas.List.Splits.{length-slice_split}
-use Rattle.blif_lines.specs.declared.line.RawLine.{RawLine}
-use Rattle.blif_lines.specs.Lines.{is_blank, is_hash, is_empty, cut_line, going_on, raw_line, before_line, join_line, joined_lines, raw_lines, physical_lines, tokens_of, is_line_feed}
+use Rattle.blif_read.specs.declared.blif_lines.line.RawLine.{RawLine}
+use Rattle.blif_read.specs.blif_lines.Lines.{is_blank, is_hash, is_empty, cut_line, going_on, raw_line, before_line, join_line, joined_lines, raw_lines, physical_lines, tokens_of, is_line_feed}
 use Rattle.blif_read.specs.State.{bytes_of}
 
 take_shorter : {X : Type 0} (n : ℕ) (xs : List X) → length (take n xs) ≤ length xs

@@ -4,8 +4,8 @@ use mathlib.Core.List.{reverse_aux}
 use Rattle.std.specs.List.{filter, slice_split, onto_first}
 use Rattle.std.specs.Io.BufRead.{ends_with_byte}
 use Rattle.base_tables.specs.Table.{is_among}
-use Rattle.blif_lines.specs.declared.line.RawLine.{RawLine}
-use Rattle.blif_lines.specs.Lines.{TokenLine, is_blank, is_line_feed, is_empty, cut_line, going_on, raw_line, before_line, joined_lines, raw_lines, physical_lines, tokens_of, token_line}
+use Rattle.blif_read.specs.declared.blif_lines.line.RawLine.{RawLine}
+use Rattle.blif_read.specs.blif_lines.Lines.{TokenLine, is_blank, is_line_feed, is_empty, cut_line, going_on, raw_line, before_line, joined_lines, raw_lines, physical_lines, tokens_of, token_line}
 use Rattle.blif_read.specs.declared.head.Head.{Head}
 use Rattle.blif_read.specs.declared.head.Head.TheVariants as head
 use Rattle.blif_read.specs.declared.design.BlifModel.{BlifModel}

@@ -6,7 +6,7 @@ use Rattle.std.proofs.lemmas.List.{append-nil}
 use Rattle.std.proofs.lemmas.Bool.{eqb-true}
 use Rattle.circuit_theory.specs.Interface.{◌or_else◌}
 use Rattle.base_tables.specs.Table.{is_among}
-use Rattle.blif_lines.specs.Lines.{is_empty}
+use Rattle.blif_read.specs.blif_lines.Lines.{is_empty}
 use Rattle.blif_read.specs.declared.head.Head.{Head}
 use Rattle.blif_read.specs.declared.head.Head.TheVariants as head
 use Rattle.blif_read.specs.declared.error.ReadKind.{ReadKind}

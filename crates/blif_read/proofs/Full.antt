@@ -3,8 +3,8 @@ use Rattle.std.proofs.Common.{◌≡◌, ℕ, ◌<◌, ◌≤◌, nat_le, Bool, 
 use Rattle.std.specs.List.{list_all, filter, slice_split, before_first, after_first}
 use Rattle.std.proofs.lemmas.Bool.{leb-true, le-leb}
 use Rattle.base_tables.specs.Table.{is_among}
-use Rattle.blif_lines.specs.declared.line.RawLine.{RawLine}
-use Rattle.blif_lines.specs.Lines.{TokenLine, is_empty, is_blank, tokens_of, token_line, raw_lines}
+use Rattle.blif_read.specs.declared.blif_lines.line.RawLine.{RawLine}
+use Rattle.blif_read.specs.blif_lines.Lines.{TokenLine, is_empty, is_blank, tokens_of, token_line, raw_lines}
 use Rattle.blif_read.specs.declared.head.Head.{Head}
 use Rattle.blif_read.specs.declared.head.Head.TheVariants as head
 use Rattle.blif_read.specs.declared.error.ReadKind.TheVariants as kind

@@ -1,8 +1,8 @@
 -- Lines one after another.
 use Rattle.std.proofs.Common.{◌≡◌, ℕ, not, cond, List, [], ◌∷◌, map, refl, sym, ◌∙◌, ap, subst, Some, Result, Ok, Err}
 use Rattle.std.specs.List.{filter}
-use Rattle.blif_lines.specs.declared.line.RawLine.{RawLine}
-use Rattle.blif_lines.specs.Lines.{TokenLine, tokens_of, is_empty, token_line}
+use Rattle.blif_read.specs.declared.blif_lines.line.RawLine.{RawLine}
+use Rattle.blif_read.specs.blif_lines.Lines.{TokenLine, tokens_of, is_empty, token_line}
 use Rattle.blif_read.specs.declared.error.ReadError.{ReadError}
 use Rattle.blif_read.specs.declared.error.ReadError.TheVariants as read
 use Rattle.blif_read.specs.declared.stop.Stop.{Stop}

@@ -2,7 +2,7 @@
 use Rattle.std.proofs.Common.{◌≡◌, ℕ, ◌+◌, ◌<◌, ◌≤◌, Bool, true, false, ◌&&◌, List, [], ◌∷◌, length, take, drop, get_or, refl, sym, ◌∙◌, ap, arith, length-drop, length-take}
 use Rattle.std.specs.List.{before_first, after_first, position_or_len}
 use Rattle.std.proofs.lemmas.List.Sums.{position_or_len_is}
-use Rattle.blif_lines.specs.Lines.{is_empty}
+use Rattle.blif_read.specs.blif_lines.Lines.{is_empty}
 use Rattle.blif_read.specs.Spelled.{is_equals}
 use Rattle.blif_read.specs.Fault.{is_pair}
 

@@ -5,8 +5,8 @@ use Rattle.std.specs.Io.BufRead.{strip_last, ends_with_byte}
 use Rattle.std.proofs.lemmas.List.{get_or-take}
 use Rattle.std.proofs.lemmas.List.Sums.{fails_before_first}
 use Rattle.base_tables.specs.Table.{is_among}
-use Rattle.blif_lines.specs.declared.line.RawLine.{RawLine}
-use Rattle.blif_lines.specs.Lines.{TokenLine, is_blank, is_hash, is_empty, cut_line, going_on, raw_line, before_line, join_line, joined_lines, raw_lines, physical_lines, tokens_of, token_line}
+use Rattle.blif_read.specs.declared.blif_lines.line.RawLine.{RawLine}
+use Rattle.blif_read.specs.blif_lines.Lines.{TokenLine, is_blank, is_hash, is_empty, cut_line, going_on, raw_line, before_line, join_line, joined_lines, raw_lines, physical_lines, tokens_of, token_line}
 use Rattle.blif_read.specs.declared.head.Head.{Head}
 use Rattle.blif_read.specs.declared.head.Head.TheVariants as head
 use Rattle.blif_read.specs.declared.design.BlifModel.{BlifModel}

@@ -3,7 +3,7 @@ use Rattle.std.proofs.Common.{◌≡◌, ℕ, Bool, true, false, ◌&&◌, ◌||
 use Rattle.std.specs.List.{list_all}
 use Rattle.std.proofs.lemmas.Bool.{eqb-true}
 use Rattle.std.proofs.lemmas.List.Sums.{AllPass-from_list_all}
-use Rattle.blif_lines.specs.sec_base.Cover.{IsPlace, IsCube}
+use Rattle.blif_read.specs.blif_lines.sec_base.Cover.{IsPlace, IsCube}
 use Rattle.blif_read.specs.Rows.{is_row, is_place, places_of, is_output}
 
 pub both_left : (a b : Bool) → (a && b) ≡ true → a ≡ true

@@ -1,8 +1,8 @@
 -- The first fault and the models of texts that the tests read too, computed from the definitions.
 use Rattle.std.specs.Prelude.{◌≡◌, false, [], ◌∷◌, Some, None, codes, refl}
-use Rattle.blif_lines.specs.sec_base.declared.basics.Init.TheVariants as init
-use Rattle.blif_lines.specs.sec_base.declared.basics.Edge.TheVariants as edge
-use Rattle.blif_lines.specs.Lines.{cut_line, going_on}
+use Rattle.blif_read.specs.blif_lines.sec_base.declared.basics.Init.TheVariants as init
+use Rattle.blif_read.specs.blif_lines.sec_base.declared.basics.Edge.TheVariants as edge
+use Rattle.blif_read.specs.blif_lines.Lines.{cut_line, going_on}
 use Rattle.blif_read.specs.declared.error.ReadKind.TheVariants as kind
 use Rattle.blif_read.specs.declared.design.Statement.TheVariants.{Names, Latch}
 use Rattle.blif_read.specs.Heads.{head_of}

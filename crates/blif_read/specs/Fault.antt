@@ -2,8 +2,8 @@
 use Rattle.std.specs.Prelude.{ℕ, ◌==◌, nat_lt, ◌&&◌, ◌||◌, not, Bool, true, false, List, [], ◌∷◌, ◌++◌, length, Option, Some, None, codes}
 use Rattle.std.specs.List.{list_any, list_all, before_first, after_first}
 use Rattle.circuit_theory.specs.Interface.{◌or_else◌}
-use Rattle.blif_lines.specs.sec_base.declared.limits.TheConstants.{MAX_NAME_BYTES}
-use Rattle.blif_lines.specs.Lines.{is_empty}
+use Rattle.blif_read.specs.blif_lines.sec_base.declared.limits.TheConstants.{MAX_NAME_BYTES}
+use Rattle.blif_read.specs.blif_lines.Lines.{is_empty}
 use Rattle.base_tables.specs.Table.{is_among}
 use Rattle.blif_read.specs.declared.head.Head.{Head}
 use Rattle.blif_read.specs.declared.head.Head.TheVariants as head

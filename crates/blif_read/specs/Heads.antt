@@ -1,7 +1,7 @@
 -- What a line begins with, and the lines of a text by it.
 use Rattle.std.specs.Prelude.{ℕ, ◌==◌, nat_le, ◌&&◌, Bool, true, false, if◌then◌else◌, List, [], ◌∷◌, map, codes, bytes_eq}
 use Rattle.base_tables.specs.Table.{is_among}
-use Rattle.blif_lines.specs.Lines.{TokenLine, logical_lines}
+use Rattle.blif_read.specs.blif_lines.Lines.{TokenLine, logical_lines}
 use Rattle.blif_read.specs.declared.head.Head.{Head}
 use Rattle.blif_read.specs.declared.head.Head.TheVariants as head
 

@@ -1,7 +1,7 @@
 -- What the models of a text keep.
 use Rattle.std.specs.Prelude.{ℕ, ◌==◌, ◌&&◌, not, map, Bool, true, List, [], ◌∷◌, ◌++◌, length, Option, Some, None}
 use Rattle.std.specs.List.{list_all}
-use Rattle.blif_lines.specs.Lines.{is_hash}
+use Rattle.blif_read.specs.blif_lines.Lines.{is_hash}
 use Rattle.blif_read.specs.declared.design.BlifModel.{BlifModel}
 use Rattle.blif_read.specs.declared.design.Pair.{Pair}
 use Rattle.blif_read.specs.declared.design.Statement.{Statement}

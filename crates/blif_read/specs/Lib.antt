@@ -6,4 +6,5 @@ pub mod Reading
 pub mod Rows
 pub mod Spelled
 pub mod State
-pub use Rattle.blif_lines.specs.sec_base
+pub mod blif_lines
+pub use Rattle.sec_base.specs as sec_base

@@ -3,17 +3,17 @@
 ghost use Rattle.std.specs.Prelude.{◌≡◌, ◌<◌, ◌^◌, ◌∷◌, ◌++◌, [], ℕ, List, length, map, IfOk};
 ghost use Rattle.blif_read.specs.Heads.{but_last, last_or_empty};
 ghost use Rattle.blif_read.specs.Rows.{cover_of};
-ghost use Rattle.blif_lines.specs.sec_base.Cover.{IsCube};
+ghost use Rattle.blif_read.specs.blif_lines.sec_base.Cover.{IsCube};
 ghost use Rattle.blif_read.specs.Fault.{row_fault_after};
 ghost use Rattle.blif_read.specs.State.{TookAnd};
 ghost use Rattle.blif_read.specs.declared.design.Statement.TheVariants as statement;
 
+use crate::blif_lines::{Cover, NoMemory, Seq, Word, Words};
 use crate::design::Statement;
 use crate::error::ReadKind;
 use crate::names::{word_of, words_of};
 use crate::rows::{is_on, is_row, places_of};
 use crate::stop::{Stop, fault};
-use blif_lines::{Cover, NoMemory, Seq, Word, Words};
 use std::alloc::Global;
 
 /// A `.names` line, and the cover of the rows that were read so far.

@@ -2,12 +2,12 @@
 
 ghost use Rattle.std.specs.Prelude.{◌≡◌, ◌<◌, ◌≤◌, [], true, false, not, length};
 ghost use Rattle.std.specs.List.{list_all};
-ghost use Rattle.blif_lines.specs.sec_base.declared.limits.TheConstants.{MAX_FILE_BYTES};
+ghost use Rattle.blif_read.specs.blif_lines.sec_base.declared.limits.TheConstants.{MAX_FILE_BYTES};
 ghost use Rattle.blif_read.specs.Kept.{is_plain, covers_fit, written_names, model_names, ports_distinct};
 ghost use Rattle.blif_read.specs.Fault.{repeats};
-ghost use Rattle.blif_lines.specs.Lines.{is_empty};
+ghost use Rattle.blif_read.specs.blif_lines.Lines.{is_empty};
 
-use blif_lines::{Cover, Edge, Init, Seq, Word, Words};
+use crate::blif_lines::{Cover, Edge, Init, Seq, Word, Words};
 
 /// A pair of a `.subckt` statement: a signal name of the model that is used, and the signal of the model around it.
 #[derive(Drop)]

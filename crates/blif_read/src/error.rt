@@ -3,7 +3,7 @@
 ghost use Rattle.std.specs.Prelude.{◌≡◌};
 ghost use Rattle.blif_read.specs.declared.error.ReadError.TheVariants as read;
 
-use blif_lines::{NoMemory, Word};
+use crate::blif_lines::{NoMemory, Word};
 
 /// What is wrong with a line.
 #[derive(Drop)]

@@ -6,8 +6,8 @@ ghost use Rattle.blif_read.specs.Heads.{head_of, dot_head, begins_with_dot, coun
 ghost use Rattle.base_tables.specs.Table.{is_among};
 ghost use Rattle.blif_read.specs.Fault.{is_control, is_long, is_model_head, gate};
 
+use crate::blif_lines::MAX_NAME_BYTES;
 use crate::error::ReadKind;
-use blif_lines::MAX_NAME_BYTES;
 
 /// What the first token of a line says the line is.
 #[derive(Clone, Copy)]

@@ -4,6 +4,7 @@
 //! of California, Berkeley), in the profile that docs/ describes.
 #![tactic(auto)]
 
+pub mod blif_lines;
 mod block;
 mod design;
 mod error;
@@ -15,7 +16,7 @@ mod rows;
 mod statements;
 mod stop;
 
-pub use blif_lines::{
+pub use crate::blif_lines::{
     Edge, Ids, Init, MAX_LEVELS, MAX_NAME_BYTES, MAX_PLACES, MAX_STATEMENTS, NameTable, NoMemory,
     Seq, Word, Words, put, put_number,
 };

@@ -4,7 +4,7 @@ ghost use Rattle.std.specs.Prelude.{◌≡◌, ◌++◌, true, not, map, IfOk, O
 ghost use Rattle.blif_read.specs.Fault.{repeats};
 ghost use Rattle.blif_read.specs.Spelled.{with_new};
 
-use blif_lines::{NameTable, NoMemory, Seq, Word, Words};
+use crate::blif_lines::{NameTable, NoMemory, Seq, Word, Words};
 use std::alloc::Global;
 
 /// The token as a word of its own.

@@ -7,6 +7,7 @@ ghost use Rattle.blif_read.specs.Fault.{own_fault, row_fault, last_names};
 ghost use Rattle.blif_read.specs.State.{TookAnd, TookIn, MeansOpen, MeansEnded, line_with, stays};
 ghost use Rattle.blif_read.specs.declared.head.Head.TheVariants as head;
 
+use crate::blif_lines::{NameTable, NoMemory, Seq, Word, Words};
 use crate::block::Block;
 use crate::design::{BlifModel, Statement, Statements};
 use crate::error::ReadKind;
@@ -14,7 +15,6 @@ use crate::head::Head;
 use crate::names::{add_names, add_new};
 use crate::statements::{latch_of, subckt_of};
 use crate::stop::{Stop, fault};
-use blif_lines::{NameTable, NoMemory, Seq, Word, Words};
 use std::alloc::Global;
 use std::mem;
 

@@ -1,7 +1,7 @@
 //! Reads a text line by line into a design.
 
 ghost use Rattle.std.specs.Prelude.{◌≡◌, ◌<◌, ◌≤◌, ◌^◌, ◌∷◌, [], ◌&&◌, not, ℕ, List, true, false, is_none, length, map, IfOk, OnOk};
-ghost use Rattle.blif_lines.specs.Lines.{tokens_of};
+ghost use Rattle.blif_read.specs.blif_lines.Lines.{tokens_of};
 ghost use Rattle.blif_read.specs.Heads.{Line, line_of, count_fits};
 ghost use Rattle.blif_read.specs.Spelled.{models_of};
 ghost use Rattle.blif_read.specs.Fault.{fault_of, word_fault, row_line_fault, open_model, is_model_head};
@@ -9,13 +9,15 @@ ghost use Rattle.blif_read.specs.Reading.{Reads};
 ghost use Rattle.blif_read.specs.State.{Means, TookAnd, TookWord, TookLine, TookLines, ReadModels, line_with, is_word, stays, refusal_at};
 ghost use Rattle.blif_read.specs.declared.head.Head.TheVariants as head;
 
+use crate::blif_lines::{
+    Lines, MAX_FILE_BYTES, NameTable, NoMemory, RawLine, Seq, Word, tokens_of,
+};
 use crate::design::{BlifModels, Design};
 use crate::error::{ReadError, ReadKind};
 use crate::head::{Head, any_control, gate, head_of};
 use crate::names::word_of;
 use crate::open_model::OpenModel;
 use crate::stop::{Stop, fault};
-use blif_lines::{Lines, MAX_FILE_BYTES, NameTable, NoMemory, RawLine, Seq, Word, tokens_of};
 use std::alloc::Global;
 use std::mem;
 

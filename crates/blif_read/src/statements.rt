@@ -11,12 +11,12 @@ ghost use Rattle.blif_read.specs.State.{TookStatement, TookEdge, TookInit};
 ghost use Rattle.blif_read.specs.declared.error.ReadKind.TheVariants as kind;
 ghost use Rattle.blif_read.specs.declared.design.Statement.TheVariants as statement;
 
+use crate::blif_lines::{Edge, Init, NoMemory, Seq, Word};
 use crate::design::{Pair, Pairs, Statement};
 use crate::error::ReadKind;
 use crate::head::is_among;
 use crate::names::word_of;
 use crate::stop::Stop;
-use blif_lines::{Edge, Init, NoMemory, Seq, Word};
 use std::alloc::Global;
 
 static LEVEL_TYPES: [&[u8]; 3] = [b"ah", b"al", b"as"];

@@ -3,8 +3,8 @@
 ghost use Rattle.std.specs.Prelude.{◌≡◌};
 ghost use Rattle.blif_read.specs.declared.stop.Stop.TheVariants as stop;
 
+use crate::blif_lines::NoMemory;
 use crate::error::ReadKind;
-use blif_lines::NoMemory;
 use std::alloc::{AllocError, AllocFailed};
 
 /// Why the reading ends early.

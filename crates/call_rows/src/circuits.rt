@@ -7,7 +7,7 @@ ghost use Rattle.signal_graph.specs.Graph.{IsGraphIn};
 use blif_read::read_design;
 use flat_net::{Net, Signal, Signals};
 use flatten::flatten;
-use latch_cone::none_enabled;
+use inner_cone::latch_cone::none_enabled;
 use latch_graph::{LatchGraph, Weight};
 use row_text::{file_of, show, show_count};
 use sec_base::{Ids, MAX_FILE_BYTES, NoMemory};

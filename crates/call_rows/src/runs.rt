@@ -5,7 +5,7 @@ ghost use Rattle.std.specs.Prelude.{◌≡◌, ◌<◌, IfOk};
 use crate::circuits::net_of;
 use cycle_sim::{MarkedSim, Power};
 use flat_net::Net;
-use latch_cone::none_enabled;
+use inner_cone::latch_cone::none_enabled;
 use row_text::{show, split_at};
 use sec_base::NoMemory;
 use std::alloc::Global;

@@ -27,9 +27,9 @@ use Rattle.class_queries.specs.Enables.{both_of, class_map}
 use Rattle.class_search.specs.declared.class.Class.{Class}
 use Rattle.class_search.specs.declared.told.Difference.{Difference}
 use Rattle.class_search.specs.declared.told.Told.{Told}
-use Rattle.class_extension.specs.Laws.{IsNextGiven}
-use Rattle.class_extension.specs.Telling.{TellsApart, TellsFromAlways}
-use Rattle.class_extension.proofs.Keeping.{variables_stay_in_nets, separations_stay_in_nets, separations_begin_in_nets}
+use Rattle.reset_laws.specs.class_extension.Laws.{IsNextGiven}
+use Rattle.reset_laws.specs.class_extension.Telling.{TellsApart, TellsFromAlways}
+use Rattle.reset_laws.proofs.class_extension.Keeping.{variables_stay_in_nets, separations_stay_in_nets, separations_begin_in_nets}
 use Rattle.class_separations.specs.declared.apart.Apart.{Apart}
 use Rattle.class_separations.specs.Telling.{HasKept, IsApartOf, always_apart}
 use Rattle.class_separations.specs.Apart.{IsSeparationBy, IsApart, AreApart, HaveOwnVariables, AreToldApart, AreTakenMembers, IsToldOf, AreToldOf, pairs_below, number_of}

@@ -22,7 +22,7 @@ use Rattle.class_queries.specs.Enables.{both_of, IsEnableFunction}
 use Rattle.class_queries.specs.Laws.{AreKept}
 use Rattle.class_search.specs.declared.told.Difference.{Difference}
 use Rattle.class_search.specs.Told.{IsAlwaysTold}
-use Rattle.class_extension.specs.Telling.{TellsApart, TellsFromAlways}
+use Rattle.reset_laws.specs.class_extension.Telling.{TellsApart, TellsFromAlways}
 use Rattle.class_separations.proofs.Variables.{takes_bits, merged_variables}
 
 both_true : (b c : Bool) → b && c ≡ true → (b ≡ true) × (c ≡ true)

@@ -11,7 +11,7 @@ use Rattle.pair_decide.specs.Queries.{assigned_to}
 use Rattle.class_search.specs.declared.compare.Enable.{Enable}
 use Rattle.class_queries.specs.Enables.{both_of}
 use Rattle.class_search.specs.event_nodes.View.{EventCircuitView}
-use Rattle.class_extension.specs.Telling.{TellsApart, TellsFromAlways}
+use Rattle.reset_laws.specs.class_extension.Telling.{TellsApart, TellsFromAlways}
 use Rattle.class_search.specs.declared.class.Class.{Class}
 use Rattle.class_search.specs.declared.told.Difference.{Difference}
 use Rattle.class_search.specs.declared.told.Told.{Told}

@@ -22,10 +22,10 @@ use Rattle.event_variables.specs.event_nodes.View.{EventCircuitView, side_of, En
 use Rattle.event_variables.specs.event_nodes.Visited.{CounterView, IsVisitedPair, AreNodesFrom, HoldsNodes}
 use Rattle.class_queries.specs.event_walk.Walk.{IsCounting, HasCountedStart, enable_start}
 use Rattle.class_queries.specs.Enables.{both_of, class_map}
-use Rattle.class_extension.specs.Sides.{AreStartsOfBoth, IsEnableAmong, moved_start}
-use Rattle.class_extension.specs.Laws.{IsNextGiven, UnfoldAlike}
-use Rattle.class_extension.proofs.Sides.{sides_reach_nodes_in_nets}
-use Rattle.class_extension.proofs.Visits.{visits_stay_in_nets}
+use Rattle.reset_laws.specs.class_extension.Sides.{AreStartsOfBoth, IsEnableAmong, moved_start}
+use Rattle.reset_laws.specs.class_extension.Laws.{IsNextGiven, UnfoldAlike}
+use Rattle.reset_laws.proofs.class_extension.Sides.{sides_reach_nodes_in_nets}
+use Rattle.reset_laws.proofs.class_extension.Visits.{visits_stay_in_nets}
 use Rattle.class_totals.specs.Totals.{HaveCounted, HasNodes}
 use Rattle.class_totals.specs.Laws.{TotalsBegin, TotalsStay, TotalsGoOn}
 use Rattle.class_totals.proofs.Nodes.{node_none, root_path, nodes_more, counted_later, counted_more, counted_alike}

@@ -18,7 +18,7 @@ use Rattle.event_variables.proofs.event_nodes.Paths.{path_grows}
 use Rattle.event_variables.proofs.event_nodes.Visits.{visits_more}
 use Rattle.class_queries.specs.event_walk.Walk.{IsCounting, HasCountedStart}
 use Rattle.event_functions.proofs.Totaling.{pair_later}
-use Rattle.class_extension.specs.Laws.{UnfoldAlike}
+use Rattle.reset_laws.specs.class_extension.Laws.{UnfoldAlike}
 use Rattle.class_totals.specs.Totals.{HasNodes}
 
 module _ {P : Type 0} (s : EventSide P) where

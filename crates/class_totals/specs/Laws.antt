@@ -13,7 +13,7 @@ use Rattle.event_variables.specs.event_nodes.View.{EventCircuitView, side_of, En
 use Rattle.event_variables.specs.event_nodes.Visited.{CounterView, IsVisitedPair, AreNodesFrom, HoldsNodes}
 use Rattle.class_queries.specs.event_walk.Walk.{IsCounting, HasCountedStart, enable_start}
 use Rattle.class_queries.specs.Enables.{class_map}
-use Rattle.class_extension.specs.Laws.{IsNextGiven}
+use Rattle.reset_laws.specs.class_extension.Laws.{IsNextGiven}
 use Rattle.class_totals.specs.Totals.{HaveCounted, AreWithin, ReachTooMany, ReachFew, WeighTooMuch}
 
 abbrev pub nothing : CounterView

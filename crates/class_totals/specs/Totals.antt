@@ -12,7 +12,7 @@ use Rattle.event_variables.specs.event_nodes.Nodes.{path_of}
 use Rattle.event_variables.specs.event_nodes.View.{EventCircuitView, side_of, Enabled}
 use Rattle.event_variables.specs.event_nodes.Visited.{CounterView, HasCounted}
 use Rattle.class_queries.specs.Enables.{both_of}
-use Rattle.class_extension.specs.Sides.{AreStartsOfBoth, IsEnableAmong}
+use Rattle.reset_laws.specs.class_extension.Sides.{AreStartsOfBoth, IsEnableAmong}
 
 -- the entries are nodes that the starts reach, and all nodes that these reach were made
 pub record HasNodes {P : Type 0} (s : EventSide P) (children : List (ℕ × ℕ)) (starts : List (Start P)) : Type 0 where

@@ -9,6 +9,7 @@ mod laws;
 mod load;
 mod marked;
 mod next_marks;
+pub mod pair_runs;
 mod power;
 mod sim;
 

@@ -1,6 +1,6 @@
 -- The worked texts are small designs' texts.
 use Rattle.std.proofs.Common.{refl, arith}
-use Rattle.blif_lines.specs.Lines.{cut_line, going_on}
+use Rattle.blif_read.specs.blif_lines.Lines.{cut_line, going_on}
 use Rattle.blif_read.specs.Fault.{fault_of}
 use Rattle.blif_read.specs.Heads.{head_of}
 use Rattle.design_rows.specs.Designs as design

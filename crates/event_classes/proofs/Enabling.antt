@@ -6,7 +6,7 @@ use Rattle.event_nodes.specs.View.{side_of, Enabled, EventCircuitView, IsEventCi
 use Rattle.event_variables.specs.Variables.{variables_of}
 use Rattle.event_variables.specs.Laws.{IsEnableCareTree}
 use Rattle.event_variables.proofs.Meaning.{enable_variables}
-use Rattle.class_extension.proofs.Sides.{sides_have_variables_in_nets}
+use Rattle.reset_laws.proofs.class_extension.Sides.{sides_have_variables_in_nets}
 use Rattle.class_queries.proofs.Meaning.{numbered, lits_are_functions}
 use Rattle.circuit_theory.specs.declared.Side.{Side}
 use Rattle.circuit_theory.specs.declared.Side.TheVariants.{A, B}

@@ -34,7 +34,7 @@ use Rattle.class_search.specs.declared.told.Told.{Told}
 use Rattle.class_search.specs.Told.{IsTold, IsAlwaysTold}
 use Rattle.class_search.specs.Search.{AreReadyClasses, AreTold, IsFit}
 use Rattle.class_fits.specs.Members.{HasMembers, HaveMembers}
-use Rattle.class_extension.specs.Telling.{TellsApart, TellsFromAlways}
+use Rattle.reset_laws.specs.class_extension.Telling.{TellsApart, TellsFromAlways}
 use Rattle.class_separations.specs.Telling.{IsToldIn, AreToldIn}
 use Rattle.class_separations.specs.Apart.{HaveOwnVariables, IsToldOf, AreToldOf}
 use Rattle.class_separations.proofs.Variables.{variables_same, within_later}

@@ -16,7 +16,7 @@ use Rattle.event_order.specs.Order.{IsTagOf, place_of}
 use Rattle.flat_net.proofs.Places.{All-at}
 use Rattle.class_search.specs.declared.compare.Enable.{Enable}
 use Rattle.class_search.specs.Comparing.{IsReadyEnable}
-use Rattle.class_extension.specs.Laws.{IsNextGiven}
+use Rattle.reset_laws.specs.class_extension.Laws.{IsNextGiven}
 use Rattle.flat_net.specs.View.{circuit_of}
 use Rattle.class_queries.specs.Enables.{both_of, class_map, IsEnableFunction}
 use Rattle.class_queries.specs.Laws.{AreKept}

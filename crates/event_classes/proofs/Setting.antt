@@ -23,7 +23,7 @@ use Rattle.class_queries.specs.Enables.{both_of, class_map}
 use Rattle.class_fits.specs.class_joining.Joining.{with_class, HasJoined}
 use Rattle.class_fits.proofs.class_joining.Classes.{class_kept}
 use Rattle.class_fits.proofs.class_joining.Giving.{class_given}
-use Rattle.class_extension.specs.Laws.{IsNextGiven}
+use Rattle.reset_laws.specs.class_extension.Laws.{IsNextGiven}
 use Rattle.class_separations.specs.Apart.{AreToldApart}
 use Rattle.class_totals.specs.Totals.{HaveCounted}
 use Rattle.class_totals.proofs.Going.{totals_stay}

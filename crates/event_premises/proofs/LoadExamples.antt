@@ -17,7 +17,7 @@ use Rattle.design_laws.proofs.Kept.{flat_design}
 use Rattle.design_laws.proofs.KeptNames.{names_are_kept}
 use Rattle.design_rows.proofs.Places.{is_one_place, is_one_place-itself}
 use Rattle.design_laws.proofs.event_designs.FlatEnabled.{enabled_down}
-use Rattle.blif_lines.specs.Lines.{cut_line, going_on}
+use Rattle.blif_read.specs.blif_lines.Lines.{cut_line, going_on}
 use Rattle.blif_read.specs.Fault.{fault_of}
 use Rattle.blif_read.specs.Heads.{head_of}
 use Rattle.sec_setup.specs.cut_points.Common.{common_names}

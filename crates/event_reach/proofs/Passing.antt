@@ -17,7 +17,7 @@ use Rattle.event_nodes.specs.flat_net.declared.signals.Signal.{Signal}
 use Rattle.event_nodes.specs.flat_net.Sound.{IsSound}
 use Rattle.event_nodes.specs.flat_net.View.{NetView, circuit_of}
 use Rattle.event_nodes.proofs.flat_net.Nets.{sound_is_net, latch_stands}
-use Rattle.latch_cone.specs.Cones.{IsOther, AreOthers}
+use Rattle.inner_cone.specs.latch_cone.Cones.{IsOther, AreOthers}
 use Rattle.event_nodes.specs.Nodes.{IsChild, IsTree}
 use Rattle.event_nodes.specs.Reach.{IsBegun, IsReachedPlace, IsPassedOn}
 use Rattle.event_nodes.specs.View.{EventCircuitView, side_of, Enabled}

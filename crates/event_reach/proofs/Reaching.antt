@@ -16,7 +16,7 @@ use Rattle.event_nodes.specs.flat_net.Sound.{IsSound}
 use Rattle.event_nodes.proofs.flat_net.Growth.{slice_get-append}
 use Rattle.event_nodes.proofs.flat_net.Nets.{some_at, latch_stands}
 use Rattle.event_nodes.proofs.flat_net.Places.{one_at, All-at}
-use Rattle.latch_cone.specs.Cones.{AreOthers, AreReached}
+use Rattle.inner_cone.specs.latch_cone.Cones.{AreOthers, AreReached}
 use Rattle.event_nodes.specs.Adds.{Adds}
 use Rattle.event_nodes.specs.Nodes.{EventGraphView, IsChild, IsTree, path_of, GrowsEvents}
 use Rattle.event_nodes.specs.Reach.{IsBegun, IsReachedPlace, IsPassedOn, IsListedAt}

@@ -18,7 +18,7 @@ use base_tables::UniqueTable;
 use event_nodes::{
     Driver, EventCircuit, EventGraph, EventUnfoldError, Net, Place, PlaceTable, Signal, add,
 };
-use latch_cone::{other_latches, reached};
+use inner_cone::latch_cone::{other_latches, reached};
 use std::alloc::Global;
 
 /// The most event nodes that are reached, the root among them.

@@ -6,7 +6,7 @@ ghost use Rattle.event_setup.specs.Recovered.{Recovers, RecoversBoth};
 use crate::error::RecoveryError;
 use circuit_theory::Mode;
 use flat_net::Net;
-use latch_cone::enabled_among;
+use inner_cone::latch_cone::enabled_among;
 use latch_kinds::{KindsError, kinds_in};
 use sec_base::{Bits, MAX_CONFLICTS, Side};
 use std::alloc::Global;

@@ -9,9 +9,9 @@ use Rattle.circuit_theory.specs.Agree.{EnabledIn}
 use Rattle.circuit_theory.specs.Depth.{IsDepth, HasNoDepth, HasCycle, IsCycle, BeginsWithLeast}
 use Rattle.flat_net.specs.declared.parts.LatchAt.{LatchAt}
 use Rattle.flat_net.specs.View.{NetView, named, circuit_of}
-use Rattle.latch_cone.specs.declared.kinds.LatchKind.{LatchKind}
-use Rattle.latch_cone.specs.declared.kinds.LatchKind.TheVariants as kind
-use Rattle.latch_cone.specs.Kinds.{IsKindIn}
+use Rattle.inner_cone.specs.declared.latch_cone.kinds.LatchKind.{LatchKind}
+use Rattle.inner_cone.specs.declared.latch_cone.kinds.LatchKind.TheVariants as kind
+use Rattle.inner_cone.specs.latch_cone.Kinds.{IsKindIn}
 use Rattle.witness_report.specs.Text.{names_text}
 
 -- a signal with its sequential depth, or without one

@@ -3,14 +3,14 @@
 ghost use Rattle.std.specs.Prelude.{◌≡◌, ◌<◌, false, length, map, replicate, slice_get, Some, option_map, All, IfOk, IfSome, OnOk};
 ghost use Rattle.circuit_theory.specs.declared.Mode.{Mode};
 ghost use Rattle.flat_net.specs.Cut.{latch_at};
-ghost use Rattle.latch_cone.specs.Kinds.{AreKindsIn};
+ghost use Rattle.inner_cone.specs.latch_cone.Kinds.{AreKindsIn};
 ghost use Rattle.signal_graph.specs.Graph.{IsGraphOf, IsGraphIn};
 ghost use Rattle.graph_report.specs.Report.{IsFound, IsGraphReport};
 ghost use Rattle.graph_report.specs.Puts.{PutsLatches, PutsOutputs, PutsCycle};
 
 use crate::text::{put_counts, put_latch, put_names, put_output};
 use flat_net::Net;
-use latch_cone::{LatchKind, enabled_among};
+use inner_cone::latch_cone::{LatchKind, enabled_among};
 use latch_graph::LatchGraph;
 use sec_base::{Bits, Ids, NoMemory, Seq, Text, put};
 use std::alloc::Global;

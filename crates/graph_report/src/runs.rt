@@ -7,7 +7,7 @@ ghost use Rattle.graph_report.specs.Jobs.{Simulates, Runs};
 use crate::graphs::CONFLICTS;
 use circuit_theory::Mode;
 use flat_net::Net;
-use latch_cone::enabled_among;
+use inner_cone::latch_cone::enabled_among;
 use latch_kinds::{KindsError, kinds_in};
 use pair_decide::Proof;
 use sec_base::{NoMemory, Text, Word};

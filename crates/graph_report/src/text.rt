@@ -6,7 +6,7 @@ ghost use Rattle.flat_net.specs.Cut.{no_latch};
 ghost use Rattle.graph_report.specs.Report.{depth_text, kind_word, latch_text, output_text, counts_text};
 
 use flat_net::{LatchAt, Net};
-use latch_cone::LatchKind;
+use inner_cone::latch_cone::LatchKind;
 use sec_base::{NoMemory, put, put_number};
 use std::alloc::Global;
 

@@ -3,6 +3,7 @@
 #![tactic(auto)]
 
 pub mod block_outputs;
+pub mod induct_report;
 mod induction;
 mod members;
 mod numbers;

@@ -7,17 +7,17 @@ use Rattle.std.proofs.lemmas.List.Elements.{filter_map-append}
 use Rattle.std.specs.List.Sorted.{IsNonDecreasing, IsPermutation}
 use Rattle.std.proofs.lemmas.List.Sorted.{Contains-permutation, IsPermutation-sym}
 use Rattle.std.proofs.lemmas.Option.{slice_get_within}
-use Rattle.latch_cone.proofs.circuit_theory.Lists.{at_of, of_at, filter_map-from}
-use Rattle.latch_cone.proofs.flat_net.TableLemmas.{take-push}
-use Rattle.latch_cone.specs.flat_net.declared.parts.Gate.{Gate}
-use Rattle.latch_cone.specs.flat_net.declared.parts.LatchAt.{LatchAt}
-use Rattle.latch_cone.specs.flat_net.declared.parts.Driver.{Driver}
-use Rattle.latch_cone.specs.flat_net.declared.parts.Driver.TheVariants as driver
-use Rattle.latch_cone.specs.flat_net.View.{NetView}
-use Rattle.latch_cone.specs.flat_net.Sound.{IsSound}
-use Rattle.latch_cone.specs.Parts.{gate_of, gate_at}
-use Rattle.latch_cone.proofs.Walks.{gate_fanins}
-use Rattle.latch_cone.proofs.ConeGates.{filter_map-into, driven_by_gate, made_of_one}
+use Rattle.inner_cone.proofs.latch_cone.circuit_theory.Lists.{at_of, of_at, filter_map-from}
+use Rattle.inner_cone.proofs.latch_cone.flat_net.TableLemmas.{take-push}
+use Rattle.inner_cone.specs.latch_cone.flat_net.declared.parts.Gate.{Gate}
+use Rattle.inner_cone.specs.latch_cone.flat_net.declared.parts.LatchAt.{LatchAt}
+use Rattle.inner_cone.specs.latch_cone.flat_net.declared.parts.Driver.{Driver}
+use Rattle.inner_cone.specs.latch_cone.flat_net.declared.parts.Driver.TheVariants as driver
+use Rattle.inner_cone.specs.latch_cone.flat_net.View.{NetView}
+use Rattle.inner_cone.specs.latch_cone.flat_net.Sound.{IsSound}
+use Rattle.inner_cone.specs.latch_cone.Parts.{gate_of, gate_at}
+use Rattle.inner_cone.proofs.latch_cone.Walks.{gate_fanins}
+use Rattle.inner_cone.proofs.latch_cone.ConeGates.{filter_map-into, driven_by_gate, made_of_one}
 use Rattle.inner_cone.specs.Inner.{AreRanked, AreHigh, LeadsAside, IsLow}
 use Rattle.inner_cone.specs.Gates.{AreInnerGates}
 use Rattle.inner_cone.proofs.Inner.{low_aside}

@@ -10,14 +10,14 @@ use Rattle.std.proofs.lemmas.List.Elements.{All-contains}
 use Rattle.std.proofs.lemmas.Map.Made.{IsDistinct-from_AllPairs}
 use Rattle.std.proofs.lemmas.Map.Keys.{IsStrictlyIncreasing-from_distinct, IsDistinct-IsPermutation}
 use Rattle.base_tables.proofs.unique_table.Keys.{all-differ}
-use Rattle.latch_cone.specs.circuit_theory.Circuit.{Reaches}
-use Rattle.latch_cone.proofs.circuit_theory.Lists.{All-from_each, at_of, of_at}
-use Rattle.latch_cone.specs.flat_net.declared.signals.Signal.{Signal}
-use Rattle.latch_cone.specs.flat_net.declared.parts.Gate.{Gate}
-use Rattle.latch_cone.specs.flat_net.View.{NetView, circuit_of}
-use Rattle.latch_cone.specs.flat_net.Sound.{IsSound}
-use Rattle.latch_cone.specs.Cones.{AreSome, Stay}
-use Rattle.latch_cone.proofs.Walks.{IsPut, put_stay, put_there, put_some, stay_there, gate_reads}
+use Rattle.inner_cone.specs.latch_cone.circuit_theory.Circuit.{Reaches}
+use Rattle.inner_cone.proofs.latch_cone.circuit_theory.Lists.{All-from_each, at_of, of_at}
+use Rattle.inner_cone.specs.latch_cone.flat_net.declared.signals.Signal.{Signal}
+use Rattle.inner_cone.specs.latch_cone.flat_net.declared.parts.Gate.{Gate}
+use Rattle.inner_cone.specs.latch_cone.flat_net.View.{NetView, circuit_of}
+use Rattle.inner_cone.specs.latch_cone.flat_net.Sound.{IsSound}
+use Rattle.inner_cone.specs.latch_cone.Cones.{AreSome, Stay}
+use Rattle.inner_cone.proofs.latch_cone.Walks.{IsPut, put_stay, put_there, put_some, stay_there, gate_reads}
 use Rattle.inner_cone.specs.Inner.{AreRanked, AreInside, LeadsAside, IsLow, AreHigh, IsHighPut}
 
 -- what is reached has no greater number

@@ -1,7 +1,6 @@
 pub mod Inner
 pub mod SideSignals
 pub mod Gates
-pub use Rattle.latch_cone.proofs.Walks
-pub use Rattle.latch_cone.proofs as latch_cone
-pub use Rattle.latch_cone.proofs.circuit_theory
-pub use Rattle.latch_cone.proofs.flat_net
+pub use Rattle.inner_cone.proofs.latch_cone.Walks
+pub use Rattle.circuit_theory.proofs as circuit_theory
+pub use Rattle.flat_net.proofs as flat_net

@@ -2,17 +2,17 @@
 use Rattle.std.proofs.Common.{◌≡◌, ◌≢◌, ◌+◌, ◌<◌, ℕ, List, [], ◌∷◌, ◌++◌, length, get_or, slice_get, Some, Contains, refl, sym, subst, inl, inr}
 use Rattle.std.specs.Prelude.{◌⊎◌}
 use Rattle.std.proofs.lemmas.List.Elements.{Contains-append_cases, Contains-append_left, Contains-append_right}
-use Rattle.latch_cone.specs.circuit_theory.Circuit.{Reads, Reaches, IsSource, IsLatch}
-use Rattle.latch_cone.specs.circuit_theory.Net.{IsNet}
-use Rattle.latch_cone.proofs.circuit_theory.Lists.{Contains-head, Contains-cases, at_of}
-use Rattle.latch_cone.specs.flat_net.declared.signals.Signal.{Signal}
-use Rattle.latch_cone.specs.flat_net.declared.parts.Gate.{Gate}
-use Rattle.latch_cone.specs.flat_net.declared.parts.Driver.{Driver}
-use Rattle.latch_cone.specs.flat_net.declared.parts.Driver.TheVariants as driver
-use Rattle.latch_cone.specs.flat_net.View.{NetView, circuit_of}
-use Rattle.latch_cone.specs.flat_net.Sound.{IsSound}
-use Rattle.latch_cone.proofs.flat_net.Nets.{gate_stands, latch_stands, input_stands, sound_is_net}
-use Rattle.latch_cone.proofs.Walks.{nothing_at, source_stays}
+use Rattle.inner_cone.specs.latch_cone.circuit_theory.Circuit.{Reads, Reaches, IsSource, IsLatch}
+use Rattle.inner_cone.specs.latch_cone.circuit_theory.Net.{IsNet}
+use Rattle.inner_cone.proofs.latch_cone.circuit_theory.Lists.{Contains-head, Contains-cases, at_of}
+use Rattle.inner_cone.specs.latch_cone.flat_net.declared.signals.Signal.{Signal}
+use Rattle.inner_cone.specs.latch_cone.flat_net.declared.parts.Gate.{Gate}
+use Rattle.inner_cone.specs.latch_cone.flat_net.declared.parts.Driver.{Driver}
+use Rattle.inner_cone.specs.latch_cone.flat_net.declared.parts.Driver.TheVariants as driver
+use Rattle.inner_cone.specs.latch_cone.flat_net.View.{NetView, circuit_of}
+use Rattle.inner_cone.specs.latch_cone.flat_net.Sound.{IsSound}
+use Rattle.inner_cone.proofs.latch_cone.flat_net.Nets.{gate_stands, latch_stands, input_stands, sound_is_net}
+use Rattle.inner_cone.proofs.latch_cone.Walks.{nothing_at, source_stays}
 use Rattle.inner_cone.specs.Inner.{AreRanked, LeadsAside, IsLow, AreHigh}
 use Rattle.inner_cone.specs.Sides.{AreSides, IsSomeSide, AreSomeSides, AreKept, IsLowPut}
 use Rattle.inner_cone.proofs.Inner.{low_aside}

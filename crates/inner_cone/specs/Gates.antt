@@ -2,11 +2,11 @@
 use Rattle.std.specs.Prelude.{◌≡◌, ◌⊎◌, ℕ, ◌<◌, List, length, slice_get, Some}
 use Rattle.std.specs.List.{Contains}
 use Rattle.std.specs.List.Sorted.{IsNonDecreasing}
-use Rattle.latch_cone.specs.flat_net.declared.signals.Signal.{Signal}
-use Rattle.latch_cone.specs.flat_net.declared.parts.Gate.{Gate}
-use Rattle.latch_cone.specs.flat_net.declared.parts.LatchAt.{LatchAt}
-use Rattle.latch_cone.specs.flat_net.View.{NetView}
-use Rattle.latch_cone.specs.Parts.{gate_at}
+use Rattle.inner_cone.specs.latch_cone.flat_net.declared.signals.Signal.{Signal}
+use Rattle.inner_cone.specs.latch_cone.flat_net.declared.parts.Gate.{Gate}
+use Rattle.inner_cone.specs.latch_cone.flat_net.declared.parts.LatchAt.{LatchAt}
+use Rattle.inner_cone.specs.latch_cone.flat_net.View.{NetView}
+use Rattle.inner_cone.specs.latch_cone.Parts.{gate_at}
 use Rattle.inner_cone.specs.Inner.{LeadsAside}
 
 -- Positions of gates in order, with the gate that drives what the latch takes over, and all gates that drive what these read, but for

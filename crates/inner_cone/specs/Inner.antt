@@ -1,9 +1,9 @@
 -- Numbers of signals, and what of a cone leads back to a signal.
 use Rattle.std.specs.Prelude.{◌≡◌, ◌⊎◌, ℕ, ◌<◌, ◌≤◌, List, [], ◌∷◌, ◌++◌, length, slice_index_or, All, Contains}
 use Rattle.std.specs.List.Sorted.{IsStrictlyIncreasing}
-use Rattle.latch_cone.specs.circuit_theory.Circuit.{Reads, Reaches}
-use Rattle.latch_cone.specs.flat_net.View.{NetView, circuit_of}
-use Rattle.latch_cone.specs.Cones.{AreSome}
+use Rattle.inner_cone.specs.latch_cone.circuit_theory.Circuit.{Reads, Reaches}
+use Rattle.inner_cone.specs.latch_cone.flat_net.View.{NetView, circuit_of}
+use Rattle.inner_cone.specs.latch_cone.Cones.{AreSome}
 
 -- no signal reads one with a greater number
 abbrev pub AreRanked : NetView → List ℕ → Type 0

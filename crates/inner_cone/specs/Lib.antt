@@ -1,7 +1,7 @@
 pub mod Inner
 pub mod Sides
 pub mod Gates
-pub use Rattle.latch_cone.specs.Cones
-pub use Rattle.latch_cone.specs as latch_cone
-pub use Rattle.latch_cone.specs.circuit_theory
-pub use Rattle.latch_cone.specs.flat_net
+pub mod latch_cone
+pub use Rattle.inner_cone.specs.latch_cone.Cones
+pub use Rattle.circuit_theory.specs as circuit_theory
+pub use Rattle.flat_net.specs as flat_net

@@ -1,8 +1,8 @@
 -- What the signals that lead back to a signal read besides.
 use Rattle.std.specs.Prelude.{◌≡◌, ◌≢◌, ◌⊎◌, ℕ, ◌<◌, List, [], ◌∷◌, ◌++◌, length, Contains}
-use Rattle.latch_cone.specs.circuit_theory.Circuit.{IsSource, Reaches}
-use Rattle.latch_cone.specs.flat_net.declared.signals.Signal.{Signal}
-use Rattle.latch_cone.specs.flat_net.View.{NetView, circuit_of}
+use Rattle.inner_cone.specs.latch_cone.circuit_theory.Circuit.{IsSource, Reaches}
+use Rattle.inner_cone.specs.latch_cone.flat_net.declared.signals.Signal.{Signal}
+use Rattle.inner_cone.specs.latch_cone.flat_net.View.{NetView, circuit_of}
 use Rattle.inner_cone.specs.Inner.{LeadsAside, IsLow}
 
 -- Signals that are reached from one and don't lead back to another, by which each input and other latch is reached that is reached at

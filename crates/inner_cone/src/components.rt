@@ -2,8 +2,8 @@
 //! it takes over (R. Tarjan, "Depth-first search and linear graph algorithms", SIAM Journal on Computing 1, 1972). No clause speaks
 //! of them: who uses the numbers looks whether they are right.
 
+use crate::latch_cone::{Driver, Net, NoMemory, Signal};
 use crate::numbers::number_at;
-use latch_cone::{Driver, Net, NoMemory, Signal};
 use std::alloc::Global;
 
 /// Signals that read one another.

@@ -5,16 +5,17 @@
 #![tactic(auto)]
 
 mod components;
+pub mod latch_cone;
 mod numbers;
 mod parts;
 mod sides;
 mod walk;
 
-pub use components::{Readings, components_of};
-pub use latch_cone::{
+pub use crate::latch_cone::{
     Bits, Driver, Duplicate, Ids, LatchAt, Net, NoMemory, Seq, Side, Signal, Signals, Words,
     none_enabled,
 };
+pub use components::{Readings, components_of};
 pub use numbers::{are_at_most, number_at, ranks};
 pub use parts::{InnerParts, inner_parts};
 pub use sides::sides_of;

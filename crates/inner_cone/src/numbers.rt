@@ -4,7 +4,7 @@ ghost use Rattle.std.specs.Prelude.{◌≡◌, ◌≤◌, true, All, slice_index
 ghost use Rattle.inner_cone.specs.Inner.{AreRanked};
 
 use crate::components::components_of;
-use latch_cone::{Ids, Net, NoMemory, Signal};
+use crate::latch_cone::{Ids, Net, NoMemory, Signal};
 use std::alloc::Global;
 
 /// Numbers of the net's signals: none reads one with a greater number. What isn't in the list has the number 0.

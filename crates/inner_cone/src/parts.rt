@@ -3,17 +3,17 @@
 ghost use Rattle.std.specs.Prelude.{◌≡◌, ◌<◌, ℕ, length, slice_get, Some, IfOk};
 ghost use Rattle.std.specs.List.{filter_map};
 ghost use Rattle.std.specs.List.Sorted.{IsNonDecreasing, IsPermutation};
-ghost use Rattle.latch_cone.specs.flat_net.declared.parts.LatchAt.{LatchAt};
-ghost use Rattle.latch_cone.specs.Parts.{gate_at};
+ghost use Rattle.inner_cone.specs.latch_cone.flat_net.declared.parts.LatchAt.{LatchAt};
+ghost use Rattle.inner_cone.specs.latch_cone.Parts.{gate_at};
 ghost use Rattle.inner_cone.specs.Inner.{AreRanked};
 ghost use Rattle.inner_cone.specs.Sides.{AreSides};
 ghost use Rattle.inner_cone.specs.Gates.{AreInnerGates};
 
+use crate::latch_cone::{Driver, Ids, LatchAt, Net, NoMemory, Seq, Signal, Signals};
 use crate::numbers::number_at;
 use crate::sides::sides_of;
 use crate::walk::walked;
 use base_tables::UniqueTable;
-use latch_cone::{Driver, Ids, LatchAt, Net, NoMemory, Seq, Signal, Signals};
 use std::alloc::Global;
 
 /// What a latch's next value depends on the latch by.

@@ -1,16 +1,16 @@
 //! What the signals that lead back to a latch read besides.
 
 ghost use Rattle.std.specs.Prelude.{◌≡◌, ◌≢◌, ◌<◌, ℕ, length, slice_get, slice_index_or, Some, Contains, IfOk, OnOk};
-ghost use Rattle.latch_cone.specs.circuit_theory.Circuit.{Reads, Reaches, IsSource};
-ghost use Rattle.latch_cone.specs.flat_net.declared.signals.Signal.{Signal};
-ghost use Rattle.latch_cone.specs.flat_net.View.{NetView, circuit_of};
-ghost use Rattle.latch_cone.specs.Cones.{AreRead};
+ghost use Rattle.inner_cone.specs.latch_cone.circuit_theory.Circuit.{Reads, Reaches, IsSource};
+ghost use Rattle.inner_cone.specs.latch_cone.flat_net.declared.signals.Signal.{Signal};
+ghost use Rattle.inner_cone.specs.latch_cone.flat_net.View.{NetView, circuit_of};
+ghost use Rattle.inner_cone.specs.latch_cone.Cones.{AreRead};
 ghost use Rattle.inner_cone.specs.Inner.{AreRanked, AreHigh, IsLow};
 ghost use Rattle.inner_cone.specs.Sides.{AreSides, AreSomeSides, IsLowPut, AreKept};
 
+use crate::latch_cone::{Driver, Net, NoMemory, Signal, Signals};
 use crate::numbers::number_at;
 use crate::walk::walked;
-use latch_cone::{Driver, Net, NoMemory, Signal, Signals};
 use std::alloc::Global;
 
 /// Signals that are reached from one backwards through gates and don't lead back to another, by which all inputs and other latches are

@@ -1,15 +1,15 @@
 //! The walk through what leads back to a signal.
 
 ghost use Rattle.std.specs.Prelude.{◌≡◌, ◌<◌, ◌⊎◌, ℕ, [], length, slice_get, Some, Contains, IfOk, OnOk};
-ghost use Rattle.latch_cone.specs.circuit_theory.Circuit.{Reads, Reaches};
-ghost use Rattle.latch_cone.specs.flat_net.declared.signals.Signal.{Signal};
-ghost use Rattle.latch_cone.specs.flat_net.View.{NetView, circuit_of};
-ghost use Rattle.latch_cone.specs.Cones.{AreSome, AreRead, Stay};
+ghost use Rattle.inner_cone.specs.latch_cone.circuit_theory.Circuit.{Reads, Reaches};
+ghost use Rattle.inner_cone.specs.latch_cone.flat_net.declared.signals.Signal.{Signal};
+ghost use Rattle.inner_cone.specs.latch_cone.flat_net.View.{NetView, circuit_of};
+ghost use Rattle.inner_cone.specs.latch_cone.Cones.{AreSome, AreRead, Stay};
 ghost use Rattle.inner_cone.specs.Inner.{AreRanked, AreInside, IsLow, AreHigh, IsHighPut};
 
+use crate::latch_cone::{Driver, Net, NoMemory, Signal};
 use crate::numbers::number_at;
 use base_tables::UniqueTable;
-use latch_cone::{Driver, Net, NoMemory, Signal};
 use std::alloc::Global;
 
 /// The signals that are reached from one backwards through gates and lead back to another, and maybe more of those that are

@@ -1,6 +1,6 @@
 -- The status of a replay, by how many differences it has.
 use Rattle.std.proofs.Common.{◌≡◌, ◌≢◌, List, [], ◌∷◌, length, refl, arith}
-use Rattle.pair_runs.specs.declared.differences.Difference.{Difference}
+use Rattle.cycle_sim.specs.declared.pair_runs.differences.Difference.{Difference}
 use Rattle.job_base.specs.declared.status.StatusName.TheVariants as status
 use Rattle.job_base.specs.Written.{replay_status}
 

@@ -17,7 +17,7 @@ use Rattle.assume_laws.specs.declared.assume_shape.shape.ShapeFault.TheVariants 
 use Rattle.elaborate.specs.declared.error.FlatError.{FlatError}
 use Rattle.elaborate.specs.declared.error.FlatError.TheVariants as flat
 use Rattle.outcome.specs.Report.{report_text}
-use Rattle.pair_runs.specs.replay_report.Report.{replay_text}
+use Rattle.cycle_sim.specs.pair_runs.replay_report.Report.{replay_text}
 use Rattle.job_base.specs.declared.finding.File.{File}
 use Rattle.job_base.specs.declared.finding.File.TheVariants as file
 use Rattle.job_base.specs.declared.finding.LineFault.{LineFault}

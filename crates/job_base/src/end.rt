@@ -13,9 +13,9 @@ use crate::text::{
     cycle_report, refusal_report, satisfiable_report, undecided_text, unpaired_report,
     unsettled_text, words_report,
 };
+use cycle_sim::pair_runs::Differences;
+use cycle_sim::pair_runs::replay_report::replay_report;
 use outcome::{Outcome, PairResult, PairResults, Proof, Settings, Verdict, report};
-use pair_runs::Differences;
-use pair_runs::replay_report::replay_report;
 use sec_base::{NoMemory, Side, Sink, Text, Word};
 use std::alloc::Global;
 

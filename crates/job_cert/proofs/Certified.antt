@@ -5,7 +5,7 @@ use Rattle.flat_net.specs.View.{NetView}
 use Rattle.cnf_encode.specs.declared.cnf.Cnf.{Cnf}
 use Rattle.cnf_encode.specs.Encoding.{IsSmall}
 use Rattle.lrat_core.specs.dimacs_text.dimacs_writer.Laws.{AreWritable}
-use Rattle.certificate_writer.specs.Texts.{SpellsClauses}
+use Rattle.lrat_core.specs.certificate_writer.Texts.{SpellsClauses}
 use Rattle.job_cert.specs.pair_clauses.Clauses.{ArePairClauses}
 use Rattle.job_cert.specs.declared.pair_clauses.error.CertError.{CertError}
 use Rattle.job_base.specs.declared.finding.Finding.{Finding}

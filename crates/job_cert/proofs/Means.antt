@@ -7,7 +7,7 @@ use Rattle.cnf_encode.specs.declared.cnf.Cnf.{Cnf}
 use Rattle.sat_search.specs.Found.{IsFruitless}
 use Rattle.pair_decide.specs.declared.query.Proof.{Proof}
 use Rattle.lrat_core.proofs.lrat_text.Texts.{accepted_sound}
-use Rattle.certificate_writer.specs.Texts.{formula_for}
+use Rattle.lrat_core.specs.certificate_writer.Texts.{formula_for}
 use Rattle.job_cert.specs.pair_clauses.Clauses.{CanBeMet, ArePairClauses}
 use Rattle.job_base.specs.declared.finding.Finding.{Finding}
 use Rattle.job_base.specs.declared.finding.Finding.TheVariants as finding

@@ -12,7 +12,7 @@ use Rattle.sec_setup.specs.Matching.{InterfacesMatch}
 use Rattle.sec_setup.specs.Cycles.{AreBroken}
 use Rattle.under_base.specs.compare_base.Compared.{AreTooLarge}
 use Rattle.sec_files.specs.Loading.{IsAccepted, Loads}
-use Rattle.certificate_writer.specs.Texts.{SpellsClauses}
+use Rattle.lrat_core.specs.certificate_writer.Texts.{SpellsClauses}
 use Rattle.job_cert.specs.pair_clauses.Clauses.{ArePairClauses, IsOutput}
 use Rattle.job_base.specs.declared.status.StatusName.{StatusName}
 use Rattle.job_base.specs.declared.status.StatusName.TheVariants as status

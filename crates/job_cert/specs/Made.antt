@@ -4,7 +4,7 @@ use Rattle.flat_net.specs.View.{NetView}
 use Rattle.proof_check.specs.declared.derivation.Chain.{Chain}
 use Rattle.cnf_encode.specs.declared.cnf.Cnf.{Cnf}
 use Rattle.sat_search.specs.Found.{IsFruitless}
-use Rattle.certificate_writer.specs.Texts.{SpellsClauses, IsTextOf, IsAcceptedOver}
+use Rattle.lrat_core.specs.certificate_writer.Texts.{SpellsClauses, IsTextOf, IsAcceptedOver}
 use Rattle.job_cert.specs.pair_clauses.Clauses.{CanBeMet, ArePairClauses, PairGives}
 use Rattle.job_cert.specs.declared.pair_clauses.error.CertError.{CertError}
 use Rattle.job_base.specs.declared.finding.Finding.{Finding}

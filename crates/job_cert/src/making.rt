@@ -6,9 +6,9 @@ ghost use Rattle.cnf_encode.specs.Encoding.{IsSmall};
 ghost use Rattle.job_cert.specs.Made.{Made, wanted_of, IsSearched};
 
 use crate::pair_clauses::{CertError, Cnf, pair_clauses};
-use certificate_writer::{write_dimacs, write_lrat};
 use flat_net::Net;
 use job_base::{Finding, Unrefuted};
+use lrat_core::certificate_writer::{write_dimacs, write_lrat};
 use pair_decide::Proof;
 use sat_search::{Found, search};
 use sec_base::{MAX_CONFLICTS, NoMemory};

@@ -13,7 +13,7 @@ use Rattle.induct.specs.declared.induction.Induction.{Induction}
 use Rattle.induct.specs.declared.induction.InductError.{InductError}
 use Rattle.induct.specs.declared.induction.InductError.TheVariants as refused
 use Rattle.induct.specs.Inductions.{IsInduction, IsRefusal}
-use Rattle.induct_report.specs.Report.{induct_text}
+use Rattle.induct.specs.induct_report.Report.{induct_text}
 use Rattle.job_induct.specs.induct_meaning.Judged.{AreLight, judgement_of, proofs_of, IsJudged}
 use Rattle.job_induct.specs.declared.judging.Judged.{Judged}
 use Rattle.job_induct.specs.declared.judging.JudgeError.{JudgeError}

@@ -3,12 +3,12 @@
 ghost use Rattle.std.specs.Prelude.{◌≡◌, ◌≤◌, [], ◌∷◌, ◌++◌, IfOk, OnOk, option_to_list};
 ghost use Rattle.std.specs.List.{filter_map};
 ghost use Rattle.flat_net.specs.Comparable.{IsComparable};
-ghost use Rattle.induct_report.specs.Report.{induct_text};
+ghost use Rattle.induct.specs.induct_report.Report.{induct_text};
 ghost use Rattle.job_induct.specs.induct_meaning.Judged.{judgement_of, proofs_of};
 ghost use Rattle.job_induct.specs.Ends.{IsMismatch, mismatch_of, IsJudgedBy, judged_end};
 
 use flat_net::Net;
-use induct_report::{
+use induct::induct_report::{
     InductError, InductPair, InductPairs, InductVerdict, Induction, induct, report,
 };
 use job_base::{Finding, Judgement, Proofs, Refusal, Stop};

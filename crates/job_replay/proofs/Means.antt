@@ -3,7 +3,7 @@ use Rattle.std.proofs.Common.{◌≡◌, ℕ, List, [], ◌∷◌, Option}
 use Rattle.circuit_theory.specs.declared.Mode.{Mode}
 use Rattle.sec_base.specs.Outside.{Takes}
 use Rattle.pair_decide.specs.declared.query.Proof.{Proof}
-use Rattle.pair_runs.specs.declared.differences.Difference.{Difference}
+use Rattle.cycle_sim.specs.declared.pair_runs.differences.Difference.{Difference}
 use Rattle.job_base.specs.declared.finding.Finding.{Finding}
 use Rattle.job_base.specs.declared.finding.Finding.TheVariants as finding
 use Rattle.job_base.specs.declared.status.StatusName.{StatusName}

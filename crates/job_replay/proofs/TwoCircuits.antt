@@ -5,7 +5,7 @@ use Rattle.std.proofs.lemmas.List.Elements.{All-nil, All-cons}
 use Rattle.circuit_theory.specs.declared.Mode.{Mode}
 use Rattle.sec_base.specs.Outside.{Rose}
 use Rattle.flat_net.specs.View.{NetView}
-use Rattle.pair_runs.specs.declared.differences.Difference.{Difference}
+use Rattle.cycle_sim.specs.declared.pair_runs.differences.Difference.{Difference}
 use Rattle.job_replay.specs.declared.fault.ReplayFault.{ReplayFault}
 use Rattle.job_replay.specs.declared.fault.ReplayFault.TheVariants as fault
 use Rattle.job_replay.specs.Modes.{ReplaysIn}

@@ -3,7 +3,7 @@ use Rattle.std.specs.Prelude.{◌≡◌, ◌⊎◌, ℕ, Bool, List, Option, Res
 use Rattle.circuit_theory.specs.declared.Mode.{Mode}
 use Rattle.flat_net.specs.View.{NetView}
 use Rattle.sim_report.specs.declared.refusal.Misfit.TheVariants as misfit
-use Rattle.pair_runs.specs.declared.differences.Difference.{Difference}
+use Rattle.cycle_sim.specs.declared.pair_runs.differences.Difference.{Difference}
 use Rattle.job_replay.specs.declared.fault.ReplayFault.{ReplayFault}
 use Rattle.job_replay.specs.declared.fault.ReplayFault.TheVariants as fault
 use Rattle.job_replay.specs.Modes.{ReplaysIn}

@@ -5,13 +5,13 @@ use Rattle.circuit_theory.specs.declared.Side.{Side}
 use Rattle.circuit_theory.specs.declared.Side.TheVariants.{A, B}
 use Rattle.circuit_theory.specs.Interface.{first_mismatch}
 use Rattle.flat_net.specs.View.{NetView, ports_of}
-use Rattle.latch_cone.specs.declared.kinds.LatchKind.{LatchKind}
-use Rattle.latch_cone.specs.Cones.{MarksEnabled}
+use Rattle.inner_cone.specs.declared.latch_cone.kinds.LatchKind.{LatchKind}
+use Rattle.inner_cone.specs.latch_cone.Cones.{MarksEnabled}
 use Rattle.latch_kinds.specs.declared.kinds.KindsError.{KindsError}
 use Rattle.latch_kinds.specs.declared.kinds.KindsError.TheVariants as kinds_error
 use Rattle.latch_kinds.specs.Found.{FoundIn}
 use Rattle.sec_setup.specs.Matching.{InterfacesMatch}
-use Rattle.pair_runs.specs.declared.differences.Difference.{Difference}
+use Rattle.cycle_sim.specs.declared.pair_runs.differences.Difference.{Difference}
 use Rattle.replay.specs.declared.replay_header.error.ReplayError.{ReplayError}
 use Rattle.replay.specs.declared.replay_header.error.ReplayError.TheVariants as replay_error
 use Rattle.replay.specs.replay_header.Header.{FitsBoth, FitsOr}

@@ -10,9 +10,9 @@ use Rattle.sec_setup.specs.Matching.{InterfacesMatch}
 use Rattle.sim_report.specs.declared.refusal.Misfit.TheVariants as misfit
 use Rattle.graph_report.specs.Jobs.{AreLightIn}
 use Rattle.latch_kinds.specs.declared.kinds.KindsError.TheVariants as kinds_error
-use Rattle.pair_runs.specs.declared.differences.Difference.{Difference}
+use Rattle.cycle_sim.specs.declared.pair_runs.differences.Difference.{Difference}
 use Rattle.replay.specs.replay_header.Header.{FitsBoth}
-use Rattle.pair_runs.specs.replay_report.Report.{replay_text}
+use Rattle.cycle_sim.specs.pair_runs.replay_report.Report.{replay_text}
 use Rattle.job_replay.specs.declared.fault.ReplayFault.TheVariants as fault
 use Rattle.job_replay.specs.Modes.{AreUnknown, ShowsReplay, ReplaysIn}
 use Rattle.sec_files.specs.Loading.{IsAccepted, Loads, IsTooLong, HasFault, HasDesignFault, HasRecordFault}

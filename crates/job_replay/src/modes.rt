@@ -8,7 +8,7 @@ ghost use Rattle.job_replay.specs.Modes.{Matches, KnowsEnabled, ReplaysMatching,
 use crate::fault::ReplayFault;
 use circuit_theory::Mode;
 use flat_net::Net;
-use latch_cone::enabled_among;
+use inner_cone::latch_cone::enabled_among;
 use latch_kinds::{KindsError, kinds_in};
 use replay::{Differences, replay};
 use sec_base::{Bits, Side};

@@ -8,9 +8,9 @@ ghost use Rattle.job_replay.specs.Ends.{ReplayJob, replay_end, EndsOver, EndsWit
 use crate::fault::ReplayFault;
 use crate::modes::replay_in;
 use circuit_theory::Mode;
+use cycle_sim::pair_runs::Differences;
 use flat_net::Net;
 use job_base::{File, Finding, Refusal, Stop};
-use pair_runs::Differences;
 use sec_base::Shelf;
 use sec_files::job_files::{load_end, stimulus_end};
 use sec_files::{load, load_stimulus};

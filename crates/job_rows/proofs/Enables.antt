@@ -13,7 +13,7 @@ use Rattle.circuit_theory.specs.Places.{IsPlace}
 use Rattle.circuit_theory.specs.Run.{IsRun, IsEnabled}
 use Rattle.circuit_theory.specs.Sizes.{WeighsAt, Weighed}
 use Rattle.circuit_theory.proofs.Lists.{Contains-head, Contains-tail, Contains-cases}
-use Rattle.blif_lines.specs.Lines.{cut_line, going_on}
+use Rattle.blif_read.specs.blif_lines.Lines.{cut_line, going_on}
 use Rattle.blif_read.specs.Design.{Place, top, walk, clock_places, circuit_of_design}
 use Rattle.blif_read.specs.Fault.{fault_of}
 use Rattle.blif_read.specs.Heads.{head_of}
@@ -27,9 +27,9 @@ use Rattle.flatten.specs.DesignFaults.{IsFlatOf}
 use Rattle.net_assembly.proofs.DistinctLists.{distinct_nil, distinct_cons}
 use Rattle.design_rows.specs.NoFault.{has_no_fault}
 use Rattle.design_rows.proofs.NoFaults.{tested_is_sound}
-use Rattle.latch_cone.specs.declared.kinds.LatchKind.{LatchKind}
-use Rattle.latch_cone.specs.declared.kinds.LatchKind.TheVariants as kind
-use Rattle.latch_cone.specs.Kinds.{IsKindIn}
+use Rattle.inner_cone.specs.declared.latch_cone.kinds.LatchKind.{LatchKind}
+use Rattle.inner_cone.specs.declared.latch_cone.kinds.LatchKind.TheVariants as kind
+use Rattle.inner_cone.specs.latch_cone.Kinds.{IsKindIn}
 use Rattle.latch_kinds.specs.Found.{AreLight}
 use Rattle.witness_report.specs.Form.{IsName, IsForm}
 use Rattle.witness_report.specs.Text.{stimulus_text}

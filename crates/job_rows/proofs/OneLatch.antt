@@ -23,8 +23,8 @@ use Rattle.net_alike.proofs.Alike.{portless_is_renumbered}
 use Rattle.net_alike.proofs.Testing.{all_in}
 use Rattle.flatten.specs.DesignFaults.{IsClocked, IsFlatOf}
 use Rattle.design_laws.proofs.KeptNames.{names_are_kept}
-use Rattle.latch_cone.specs.declared.kinds.LatchKind.{LatchKind}
-use Rattle.latch_cone.specs.Kinds.{IsInOwnCone, IsKindIn, AreKindsIn}
+use Rattle.inner_cone.specs.declared.latch_cone.kinds.LatchKind.{LatchKind}
+use Rattle.inner_cone.specs.latch_cone.Kinds.{IsInOwnCone, IsKindIn, AreKindsIn}
 use Rattle.latch_kinds.specs.Found.{AreLight}
 use Rattle.design_rows.proofs.Places.{is_one_place, is_one_place-itself}
 use Rattle.job_rows.proofs.ConeWeights.{IsOneGate, one_gate_weight, cone_weight_there}

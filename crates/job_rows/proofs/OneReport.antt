@@ -25,9 +25,9 @@ use Rattle.sec_base.specs.declared.basics.Init.TheVariants as init
 use Rattle.net_alike.specs.Renumbered.{latch_rows, AreRenumbered}
 use Rattle.net_alike.proofs.Carrying.{depth_carried, no_depth_carried, run_carried, mark_carried}
 use Rattle.sec_files.proofs.Texts.{one_text_net, text_sound}
-use Rattle.latch_cone.specs.declared.kinds.LatchKind.{LatchKind}
-use Rattle.latch_cone.specs.declared.kinds.LatchKind.TheVariants as kind
-use Rattle.latch_cone.specs.Kinds.{IsKindIn}
+use Rattle.inner_cone.specs.declared.latch_cone.kinds.LatchKind.{LatchKind}
+use Rattle.inner_cone.specs.declared.latch_cone.kinds.LatchKind.TheVariants as kind
+use Rattle.inner_cone.specs.latch_cone.Kinds.{IsKindIn}
 use Rattle.graph_report.specs.Report.{Measured, IsMeasured, MeasuredLatch, IsMeasuredLatch, TellOf, latch_signal, latch_text, latch_line, output_text, output_line, counts_text, cycle_line, IsGraphReport}
 use Rattle.cycle_sim.specs.Runs.{initial_or, reset_bits}
 use Rattle.cycle_sim.proofs.Starts.{same_reset_bits, has_start, start_there}

@@ -6,9 +6,9 @@ use Rattle.sec_base.specs.declared.basics.Init.TheVariants as init
 use Rattle.blif_read.specs.declared.design.BlifModel.{BlifModel}
 use Rattle.blif_read.specs.declared.design.Statement.TheVariants.{Names, Latch}
 use Rattle.flat_net.specs.View.{NetView}
-use Rattle.latch_cone.specs.declared.kinds.LatchKind.{LatchKind}
-use Rattle.latch_cone.specs.declared.kinds.LatchKind.TheVariants as kind
-use Rattle.latch_cone.specs.Kinds.{AreKindsIn}
+use Rattle.inner_cone.specs.declared.latch_cone.kinds.LatchKind.{LatchKind}
+use Rattle.inner_cone.specs.declared.latch_cone.kinds.LatchKind.TheVariants as kind
+use Rattle.inner_cone.specs.latch_cone.Kinds.{AreKindsIn}
 use Rattle.sec_files.specs.Loading.{Loads}
 use Rattle.job_circuit.specs.Reports.{CanBeTold, CanBeRun}
 use Rattle.design_rows.specs.Designs.{one_model}

@@ -11,7 +11,7 @@ use Rattle.std.proofs.lemmas.List.Sorted.{Contains-permutation, IsPermutation-sy
 use Rattle.std.proofs.lemmas.Map.Keys.{IsStrictlyIncreasing-dedup}
 use Rattle.circuit_theory.proofs.Lists.{Contains-head, Contains-tail, Contains-cases, filter_map-from, at_of}
 use Rattle.flat_net.specs.View.{NetView}
-use Rattle.latch_cone.specs.Cones.{AreReached}
+use Rattle.inner_cone.specs.latch_cone.Cones.{AreReached}
 use Rattle.latch_blocks.specs.declared.variables.Variables.{Variables}
 use Rattle.latch_blocks.specs.Signals.{variable_at, AreLeaves, AreMerged}
 

@@ -5,7 +5,7 @@ ghost use Rattle.latch_blocks.specs.Signals.{AreVariables, AreLeaves, AreMerged}
 
 use crate::variables::{Variables, variable_at};
 use flat_net::{Net, Signal};
-use latch_cone::reached;
+use inner_cone::latch_cone::reached;
 use sec_base::{Ids, NoMemory, Seq};
 use std::alloc::Global;
 

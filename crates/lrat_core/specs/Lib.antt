@@ -9,3 +9,4 @@ pub mod States
 pub mod Stored
 pub mod lrat_text
 pub mod dimacs_text
+pub mod certificate_writer

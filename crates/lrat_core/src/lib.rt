@@ -5,6 +5,7 @@
 //! clause's number is put as 0, which no clause ever has.
 #![tactic(auto)]
 
+pub mod certificate_writer;
 mod checker;
 pub mod dimacs_text;
 mod falsified;

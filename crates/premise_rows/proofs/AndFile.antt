@@ -12,12 +12,12 @@ use Rattle.aiger_records.specs.declared.record.Record.TheVariants.{Input, Output
 use Rattle.aiger_records.specs.Faults.{fault_of}
 use Rattle.aiger_records.specs.Headers.{header_of}
 use Rattle.aiger_records.specs.Records.{record_at}
-use Rattle.aiger_file.specs.Symbols.{symbol_of}
-use Rattle.aiger_file.specs.declared.file.AigerFile.{AigerFile}
-use Rattle.aiger_file.specs.Files.{fault_of_text}
-use Rattle.aiger_file.specs.Reading.{body_of, spelled}
-use Rattle.aiger_file.specs.aiger_graph.Circuit.{circuit_of_file}
-use Rattle.aiger_file.specs.aiger_graph.Loops.{HasLoop}
+use Rattle.aiger_read.specs.aiger_file.Symbols.{symbol_of}
+use Rattle.aiger_read.specs.declared.aiger_file.file.AigerFile.{AigerFile}
+use Rattle.aiger_read.specs.aiger_file.Files.{fault_of_text}
+use Rattle.aiger_read.specs.aiger_file.Reading.{body_of, spelled}
+use Rattle.aiger_read.specs.aiger_file.aiger_graph.Circuit.{circuit_of_file}
+use Rattle.aiger_read.specs.aiger_file.aiger_graph.Loops.{HasLoop}
 use Rattle.aiger_read.specs.Nets.{IsNetOf}
 use Rattle.design_rows.specs.Small.{small_and, IsSmall}
 use Rattle.sec_files.specs.Formats.{Aiger}

@@ -24,9 +24,9 @@ use Rattle.design_laws.proofs.KeptNames.{latch_names_are}
 use Rattle.design_rows.proofs.Ranking.{is_ranked-sound, no_cycle}
 use Rattle.design_rows.specs.Small.{Small, IsSmall}
 use Rattle.sec_files.proofs.Moving.{single_up}
-use Rattle.aiger_file.specs.declared.file.AigerFile.{AigerFile}
-use Rattle.aiger_file.specs.aiger_graph.Circuit.{circuit_of_file}
-use Rattle.aiger_file.specs.aiger_graph.Loops.{HasLoop}
+use Rattle.aiger_read.specs.declared.aiger_file.file.AigerFile.{AigerFile}
+use Rattle.aiger_read.specs.aiger_file.aiger_graph.Circuit.{circuit_of_file}
+use Rattle.aiger_read.specs.aiger_file.aiger_graph.Loops.{HasLoop}
 use Rattle.aiger_read.specs.Nets.{IsNetOf}
 use Rattle.sec_files.proofs.Portless.{file_portless}
 

@@ -7,9 +7,9 @@ use Rattle.circuit_theory.specs.Circuit.{Circuit}
 use Rattle.circuit_theory.specs.Agree.{PairAt, IsSettled}
 use Rattle.circuit_theory.specs.Replay.{Difference, AreDifferences}
 use Rattle.flat_net.proofs.Nets.{some_at}
-use Rattle.pair_runs.specs.declared.shown.Shown.{Shown}
-use Rattle.pair_runs.specs.Listing.{differ, differences_from}
-use Rattle.pair_runs.proofs.Listed.{IsAmong, found_is, is_found, found_in_order}
+use Rattle.cycle_sim.specs.declared.pair_runs.shown.Shown.{Shown}
+use Rattle.cycle_sim.specs.pair_runs.Listing.{differ, differences_from}
+use Rattle.cycle_sim.proofs.pair_runs.Listed.{IsAmong, found_is, is_found, found_in_order}
 use Rattle.replay.proofs.replay_header.Tests.{no_true_false, and_both, both_and}
 
 -- two bits differ exactly where the test says so

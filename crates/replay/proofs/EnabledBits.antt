@@ -11,7 +11,7 @@ use Rattle.flat_net.specs.declared.parts.LatchAt.{LatchAt}
 use Rattle.flat_net.specs.Sound.{IsSound}
 use Rattle.flat_net.specs.View.{NetView, circuit_of, equation_of_latch}
 use Rattle.flat_net.proofs.Nets.{some_at, equation_from, OfGate, OfLatch, sound_is_net}
-use Rattle.latch_cone.specs.Cones.{IsMarkedBy, MarksEnabled}
+use Rattle.inner_cone.specs.latch_cone.Cones.{IsMarkedBy, MarksEnabled}
 use Rattle.replay.specs.cut_sides.Opening.{AreBitsOf}
 use Rattle.replay.proofs.FreeInputs.{no_gate_latch}
 use Rattle.replay.proofs.FreeMarks.{AreOne, one_equation}

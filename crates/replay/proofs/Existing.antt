@@ -15,8 +15,8 @@ use Rattle.flat_net.proofs.Nets.{some_at, equation_from, input_from, OfGate, OfL
 use Rattle.cycle_sim.specs.Runs.{IsRunFrom}
 use Rattle.cycle_sim.proofs.Lists.{map_at, replicate_at}
 use Rattle.cycle_sim.proofs.Runs.{run_exists}
-use Rattle.pair_runs.specs.Feeding.{IsColumn, AreColumns, bit_of, reordered}
-use Rattle.pair_runs.specs.Feeds.{zeros}
+use Rattle.cycle_sim.specs.pair_runs.Feeding.{IsColumn, AreColumns, bit_of, reordered}
+use Rattle.cycle_sim.specs.pair_runs.Feeds.{zeros}
 use Rattle.replay.specs.Replay.{IsReplayRun}
 use Rattle.replay.proofs.FreeInputs.{no_gate_latch}
 use Rattle.replay.proofs.FreeMarks.{AreOne, one_back, one_equation, one_input, one_run}

@@ -7,12 +7,12 @@ use Rattle.circuit_theory.specs.Net.{HasDistinctNames}
 use Rattle.base_tables.specs.Table.{AreDistinct}
 use Rattle.flat_net.specs.Sound.{IsSound}
 use Rattle.flat_net.specs.View.{NetView, circuit_of}
-use Rattle.latch_cone.specs.Cones.{MarksEnabled}
+use Rattle.inner_cone.specs.latch_cone.Cones.{MarksEnabled}
 use Rattle.sec_setup.specs.Matching.{InterfacesMatch}
-use Rattle.pair_runs.specs.declared.differences.Difference.{Difference}
-use Rattle.pair_runs.specs.declared.differences.OutputPair.{OutputPair}
-use Rattle.pair_runs.specs.Feeds.{AreFound}
-use Rattle.pair_runs.specs.Showing.{ArePlacesOf}
+use Rattle.cycle_sim.specs.declared.pair_runs.differences.Difference.{Difference}
+use Rattle.cycle_sim.specs.declared.pair_runs.differences.OutputPair.{OutputPair}
+use Rattle.cycle_sim.specs.pair_runs.Feeds.{AreFound}
+use Rattle.cycle_sim.specs.pair_runs.Showing.{ArePlacesOf}
 use Rattle.replay.specs.replay_header.Header.{FitsBoth, opened}
 use Rattle.replay.specs.cut_sides.Pairs.{ArePairsAt}
 use Rattle.replay.specs.cut_sides.Opening.{IsCutSide, AreNamesOf}

@@ -26,8 +26,8 @@ use Rattle.flat_net.proofs.Nets.{some_at, equation_from, OfGate, OfLatch, latch_
 use Rattle.flat_net.proofs.Places.{All-at, one_at}
 use Rattle.cycle_sim.specs.Runs.{IsRunFrom}
 use Rattle.cycle_sim.proofs.Lists.{map_is, map_at, replicate_at}
-use Rattle.pair_runs.specs.Feeding.{IsColumn, AreColumns, bit_of, reordered}
-use Rattle.pair_runs.specs.Feeds.{zeros}
+use Rattle.cycle_sim.specs.pair_runs.Feeding.{IsColumn, AreColumns, bit_of, reordered}
+use Rattle.cycle_sim.specs.pair_runs.Feeds.{zeros}
 use Rattle.replay.specs.Replay.{IsReplayRun}
 use Rattle.replay.proofs.FreeMarks.{AreUnread, mixed, mixed_is, mixed_free, run_mixed, AreOne, one_back, one_equation, one_input, one_run}
 use Rattle.replay.proofs.replay_header.Tests.{no_true_false, any_is, is_any, and_both, both_and, or_left, or_right, not_true}

@@ -10,11 +10,11 @@ use Rattle.flat_net.specs.declared.parts.Port.{Port}
 use Rattle.flat_net.specs.Cut.{IsCutCircuit, exposed_names}
 use Rattle.flat_net.specs.Sound.{IsSound}
 use Rattle.flat_net.specs.View.{NetView, circuit_of, is_read}
-use Rattle.latch_cone.specs.Cones.{IsMarkedBy, MarksEnabled}
+use Rattle.inner_cone.specs.latch_cone.Cones.{IsMarkedBy, MarksEnabled}
 use Rattle.cycle_sim.specs.Runs.{IsRunFrom}
 use Rattle.cycle_sim.specs.View.{IsMark}
-use Rattle.pair_runs.specs.Feeding.{AreColumns, reordered}
-use Rattle.pair_runs.specs.Feeds.{zeros}
+use Rattle.cycle_sim.specs.pair_runs.Feeding.{AreColumns, reordered}
+use Rattle.cycle_sim.specs.pair_runs.Feeds.{zeros}
 use Rattle.replay.specs.cut_sides.Opening.{IsCutSide}
 use Rattle.replay.specs.Replay.{IsReplayRun}
 use Rattle.replay.proofs.EnabledBits.{enabled_marked, marked_enabled}

@@ -10,16 +10,16 @@ use Rattle.base_tables.specs.Table.{AreDistinct}
 use Rattle.flat_net.specs.Sound.{IsSound}
 use Rattle.flat_net.specs.View.{NetView, circuit_of}
 use Rattle.flat_net.proofs.Nets.{some_at}
-use Rattle.latch_cone.specs.Cones.{MarksEnabled}
+use Rattle.inner_cone.specs.latch_cone.Cones.{MarksEnabled}
 use Rattle.sec_setup.specs.Matching.{InterfacesMatch}
 use Rattle.sec_setup.specs.Pairs.{NamedPair, named_pairs}
-use Rattle.pair_runs.specs.declared.differences.Difference.{Difference}
-use Rattle.pair_runs.specs.declared.differences.OutputPair.{OutputPair}
-use Rattle.pair_runs.specs.declared.shown.Shown.{Shown}
-use Rattle.pair_runs.specs.Feeds.{AreFound, IsShownAt}
-use Rattle.pair_runs.specs.Listing.{differences_from}
-use Rattle.pair_runs.specs.Outputs.{no_port, output_at}
-use Rattle.pair_runs.specs.Showing.{ArePlacesOf, called, names_of}
+use Rattle.cycle_sim.specs.declared.pair_runs.differences.Difference.{Difference}
+use Rattle.cycle_sim.specs.declared.pair_runs.differences.OutputPair.{OutputPair}
+use Rattle.cycle_sim.specs.declared.pair_runs.shown.Shown.{Shown}
+use Rattle.cycle_sim.specs.pair_runs.Feeds.{AreFound, IsShownAt}
+use Rattle.cycle_sim.specs.pair_runs.Listing.{differences_from}
+use Rattle.cycle_sim.specs.pair_runs.Outputs.{no_port, output_at}
+use Rattle.cycle_sim.specs.pair_runs.Showing.{ArePlacesOf, called, names_of}
 use Rattle.replay.specs.replay_header.Header.{FitsBoth, opened}
 use Rattle.replay.specs.cut_sides.Pairs.{ArePairsAt, named_places}
 use Rattle.replay.specs.cut_sides.Opening.{IsCutSide}

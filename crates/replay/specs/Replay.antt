@@ -8,17 +8,17 @@ use Rattle.circuit_theory.specs.Agree.{cut, PairAt}
 use Rattle.circuit_theory.specs.Replay.{AreDifferences, Difference as PlacedDifference}
 use Rattle.flat_net.specs.View.{NetView, circuit_of}
 use Rattle.flat_net.specs.declared.parts.Port.{Port}
-use Rattle.latch_cone.specs.Cones.{MarksEnabled}
+use Rattle.inner_cone.specs.latch_cone.Cones.{MarksEnabled}
 use Rattle.base_tables.specs.Table.{AreDistinct}
 use Rattle.sec_base.specs.NoMemory.{NoMemory}
 use Rattle.sec_setup.specs.Matching.{InterfacesMatch}
 use Rattle.sec_setup.specs.Pairs.{NamedPair, named_pairs}
-use Rattle.pair_runs.specs.declared.differences.Difference.{Difference}
+use Rattle.cycle_sim.specs.declared.pair_runs.differences.Difference.{Difference}
 use Rattle.replay.specs.declared.differences.Replayed.{Replayed}
 use Rattle.replay.specs.declared.replay_header.error.ReplayError.{ReplayError}
 use Rattle.replay.specs.declared.replay_header.error.ReplayError.TheVariants as refused
 use Rattle.replay.specs.replay_header.Header.{FitsBoth, FitsOr, opened}
-use Rattle.pair_runs.specs.Showing.{called}
+use Rattle.cycle_sim.specs.pair_runs.Showing.{called}
 
 -- A run over a stimulus, with one cycle for each row: each input that the header names has in each cycle the bit that stands under
 -- its name, and the latches power up with zeros. An input that the header doesn't name is free.

@@ -1,6 +1,6 @@
 //! What a replay finds.
 
-use pair_runs::Differences;
+use cycle_sim::pair_runs::Differences;
 
 /// What two circuits show on a stimulus.
 #[derive(Drop)]

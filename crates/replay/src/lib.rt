@@ -8,6 +8,6 @@ pub mod replay_header;
 mod two_circuits;
 
 pub use crate::replay_header::ReplayError;
+pub use cycle_sim::pair_runs::{Difference, Differences};
 pub use differences::Replayed;
-pub use pair_runs::{Difference, Differences};
 pub use two_circuits::replay;

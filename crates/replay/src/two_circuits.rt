@@ -3,7 +3,7 @@
 ghost use Rattle.std.specs.Prelude.{◌≡◌, ◌^◌, ◌<◌, map, length};
 ghost use Rattle.circuit_theory.specs.declared.Mode.{Mode};
 ghost use Rattle.base_tables.specs.Table.{AreDistinct};
-ghost use Rattle.latch_cone.specs.Cones.{MarksEnabled};
+ghost use Rattle.inner_cone.specs.latch_cone.Cones.{MarksEnabled};
 ghost use Rattle.sec_setup.specs.Matching.{InterfacesMatch};
 ghost use Rattle.replay.specs.Replay.{Replays, IsFitting, FindsReplay};
 
@@ -11,9 +11,9 @@ use crate::cut_sides::{cut_side, pairs_of};
 use crate::differences::Replayed;
 use crate::replay_header::{ReplayError, opened_by};
 use base_tables::NameTable;
+use cycle_sim::pair_runs::{Differences, Side, run_pairs};
 use flat_net::Net;
 use interface::name_tables::table_of_names;
-use pair_runs::{Differences, Side, run_pairs};
 use sec_base::{Bits, NoMemory};
 use std::alloc::Global;
 use witness_report::Stimulus;

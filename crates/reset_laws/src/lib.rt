@@ -2,6 +2,7 @@
 //! anything: each contract is a law.
 #![tactic(auto)]
 
+pub mod class_extension;
 pub mod induct_laws;
 pub mod laws;
 pub mod reset_nets;

@@ -10,8 +10,8 @@ use Rattle.flat_net.specs.View.{NetView}
 use Rattle.elaborate.specs.declared.error.FlatError.{FlatError}
 use Rattle.elaborate.specs.declared.error.FlatError.TheVariants as fault
 use Rattle.flatten.specs.DesignFaults.{DesignFault, IsSoundDesign, IsFlatOf}
-use Rattle.aiger_file.specs.declared.file.AigerFile.{AigerFile}
-use Rattle.aiger_file.specs.aiger_graph.Loops.{HasLoop}
+use Rattle.aiger_read.specs.declared.aiger_file.file.AigerFile.{AigerFile}
+use Rattle.aiger_read.specs.aiger_file.aiger_graph.Loops.{HasLoop}
 use Rattle.aiger_records.specs.declared.error.AigerError.{AigerError}
 use Rattle.aiger_records.specs.declared.error.AigerError.TheVariants as aiger_error
 use Rattle.aiger_read.specs.Nets.{SpellsFile, IsNetOf, ReadsNet}

@@ -8,10 +8,10 @@ use Rattle.circuit_theory.proofs.Lists.{only}
 use Rattle.aiger_records.specs.declared.record.Record.{Record}
 use Rattle.aiger_records.specs.declared.record.Record.TheVariants.{Input, Latch, Output, Gate, Packed}
 use Rattle.aiger_records.specs.Faults.{defined_by}
-use Rattle.aiger_file.specs.declared.file.AigerFile.{AigerFile}
-use Rattle.aiger_file.specs.aiger_graph.Circuit.{constants, zero_cover, one_cover, gate_of, inverter_of, gates_in, latches_from, latches_in, circuit_of_file}
-use Rattle.aiger_file.proofs.aiger_graph.NoLoops.{equation_cases, constant_cases, no_latch_port}
-use Rattle.aiger_file.proofs.aiger_graph.ReadLiterals.{gates_from, inverter_from}
+use Rattle.aiger_read.specs.declared.aiger_file.file.AigerFile.{AigerFile}
+use Rattle.aiger_read.specs.aiger_file.aiger_graph.Circuit.{constants, zero_cover, one_cover, gate_of, inverter_of, gates_in, latches_from, latches_in, circuit_of_file}
+use Rattle.aiger_read.proofs.aiger_file.aiger_graph.NoLoops.{equation_cases, constant_cases, no_latch_port}
+use Rattle.aiger_read.proofs.aiger_file.aiger_graph.ReadLiterals.{gates_from, inverter_from}
 
 nothing : (e : Equation ℕ) → Contains [] e → ⊥
 nothing e h = omega (arith, h.1)

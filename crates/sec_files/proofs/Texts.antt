@@ -7,8 +7,8 @@ use Rattle.flat_net.specs.Sound.{IsSound}
 use Rattle.flat_net.specs.View.{NetView}
 use Rattle.flatten.specs.OneNet.{AreOneNet}
 use Rattle.flatten.proofs.OneNets.{nets_are_one}
-use Rattle.aiger_file.specs.declared.file.AigerFile.{AigerFile}
-use Rattle.aiger_file.specs.aiger_graph.Circuit.{circuit_of_file}
+use Rattle.aiger_read.specs.declared.aiger_file.file.AigerFile.{AigerFile}
+use Rattle.aiger_read.specs.aiger_file.aiger_graph.Circuit.{circuit_of_file}
 use Rattle.aiger_read.specs.Nets.{IsNetOf}
 use Rattle.aiger_read.specs.SignalNames.{signal_name}
 use Rattle.sec_files.specs.Formats.{Format, Blif, Aiger, format_of, IsClockIn, IsNetIn}

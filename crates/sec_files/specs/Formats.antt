@@ -7,11 +7,11 @@ use Rattle.blif_read.specs.Reading.{first_fault, spelled}
 use Rattle.flat_net.specs.View.{NetView}
 use Rattle.flatten.specs.DesignFaults.{IsSoundDesign, IsFlatOf}
 use Rattle.sec_files.specs.Named.{named_circuit}
-use Rattle.aiger_file.specs.declared.file.AigerFile.{AigerFile}
-use Rattle.aiger_file.specs.Files.{fault_of_text}
-use Rattle.aiger_file.specs.Reading.{spelled as spelled_file}
-use Rattle.aiger_file.specs.aiger_graph.Circuit.{circuit_of_file}
-use Rattle.aiger_file.specs.aiger_graph.Loops.{HasLoop}
+use Rattle.aiger_read.specs.declared.aiger_file.file.AigerFile.{AigerFile}
+use Rattle.aiger_read.specs.aiger_file.Files.{fault_of_text}
+use Rattle.aiger_read.specs.aiger_file.Reading.{spelled as spelled_file}
+use Rattle.aiger_read.specs.aiger_file.aiger_graph.Circuit.{circuit_of_file}
+use Rattle.aiger_read.specs.aiger_file.aiger_graph.Loops.{HasLoop}
 use Rattle.aiger_read.specs.Nets.{IsNetOf}
 use Rattle.aiger_read.specs.SignalNames.{signal_name}
 

@@ -6,7 +6,7 @@ use Rattle.flat_net.specs.declared.parts.Port.{Port}
 use Rattle.circuit_theory.specs.declared.Mode.{Mode}
 use Rattle.circuit_theory.specs.Agree.{EnabledIn}
 use Rattle.flat_net.specs.View.{NetView, circuit_of}
-use Rattle.latch_cone.specs.Cones.{IsMarkedBy, MarksEnabled}
+use Rattle.inner_cone.specs.latch_cone.Cones.{IsMarkedBy, MarksEnabled}
 use Rattle.cycle_sim.proofs.Modes.{marks_in_mode}
 use Rattle.flat_net.proofs.Nets.{some_at}
 use Rattle.cycle_sim.specs.Runs.{IsRunFrom}

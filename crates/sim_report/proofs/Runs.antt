@@ -23,7 +23,7 @@ use Rattle.sim_report.specs.Checks.{is_power, word_bits, power_of, named_misfit,
 use Rattle.interface.specs.name_tables.Names.{input_names}
 use Rattle.sim_report.specs.Report.{cycle_lines, IsSimulated, IsSimReport}
 use Rattle.sim_report.specs.Cycles.{AreColumns, PutsCycles, reordered}
-use Rattle.latch_cone.specs.Cones.{MarksEnabled}
+use Rattle.inner_cone.specs.latch_cone.Cones.{MarksEnabled}
 use Rattle.circuit_theory.specs.declared.Mode.{Mode}
 use Rattle.sim_report.proofs.Lines.{shown_in_mode}
 use Rattle.interface.proofs.name_tables.Names.{missing_none}

@@ -3,7 +3,7 @@ use Rattle.std.specs.Prelude.{◌≡◌, ℕ, ◌-◌, Bool, false, List, ◌++�
 use Rattle.flat_net.specs.declared.parts.Port.{Port}
 use Rattle.flat_net.specs.View.{NetView}
 use Rattle.cycle_sim.specs.Runs.{IsRunFrom}
-use Rattle.latch_cone.specs.Cones.{IsMarkedBy}
+use Rattle.inner_cone.specs.latch_cone.Cones.{IsMarkedBy}
 use Rattle.cycle_sim.specs.View.{SimView, MarkedView, IsLatest, IsLatestMark}
 use Rattle.sim_report.specs.Report.{Shown, cycle_line, cycle_lines, IsShown}
 

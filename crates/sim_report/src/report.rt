@@ -2,7 +2,7 @@
 
 ghost use Rattle.std.specs.Prelude.{◌≡◌, ◌^◌, ◌<◌, [], ◌∷◌, ◌++◌, None, codes, length, map, option_map, IfOk, OnOk};
 ghost use Rattle.circuit_theory.specs.declared.Mode.{Mode};
-ghost use Rattle.latch_cone.specs.Cones.{MarksEnabled};
+ghost use Rattle.inner_cone.specs.latch_cone.Cones.{MarksEnabled};
 ghost use Rattle.witness_report.specs.Text.{names_text};
 ghost use Rattle.sim_report.specs.Checks.{first_misfit};
 ghost use Rattle.sim_report.specs.Report.{IsSimReport};

@@ -2,6 +2,7 @@
 //! is a guess: no clause sees it, and what is merged is proved in `sweep`.
 #![tactic(auto)]
 
+pub mod case_split;
 mod columns;
 mod first_nodes;
 mod hints;

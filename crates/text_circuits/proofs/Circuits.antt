@@ -14,8 +14,8 @@ use Rattle.witness_report.specs.declared.witness.Witness.{Witness}
 use Rattle.witness_report.specs.Shown.{MakesDiffer, MakesCutsDiffer, AgreeFrom}
 use Rattle.sec_files.specs.Named.{named_circuit}
 use Rattle.sec_files.proofs.NamedNets.{index_in, named_flat, named_single}
-use Rattle.aiger_file.specs.declared.file.AigerFile.{AigerFile}
-use Rattle.aiger_file.specs.aiger_graph.Circuit.{circuit_of_file}
+use Rattle.aiger_read.specs.declared.aiger_file.file.AigerFile.{AigerFile}
+use Rattle.aiger_read.specs.aiger_file.aiger_graph.Circuit.{circuit_of_file}
 use Rattle.sec_files.specs.aiger_read.Nets.{IsNetOf}
 use Rattle.sec_files.specs.aiger_read.SignalNames.{signal_name}
 use Rattle.sec_files.specs.Formats.{Format, Blif, Aiger, format_of, circuit_of_aiger, circuit_in, IsNetIn}

@@ -1,6 +1,6 @@
 //! What a text in the AIGER formats spells, in words.
 
-use aiger_file::{AigerError, AigerFile, AigerKind, read_file};
+use aiger_read::aiger_file::{AigerError, AigerFile, AigerKind, read_file};
 use aiger_records::Record;
 use row_text::{show, show_count, show_word};
 use sec_base::MAX_FILE_BYTES;

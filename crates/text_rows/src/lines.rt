@@ -3,7 +3,7 @@
 ghost use Rattle.std.specs.Prelude.{◌≤◌, length};
 
 use crate::designs::show_marked;
-use blif_lines::{Lines, RawLine, tokens_of};
+use blif_read::blif_lines::{Lines, RawLine, tokens_of};
 use row_text::{show, show_number};
 use std::rt::HostRuntime;
 

@@ -9,7 +9,7 @@ use circuit_theory::Mode;
 use event_nodes::EventCircuit;
 use event_order::have_depths;
 use flat_net::Net;
-use latch_cone::enabled_among;
+use inner_cone::latch_cone::enabled_among;
 use latch_graph::LatchGraph;
 use latch_kinds::kinds_in;
 use sec_base::{Bits, DEFAULT_CONFLICTS, Ids, NoMemory};

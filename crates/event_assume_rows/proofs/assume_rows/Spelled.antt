@@ -3,7 +3,7 @@ use Rattle.std.proofs.Common.{◌≡◌, true, List, [], ◌∷◌, refl, arith}
 use Rattle.std.specs.Prelude.{codes}
 use Rattle.circuit_theory.specs.Agree.{cut}
 use Rattle.circuit_theory.specs.Sizes.{Weighed}
-use Rattle.blif_lines.specs.Lines.{cut_line, going_on}
+use Rattle.blif_read.specs.blif_lines.Lines.{cut_line, going_on}
 use Rattle.blif_read.specs.Design.{Place, walk, circuit_of_design}
 use Rattle.blif_read.specs.Fault.{fault_of}
 use Rattle.blif_read.specs.Heads.{head_of}

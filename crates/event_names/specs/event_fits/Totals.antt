@@ -6,7 +6,7 @@ use Rattle.circuit_theory.specs.Classes.{HasClasses, classes_of}
 use Rattle.circuit_theory.specs.EventSizes.{Start, IsEventOver}
 use Rattle.circuit_theory.specs.EventTotals.{AreStarts, IsNodesOver, IsNodesWithin}
 use Rattle.event_nodes.specs.View.{EventCircuitView, side_of, Enabled}
-use Rattle.class_extension.specs.Sides.{AreStartsOfBoth}
+use Rattle.reset_laws.specs.class_extension.Sides.{AreStartsOfBoth}
 use Rattle.class_queries.specs.Enables.{both_of}
 use Rattle.class_totals.specs.Totals.{circuit_at, starts_at}
 use Rattle.unshown_pairs.specs.Counted.{left_starts, right_starts}

@@ -23,7 +23,7 @@ use Rattle.induct.specs.declared.block_outputs.answer.Shown.{Shown}
 use Rattle.induct.specs.declared.block_outputs.answer.OutputAnswer.{OutputAnswer}
 use Rattle.induct.specs.declared.block_outputs.answer.OutputAnswer.TheVariants as answer
 use Rattle.induct.specs.declared.block_outputs.outputs.OutputPair.{OutputPair}
-use Rattle.induct_report.specs.block_outputs.Answers.{IsAnswer, IsOutputAnswer, IsShown}
+use Rattle.induct.specs.block_outputs.Answers.{IsAnswer, IsOutputAnswer, IsShown}
 use Rattle.sec_files.proofs.job_files.Reading.{some_and}
 use Rattle.induct.specs.declared.induction.InductPair.{InductPair}
 use Rattle.induct.specs.declared.induction.InductVerdict.{InductVerdict}

@@ -14,16 +14,16 @@ use Rattle.blif_read.specs.Design.{Place}
 use Rattle.pair_decide.specs.declared.query.Proof.{Proof}
 use Rattle.latch_blocks.specs.Blocks.{block_at}
 use Rattle.latch_blocks.specs.QueryLaws.{AreBlockValues}
-use Rattle.induct_report.specs.block_refine.declared.refinement.SplitLimit.{SplitLimit}
-use Rattle.induct_report.specs.block_refine.Refining.{IsSplitLimit}
-use Rattle.induct_report.specs.block_outputs.Answers.{IsLimit}
+use Rattle.induct.specs.induct_report.block_refine.declared.refinement.SplitLimit.{SplitLimit}
+use Rattle.induct.specs.induct_report.block_refine.Refining.{IsSplitLimit}
+use Rattle.induct.specs.block_outputs.Answers.{IsLimit}
 use Rattle.sec_files.specs.Loading.{IsAccepted, Loads, SpellsCircuit}
 use Rattle.job_base.specs.declared.status.StatusName.{StatusName}
 use Rattle.job_base.specs.declared.status.StatusName.TheVariants as status
 use Rattle.induct.specs.declared.induction.InductVerdict.TheVariants as verdict
 use Rattle.induct.specs.declared.induction.Induction.{Induction}
 use Rattle.induct.specs.Inductions.{AreOwnNumbers, IsOver, IsInduction}
-use Rattle.induct_report.specs.Report.{induct_text}
+use Rattle.induct.specs.induct_report.Report.{induct_text}
 use Rattle.job_induct.specs.induct_meaning.Judged.{AreLight}
 
 -- what is said of the two texts, where both are told

@@ -15,7 +15,7 @@ use Rattle.induct.specs.declared.induction.InductVerdict.{InductVerdict}
 use Rattle.induct.specs.declared.induction.InductVerdict.TheVariants as verdict
 use Rattle.induct.specs.declared.induction.Induction.{Induction}
 use Rattle.induct.specs.Inductions.{IsInduction}
-use Rattle.induct_report.specs.Report.{induct_text}
+use Rattle.induct.specs.induct_report.Report.{induct_text}
 
 abbrev pub judgement_of : InductVerdict → Judgement
 judgement_of verdict.Equal = judgement.Equal

@@ -4,7 +4,7 @@ use Rattle.std.specs.Prelude.{codes}
 use Rattle.circuit_theory.specs.declared.Mode.TheVariants.{Plain}
 use Rattle.circuit_theory.specs.Agree.{IsMinimalCut}
 use Rattle.circuit_theory.specs.Circuit.{Circuit}
-use Rattle.blif_lines.specs.Lines.{cut_line, going_on}
+use Rattle.blif_read.specs.blif_lines.Lines.{cut_line, going_on}
 use Rattle.blif_read.specs.declared.design.BlifModel.{BlifModel}
 use Rattle.blif_read.specs.Design.{Place, clock_places, walk, circuit_of_design, IsClock}
 use Rattle.blif_read.specs.Fault.{fault_of}

@@ -8,7 +8,7 @@ use Rattle.std.proofs.lemmas.Map.Keys.{IsStrictlyIncreasing-from_distinct, IsDis
 use Rattle.circuit_theory.specs.Circuit.{Circuit, Reads, Reaches}
 use Rattle.circuit_theory.proofs.Lists.{All-from_each, at_of}
 use Rattle.flat_net.specs.View.{NetView, circuit_of}
-use Rattle.latch_cone.specs.Cones.{AreReached as AreAllReached}
+use Rattle.inner_cone.specs.latch_cone.Cones.{AreReached as AreAllReached}
 use Rattle.inner_cone.proofs.Inner.{eqb-swap, some_distinct}
 use Rattle.latch_kinds.specs.unate_enable.Walks.{AreReached}
 

@@ -10,7 +10,7 @@ use Rattle.circuit_theory.specs.Fits.{IsPairDepth}
 use Rattle.circuit_theory.specs.Names.{is_among}
 use Rattle.circuit_theory.specs.Sizes.{IsOver, Weighed}
 use Rattle.circuit_theory.proofs.Lists.{Contains-map, Contains-map_from}
-use Rattle.blif_lines.specs.Lines.{cut_line, going_on}
+use Rattle.blif_read.specs.blif_lines.Lines.{cut_line, going_on}
 use Rattle.blif_read.specs.declared.design.BlifModel.{BlifModel}
 use Rattle.blif_read.specs.declared.design.Statement.TheVariants.{Names, Latch as LatchLine}
 use Rattle.blif_read.specs.Design.{Place, walk, circuit_of_design}

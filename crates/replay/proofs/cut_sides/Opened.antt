@@ -13,7 +13,7 @@ use Rattle.flat_net.specs.Sound.{IsSound}
 use Rattle.flat_net.specs.View.{NetView}
 use Rattle.flat_net.proofs.Places.{All-at}
 use Rattle.interface.specs.Pairing.{AreNamedAt}
-use Rattle.pair_runs.proofs.Places.{pushed_at}
+use Rattle.cycle_sim.proofs.pair_runs.Places.{pushed_at}
 use Rattle.interface.specs.name_tables.Names.{latch_names}
 use Rattle.interface.proofs.name_tables.Names.{latches_distinct, latch_name_at}
 use Rattle.replay.specs.cut_sides.Opening.{HasBit}

@@ -18,9 +18,9 @@ use Rattle.interface.specs.declared.pairs.SignalPair.{SignalPair}
 use Rattle.interface.specs.Pairing.{AreNamedAt, IsOutputPair, ArePairs}
 use Rattle.sec_setup.specs.Pairs.{named_pairs, places_of}
 use Rattle.interface.proofs.NamedPairs.{pairs_named}
-use Rattle.pair_runs.specs.declared.differences.OutputPair.{OutputPair}
-use Rattle.pair_runs.specs.Outputs.{no_port, output_at}
-use Rattle.pair_runs.specs.Showing.{ArePlacesOf}
+use Rattle.cycle_sim.specs.declared.pair_runs.differences.OutputPair.{OutputPair}
+use Rattle.cycle_sim.specs.pair_runs.Outputs.{no_port, output_at}
+use Rattle.cycle_sim.specs.pair_runs.Showing.{ArePlacesOf}
 use Rattle.replay.specs.cut_sides.Pairs.{ArePairsAt, named_places}
 
 -- lists of one length whose items stand in a relation, place by place

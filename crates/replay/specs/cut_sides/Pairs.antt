@@ -5,8 +5,8 @@ use Rattle.flat_net.specs.declared.parts.Port.{Port}
 use Rattle.flat_net.specs.View.{NetView, circuit_of}
 use Rattle.witness_report.specs.declared.witness.PairName.TheVariants as pair
 use Rattle.sec_setup.specs.Pairs.{NamedPair}
-use Rattle.pair_runs.specs.Outputs.{output_at}
-use Rattle.pair_runs.specs.declared.differences.OutputPair.{OutputPair}
+use Rattle.cycle_sim.specs.pair_runs.Outputs.{output_at}
+use Rattle.cycle_sim.specs.declared.pair_runs.differences.OutputPair.{OutputPair}
 
 -- an output of A at this place, and B's output of its name
 pub record IsOutputAt (b : NetView) (place : ℕ) (port : Port) (p : OutputPair) : Type 0 where

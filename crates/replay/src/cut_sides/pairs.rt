@@ -7,9 +7,9 @@ ghost use Rattle.sec_setup.specs.Matching.{InterfacesMatch};
 ghost use Rattle.replay.specs.cut_sides.Pairs.{IsOutputAt, AreOutputsBeside, IsNextAt, PutsNexts, ArePairsAt};
 
 use base_tables::NameTable;
+use cycle_sim::pair_runs::OutputPair;
 use flat_net::{Net, Port};
 use interface::name_tables::{table_of_ports, word_of};
-use pair_runs::OutputPair;
 use sec_base::NoMemory;
 use std::alloc::Global;
 use witness_report::PairName;

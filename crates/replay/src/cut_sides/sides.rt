@@ -5,8 +5,8 @@ ghost use Rattle.replay.specs.cut_sides.Opening.{AreNamesOf, IsCutSide};
 
 use crate::cut_sides::opened_latches::{bits_left, positions_of};
 use base_tables::NameTable;
+use cycle_sim::pair_runs::Side;
 use flat_net::Net;
-use pair_runs::Side;
 use sec_base::{Bits, NoMemory};
 use std::alloc::Global;
 

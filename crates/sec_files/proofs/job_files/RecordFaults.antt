@@ -2,10 +2,10 @@
 use Rattle.std.proofs.Common.{◌≡◌, ◌∙◌, ℕ, List, Some, None, sym}
 use Rattle.std.proofs.lemmas.Option.{none-some}
 use Rattle.aiger_records.specs.declared.error.AigerKind.{AigerKind}
-use Rattle.aiger_file.specs.declared.file.AigerFile.{AigerFile}
-use Rattle.aiger_file.specs.Files.{fault_of_text}
-use Rattle.aiger_file.specs.Reading.{spelled}
-use Rattle.aiger_file.specs.aiger_graph.Loops.{HasLoop}
+use Rattle.aiger_read.specs.declared.aiger_file.file.AigerFile.{AigerFile}
+use Rattle.aiger_read.specs.aiger_file.Files.{fault_of_text}
+use Rattle.aiger_read.specs.aiger_file.Reading.{spelled}
+use Rattle.aiger_read.specs.aiger_file.aiger_graph.Loops.{HasLoop}
 use Rattle.aiger_read.specs.Nets.{HasFault}
 
 module _ (text : List ℕ) (none : fault_of_text text ≡ None) (sound : (f : AigerFile) → spelled text ≡ Some f → HasLoop f → ⊥) where

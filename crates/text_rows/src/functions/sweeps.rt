@@ -6,11 +6,11 @@ use crate::functions::calls::literal_at;
 use crate::functions::decisions::conflicts_at;
 use crate::functions::sketch::Sketch;
 use aig::{Aig, Lit, Lits};
-use case_split::agree_by_cases;
 use row_text::show;
 use sec_base::NoMemory;
 use std::alloc::Global;
 use std::rt::HostRuntime;
+use sweep_candidates::case_split::agree_by_cases;
 use swept_queries::sweep::{Swept, sweep};
 
 /// Fills the words by Marsaglia's xorshift ("Xorshift RNGs").

@@ -13,7 +13,7 @@ use Rattle.flat_net.proofs.Nets.{sound_is_net}
 use Rattle.event_nodes.specs.Nodes.{path_of}
 use Rattle.event_nodes.specs.View.{EventCircuitView, side_of}
 use Rattle.event_agreement.specs.pair_events.Enables.{both_of, class_map}
-use Rattle.class_extension.proofs.Sides.{sides_reach_nodes_in_nets}
+use Rattle.reset_laws.proofs.class_extension.Sides.{sides_reach_nodes_in_nets}
 use Rattle.event_classes.specs.Totals.{AreWithin}
 use Rattle.event_classes.specs.Totals as totals
 use Rattle.event_classes.proofs.Nodes.{node_more}

@@ -4,7 +4,7 @@ use Rattle.circuit_theory.specs.Joined.{Either}
 use Rattle.circuit_theory.specs.Classes.{HasClasses}
 use Rattle.circuit_theory.specs.EventSizes.{Start}
 use Rattle.circuit_theory.specs.EventTotals.{AreStarts}
-use Rattle.class_extension.specs.Sides.{AreStartsOfBoth}
+use Rattle.reset_laws.specs.class_extension.Sides.{AreStartsOfBoth}
 use Rattle.event_classes.specs.Totals.{AreWithin}
 use Rattle.event_classes.specs.declared.map.ClassMap.{ClassMap}
 use Rattle.event_agreement.specs.pair_events.Counted.{HaveCounted}

@@ -7,7 +7,7 @@ use Rattle.blif_read.specs.Fault.{repeats}
 use Rattle.blif_read.proofs.Distinct.{spelled_names, spelled_ports}
 use Rattle.blif_read.proofs.Count.{spelled_few}
 use Rattle.blif_read.proofs.Full.{spelled_full}
-use Rattle.blif_lines.specs.Lines.{is_empty}
+use Rattle.blif_read.specs.blif_lines.Lines.{is_empty}
 use Rattle.blif_read.proofs.Plain.{spelled_plain, spelled_fit}
 use Rattle.blif_read.proofs.reader.read_design.Goals as goal
 

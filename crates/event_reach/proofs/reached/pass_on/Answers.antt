@@ -5,7 +5,7 @@ use Rattle.event_nodes.specs.flat_net.declared.signals.Signal.{Signal}
 use Rattle.std.proofs.lemmas.Option.{slice_get_within}
 use Rattle.event_nodes.specs.flat_net.View.{NetView}
 use Rattle.event_nodes.proofs.flat_net.Places.{one_at}
-use Rattle.latch_cone.specs.Cones.{AreOthers}
+use Rattle.inner_cone.specs.latch_cone.Cones.{AreOthers}
 use Rattle.event_nodes.specs.Nodes.{EventGraphView, IsChild}
 use Rattle.event_nodes.specs.Reach.{IsReachedPlace}
 use Rattle.event_nodes.specs.View.{side_of}

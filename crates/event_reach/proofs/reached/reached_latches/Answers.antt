@@ -3,7 +3,7 @@ use Rattle.std.proofs.Common.{◌≡◌, ◌<◌, ℕ, List, length, None, sym, 
 use Rattle.event_nodes.specs.flat_net.View.{NetView, circuit_of}
 use Rattle.circuit_theory.specs.Circuit.{IsLatch}
 use Rattle.std.specs.List.{Contains}
-use Rattle.latch_cone.specs.Cones.{AreReached}
+use Rattle.inner_cone.specs.latch_cone.Cones.{AreReached}
 use Rattle.event_nodes.specs.Adds.{Adds}
 use Rattle.event_reach.proofs.Latches.{IsRootLatch}
 use Rattle.event_nodes.proofs.Growing.{grows_refl}

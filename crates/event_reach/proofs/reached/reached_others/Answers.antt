@@ -5,7 +5,7 @@ use Rattle.event_nodes.specs.flat_net.declared.parts.LatchAt.{LatchAt}
 use Rattle.event_nodes.specs.flat_net.declared.signals.Signal.{Signal}
 use Rattle.event_nodes.specs.flat_net.View.{NetView}
 use Rattle.event_nodes.proofs.flat_net.Nets.{some_at}
-use Rattle.latch_cone.specs.Cones.{AreOthers}
+use Rattle.inner_cone.specs.latch_cone.Cones.{AreOthers}
 use Rattle.event_nodes.specs.Adds.{Adds}
 use Rattle.event_nodes.proofs.Growing.{grows_refl}
 use Rattle.event_nodes.proofs.Lists.{adds_contains}

@@ -1,6 +1,6 @@
 use Rattle.std.proofs.Common.{take}
 use Rattle.circuit_theory.specs.declared.Mode.{Mode}
-use Rattle.latch_cone.specs.Kinds.{AreKindsIn}
+use Rattle.inner_cone.specs.latch_cone.Kinds.{AreKindsIn}
 use Rattle.signal_graph.specs.Graph.{IsGraphIn}
 use Rattle.graph_report.specs.Puts.{PutsLatches}
 use Rattle.graph_report.proofs.report.put_latches.Given as goal

@@ -4,7 +4,7 @@ use Rattle.std.specs.List.{filter_map}
 use Rattle.std.specs.List.Sorted.{IsPermutation, IsNonDecreasing}
 use Rattle.std.proofs.lemmas.List.{take_all}
 use Rattle.std.proofs.lemmas.List.Sorted.{IsNonDecreasingBy-from_sort}
-use Rattle.latch_cone.specs.Parts.{gate_at}
+use Rattle.inner_cone.specs.latch_cone.Parts.{gate_at}
 use Rattle.inner_cone.proofs.Gates.{gate_more, none_more}
 use Rattle.inner_cone.proofs.parts.gates_among.Goals.{in-Gate+in_ok-push, in_default}
 use Rattle.inner_cone.proofs.parts.gates_among.Goals as goal

@@ -1,6 +1,6 @@
 use Rattle.std.proofs.Common.{◌≡◌, take}
 use Rattle.std.specs.List.{filter_map}
-use Rattle.latch_cone.specs.Parts.{gate_at}
+use Rattle.inner_cone.specs.latch_cone.Parts.{gate_at}
 use Rattle.inner_cone.proofs.parts.gates_among.Given as goal
 
 abbrev pub invariant-loop-at : goal.invariant-loop-at

@@ -3,7 +3,7 @@ use Rattle.std.proofs.Common.{ℕ, List, subst}
 use Rattle.std.specs.List.{filter_map}
 use Rattle.std.specs.List.Sorted.{IsNonDecreasing, IsPermutation}
 use Rattle.std.proofs.lemmas.Result.{IfOk-weaker}
-use Rattle.latch_cone.specs.Parts.{gate_at}
+use Rattle.inner_cone.specs.latch_cone.Parts.{gate_at}
 use Rattle.inner_cone.specs.Inner.{AreHigh}
 use Rattle.inner_cone.specs.Gates.{AreInnerGates}
 use Rattle.inner_cone.proofs.Gates.{inner_gates}

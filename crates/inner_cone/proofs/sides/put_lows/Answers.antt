@@ -2,9 +2,9 @@
 use Rattle.std.proofs.Common.{◌≡◌, ◌≢◌, ◌<◌, ◌+◌, ℕ, Some, get_or, slice_get, subst, arith, inl, inr}
 use Rattle.std.specs.Prelude.{◌⊎◌, Contains}
 use Rattle.std.proofs.lemmas.Option.{slice_get_within, slice_get-get_or}
-use Rattle.latch_cone.specs.flat_net.declared.signals.Signal.{Signal}
-use Rattle.latch_cone.proofs.flat_net.Places.{one_at}
-use Rattle.latch_cone.proofs.circuit_theory.Sums.{same_or_not}
+use Rattle.inner_cone.specs.latch_cone.flat_net.declared.signals.Signal.{Signal}
+use Rattle.inner_cone.proofs.latch_cone.flat_net.Places.{one_at}
+use Rattle.inner_cone.proofs.latch_cone.circuit_theory.Sums.{same_or_not}
 use Rattle.inner_cone.specs.Inner.{IsLow}
 use Rattle.inner_cone.specs.Sides.{IsLowPut}
 use Rattle.inner_cone.proofs.SideSignals.{low_kept, low_there, low_some}

@@ -1,7 +1,7 @@
 use Rattle.std.specs.Prelude.{◌≡◌, ◌<◌, ℕ, slice_get, Some, Contains}
-use Rattle.latch_cone.specs.flat_net.declared.signals.Signal.{Signal}
-use Rattle.latch_cone.specs.flat_net.View.{NetView}
-use Rattle.latch_cone.specs.Cones.{AreRead}
+use Rattle.inner_cone.specs.latch_cone.flat_net.declared.signals.Signal.{Signal}
+use Rattle.inner_cone.specs.latch_cone.flat_net.View.{NetView}
+use Rattle.inner_cone.specs.latch_cone.Cones.{AreRead}
 use Rattle.inner_cone.specs.Inner.{IsLow}
 use Rattle.inner_cone.specs.Sides.{AreSomeSides, AreKept}
 use Rattle.inner_cone.proofs.sides.put_lows.Given as goal

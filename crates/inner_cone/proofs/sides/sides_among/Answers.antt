@@ -2,11 +2,11 @@
 use Rattle.std.proofs.Common.{◌≡◌, ◌≢◌, ◌<◌, ◌+◌, ℕ, List, Some, Contains, get_or, slice_get, subst, arith, inl, inr}
 use Rattle.std.specs.Prelude.{◌⊎◌}
 use Rattle.std.proofs.lemmas.Option.{slice_get_within, slice_get-get_or}
-use Rattle.latch_cone.specs.circuit_theory.Circuit.{Reaches}
-use Rattle.latch_cone.proofs.circuit_theory.Lists.{at_of}
-use Rattle.latch_cone.proofs.circuit_theory.Sums.{same_or_not}
-use Rattle.latch_cone.specs.flat_net.declared.signals.Signal.{Signal}
-use Rattle.latch_cone.proofs.flat_net.Places.{one_at}
+use Rattle.inner_cone.specs.latch_cone.circuit_theory.Circuit.{Reaches}
+use Rattle.inner_cone.proofs.latch_cone.circuit_theory.Lists.{at_of}
+use Rattle.inner_cone.proofs.latch_cone.circuit_theory.Sums.{same_or_not}
+use Rattle.inner_cone.specs.latch_cone.flat_net.declared.signals.Signal.{Signal}
+use Rattle.inner_cone.proofs.latch_cone.flat_net.Places.{one_at}
 use Rattle.inner_cone.specs.Sides.{IsLowPut}
 use Rattle.inner_cone.proofs.SideSignals.{IsDone, none_there, low_there, low_some, done_kept, all_sides}
 use Rattle.inner_cone.proofs.sides.sides_among.Goals as goal

@@ -1,7 +1,7 @@
 use Rattle.std.specs.Prelude.{◌≡◌, ◌<◌, ◌⊎◌, ℕ, slice_get, Some, Contains}
-use Rattle.latch_cone.specs.flat_net.declared.signals.Signal.{Signal}
-use Rattle.latch_cone.specs.flat_net.View.{NetView}
-use Rattle.latch_cone.specs.Cones.{AreSome, AreRead, Stay}
+use Rattle.inner_cone.specs.latch_cone.flat_net.declared.signals.Signal.{Signal}
+use Rattle.inner_cone.specs.latch_cone.flat_net.View.{NetView}
+use Rattle.inner_cone.specs.latch_cone.Cones.{AreSome, AreRead, Stay}
 use Rattle.inner_cone.specs.Inner.{IsLow}
 use Rattle.inner_cone.proofs.walk.put_all.Given as goal
 

@@ -1,5 +1,5 @@
 -- A signal that isn't low.
-use Rattle.latch_cone.proofs.Walks.{is_put}
+use Rattle.inner_cone.proofs.latch_cone.Walks.{is_put}
 use Rattle.inner_cone.proofs.Inner.{high_put}
 use Rattle.inner_cone.proofs.walk.put_high.Goals as goal
 

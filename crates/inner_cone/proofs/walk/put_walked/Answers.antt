@@ -2,14 +2,14 @@
 use Rattle.std.proofs.Common.{◌≡◌, ◌≢◌, ◌<◌, ◌+◌, ℕ, Some, slice_get, length, subst, sym, arith, inl, inr}
 use Rattle.std.specs.Prelude.{Contains, ◌⊎◌}
 use Rattle.std.proofs.lemmas.Option.{slice_get_within}
-use Rattle.latch_cone.proofs.circuit_theory.Lists.{at_of}
-use Rattle.latch_cone.proofs.circuit_theory.Sums.{same_or_not}
-use Rattle.latch_cone.specs.circuit_theory.Circuit.{Reads, Reaches}
-use Rattle.latch_cone.proofs.flat_net.Places.{one_at}
-use Rattle.latch_cone.proofs.flat_net.Nets.{some_at}
-use Rattle.latch_cone.specs.flat_net.View.{circuit_of}
-use Rattle.latch_cone.specs.Cones.{AreSome}
-use Rattle.latch_cone.proofs.Walks.{some_none, some_few}
+use Rattle.inner_cone.proofs.latch_cone.circuit_theory.Lists.{at_of}
+use Rattle.inner_cone.proofs.latch_cone.circuit_theory.Sums.{same_or_not}
+use Rattle.inner_cone.specs.latch_cone.circuit_theory.Circuit.{Reads, Reaches}
+use Rattle.inner_cone.proofs.latch_cone.flat_net.Places.{one_at}
+use Rattle.inner_cone.proofs.latch_cone.flat_net.Nets.{some_at}
+use Rattle.inner_cone.specs.latch_cone.flat_net.View.{circuit_of}
+use Rattle.inner_cone.specs.latch_cone.Cones.{AreSome}
+use Rattle.inner_cone.proofs.latch_cone.Walks.{some_none, some_few}
 use Rattle.inner_cone.specs.Inner.{IsLow, IsHighPut}
 use Rattle.inner_cone.proofs.Inner.{high_there, high_some, stay_or}
 use Rattle.inner_cone.proofs.walk.put_walked.Goals as goal

@@ -1,7 +1,7 @@
 use Rattle.std.specs.Prelude.{◌≡◌, ◌<◌, ◌-◌, ◌⊎◌, ℕ, length, slice_get, Some, Contains}
-use Rattle.latch_cone.specs.circuit_theory.Circuit.{Reads}
-use Rattle.latch_cone.specs.flat_net.View.{circuit_of}
-use Rattle.latch_cone.specs.Cones.{AreSome}
+use Rattle.inner_cone.specs.latch_cone.circuit_theory.Circuit.{Reads}
+use Rattle.inner_cone.specs.latch_cone.flat_net.View.{circuit_of}
+use Rattle.inner_cone.specs.latch_cone.Cones.{AreSome}
 use Rattle.inner_cone.specs.Inner.{IsLow}
 use Rattle.inner_cone.proofs.walk.put_walked.Given as goal
 

@@ -1,8 +1,8 @@
 use Rattle.std.proofs.Common.{◌∙◌, List, Bool, length, sym, ap, subst}
 use Rattle.flat_net.specs.View.{NetView}
-use Rattle.pair_runs.specs.declared.differences.OutputPair.{OutputPair}
-use Rattle.pair_runs.specs.Feeds.{AreFound}
-use Rattle.pair_runs.specs.Showing.{ArePlacesOf}
+use Rattle.cycle_sim.specs.declared.pair_runs.differences.OutputPair.{OutputPair}
+use Rattle.cycle_sim.specs.pair_runs.Feeds.{AreFound}
+use Rattle.cycle_sim.specs.pair_runs.Showing.{ArePlacesOf}
 use Rattle.replay.proofs.Fitting.{if_ok, places_of_sides, names_of_left, names_of_right, fitting}
 use Rattle.replay.proofs.two_circuits.replay_cut.Goals as goal
 

@@ -1,7 +1,7 @@
 use Rattle.std.proofs.Common.{List, sym, subst}
-use Rattle.pair_runs.specs.declared.differences.OutputPair.{OutputPair}
-use Rattle.pair_runs.specs.Feeds.{AreFound}
-use Rattle.pair_runs.specs.Showing.{ArePlacesOf}
+use Rattle.cycle_sim.specs.declared.pair_runs.differences.OutputPair.{OutputPair}
+use Rattle.cycle_sim.specs.pair_runs.Feeds.{AreFound}
+use Rattle.cycle_sim.specs.pair_runs.Showing.{ArePlacesOf}
 use Rattle.sec_setup.proofs.Uncut.{no_names}
 use Rattle.replay.proofs.Fitting.{if_ok, places_of_sides, as_it_is, fitting}
 use Rattle.replay.proofs.two_circuits.replay_whole.Goals as goal

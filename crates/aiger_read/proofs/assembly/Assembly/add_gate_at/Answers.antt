@@ -5,7 +5,7 @@ use Rattle.std.proofs.lemmas.List.{length-map}
 use Rattle.circuit_theory.specs.Cover.{Cover}
 use Rattle.flat_net.specs.declared.signals.Signal.{Signal}
 use Rattle.flat_net.specs.Makes.{MakerView, with_gate}
-use Rattle.aiger_file.specs.aiger_graph.Literals.{reads_in}
+use Rattle.aiger_read.specs.aiger_file.aiger_graph.Literals.{reads_in}
 use Rattle.aiger_read.specs.Signals.{cover_number}
 use Rattle.aiger_read.specs.Made.{signal_at}
 use Rattle.aiger_read.proofs.Making.{order_at, place_low, room, fresh, gate_next, gate_named, reads_within, fanins_low, reads_fit, made_gate, made_none, on_both}

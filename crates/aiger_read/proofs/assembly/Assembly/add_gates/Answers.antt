@@ -2,7 +2,7 @@ use Rattle.std.proofs.Common.{ℕ, List, [], subst, arith}
 use Rattle.std.specs.List.{filter}
 use Rattle.aiger_read.specs.Signals.{is_gate}
 use Rattle.aiger_read.specs.Made.{HasGates}
-use Rattle.aiger_file.proofs.aiger_graph.net_assembly.Nexts.{take_whole}
+use Rattle.aiger_read.proofs.aiger_file.aiger_graph.net_assembly.Nexts.{take_whole}
 use Rattle.aiger_read.proofs.assembly.Assembly.add_gates.Goals as goal
 
 pub returns : goal.returns

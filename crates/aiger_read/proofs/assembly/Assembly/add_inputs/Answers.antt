@@ -1,9 +1,9 @@
 use Rattle.std.proofs.Common.{◌∙◌, ◌∷◌, [], ℕ, List, take, length, get_or, Some, refl, sym, ap, subst, arith}
 use Rattle.flat_net.specs.Makes.{MakerView}
 use Rattle.aiger_records.specs.declared.record.Record.TheVariants.{Input}
-use Rattle.aiger_file.specs.aiger_graph.Circuit.{input_of, input_literals}
+use Rattle.aiger_read.specs.aiger_file.aiger_graph.Circuit.{input_of, input_literals}
 use Rattle.std.proofs.lemmas.List.{length-append}
-use Rattle.aiger_file.specs.Names.{name_of}
+use Rattle.aiger_read.specs.aiger_file.Names.{name_of}
 use Rattle.aiger_read.specs.Made.{IsMade}
 use Rattle.aiger_read.proofs.LiteralLists.{kept_more, kept_same}
 use Rattle.aiger_read.proofs.Making.{record_there, no_input, room, next_low, fresh, input_next, input_named, made_input}

@@ -1,5 +1,5 @@
 use Rattle.std.proofs.Common.{◌≡◌, [], take, length}
-use Rattle.aiger_file.specs.aiger_graph.Circuit.{input_literals}
+use Rattle.aiger_read.specs.aiger_file.aiger_graph.Circuit.{input_literals}
 use Rattle.aiger_read.specs.Made.{IsMade}
 use Rattle.aiger_read.proofs.assembly.Assembly.add_inputs.Given as goal
 

@@ -3,8 +3,8 @@ use Rattle.std.proofs.lemmas.List.{length-append}
 use Rattle.sec_base.specs.declared.basics.Init.{Init}
 use Rattle.flat_net.specs.Makes.{MakerView, with_latch}
 use Rattle.aiger_records.specs.declared.record.Record.TheVariants.{Input, Latch}
-use Rattle.aiger_file.specs.Names.{name_of}
-use Rattle.aiger_file.specs.aiger_graph.Circuit.{LatchLine, latch_of, input_literals, latches_in}
+use Rattle.aiger_read.specs.aiger_file.Names.{name_of}
+use Rattle.aiger_read.specs.aiger_file.aiger_graph.Circuit.{LatchLine, latch_of, input_literals, latches_in}
 use Rattle.aiger_read.specs.Made.{IsMade}
 use Rattle.aiger_read.proofs.LiteralLists.{kept_more, kept_same}
 use Rattle.aiger_read.proofs.Making.{record_there, no_latch, room, next_low, fresh, latch_next, latch_named, made_latch}

@@ -1,5 +1,5 @@
 use Rattle.std.proofs.Common.{◌≡◌, take, length}
-use Rattle.aiger_file.specs.aiger_graph.Circuit.{output_literals}
+use Rattle.aiger_read.specs.aiger_file.aiger_graph.Circuit.{output_literals}
 use Rattle.aiger_read.specs.Made.{HasOutputs}
 use Rattle.aiger_read.proofs.assembly.Assembly.add_outputs.Given as goal
 

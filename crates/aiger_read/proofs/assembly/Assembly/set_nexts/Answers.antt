@@ -1,11 +1,11 @@
 use Rattle.std.proofs.Common.{◌∙◌, List, take, length, get_or, slice_get, Some, refl, sym, ap, subst, arith}
 use Rattle.flat_net.specs.declared.signals.Signal.{Signal}
 use Rattle.flat_net.specs.View.{NetView}
-use Rattle.aiger_file.specs.aiger_graph.net_assembly.Shown.{with_nexts}
-use Rattle.aiger_file.proofs.aiger_graph.net_assembly.Nexts.{take_whole, read_at}
+use Rattle.aiger_read.specs.aiger_file.aiger_graph.net_assembly.Shown.{with_nexts}
+use Rattle.aiger_read.proofs.aiger_file.aiger_graph.net_assembly.Nexts.{take_whole, read_at}
 use Rattle.aiger_records.specs.declared.record.Record.{Record}
 use Rattle.aiger_records.specs.declared.record.Record.TheVariants.{Input, Latch}
-use Rattle.aiger_file.specs.aiger_graph.Circuit.{LatchLine, latch_of, latches_in, output_literals}
+use Rattle.aiger_read.specs.aiger_file.aiger_graph.Circuit.{LatchLine, latch_of, latches_in, output_literals}
 use Rattle.aiger_read.specs.Signals.{all_literals}
 use Rattle.aiger_read.specs.Made.{nexts_of}
 use Rattle.aiger_read.proofs.LiteralLists.{kept_more, kept_same}

@@ -1,5 +1,5 @@
 use Rattle.std.proofs.Common.{◌≡◌, take}
-use Rattle.aiger_file.specs.aiger_graph.Circuit.{latches_in}
+use Rattle.aiger_read.specs.aiger_file.aiger_graph.Circuit.{latches_in}
 use Rattle.aiger_read.proofs.Nexts.{HasNexts}
 use Rattle.aiger_read.proofs.assembly.Assembly.set_nexts.Given as goal
 

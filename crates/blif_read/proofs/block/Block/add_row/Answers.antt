@@ -1,5 +1,5 @@
 use Rattle.std.proofs.Common.{◌≡◌, ◌∙◌, ℕ, List, map, subst, sym, true}
-use Rattle.blif_lines.specs.sec_base.Cover.{IsCube}
+use Rattle.blif_read.specs.blif_lines.sec_base.Cover.{IsCube}
 use Rattle.blif_read.specs.Rows.{is_row, places_of}
 use Rattle.blif_read.proofs.RowFacts.{cube_of_row}
 use Rattle.blif_read.proofs.block.Block.add_row.Goals as goal

@@ -1,5 +1,5 @@
 use Rattle.std.proofs.Common.{◌≡◌, List, ℕ, Bor, map, length, ap, ◌∙◌, arith}
-use Rattle.blif_lines.specs.Lines.{tokens_of}
+use Rattle.blif_read.specs.blif_lines.Lines.{tokens_of}
 use Rattle.blif_read.proofs.Behind.{length_behind}
 use Rattle.blif_read.proofs.Bytes.{tokens_few}
 use Rattle.blif_read.proofs.reader.Reader.take_line.Goals as goal

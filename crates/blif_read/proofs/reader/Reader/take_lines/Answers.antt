@@ -1,5 +1,5 @@
 use Rattle.std.proofs.Common.{◌≡◌, List, ◌∷◌, ap, sym, subst, arith}
-use Rattle.blif_lines.specs.declared.line.RawLine.{RawLine}
+use Rattle.blif_read.specs.declared.blif_lines.line.RawLine.{RawLine}
 use Rattle.blif_read.specs.Heads.{lines_of}
 use Rattle.blif_read.specs.State.{ReadTo, lines_among, bytes_of}
 use Rattle.blif_read.proofs.Bytes.{raw_bytes}

@@ -5,10 +5,10 @@ use Rattle.circuit_theory.proofs.Lists.{Contains-map, of_at}
 use Rattle.base_tables.specs.Table.{AreDistinct}
 use Rattle.flat_net.specs.declared.parts.Port.{Port}
 use Rattle.flat_net.specs.View.{ports_of}
-use Rattle.pair_runs.specs.declared.differences.OutputPair.{OutputPair}
+use Rattle.cycle_sim.specs.declared.pair_runs.differences.OutputPair.{OutputPair}
 use Rattle.interface.proofs.Paired.{names_of, item_at}
 use Rattle.interface.proofs.Shared.{are_matched}
-use Rattle.pair_runs.proofs.Places.{each_more}
+use Rattle.cycle_sim.proofs.pair_runs.Places.{each_more}
 use Rattle.replay.specs.cut_sides.Pairs.{IsOutputAt}
 use Rattle.replay.proofs.cut_sides.pairs.output_pairs.Goals as goal
 

@@ -1,6 +1,6 @@
 use Rattle.std.proofs.Common.{◌≡◌, ℕ, length, slice_get, Some}
 use Rattle.flat_net.specs.declared.parts.Port.{Port}
-use Rattle.pair_runs.specs.declared.differences.OutputPair.{OutputPair}
+use Rattle.cycle_sim.specs.declared.pair_runs.differences.OutputPair.{OutputPair}
 use Rattle.replay.specs.cut_sides.Pairs.{IsOutputAt}
 use Rattle.replay.proofs.cut_sides.pairs.output_pairs.Given as goal
 

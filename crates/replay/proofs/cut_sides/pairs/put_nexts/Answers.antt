@@ -1,8 +1,8 @@
 use Rattle.std.proofs.Common.{◌≡◌, ◌∙◌, ◌+◌, List, [], ◌∷◌, ◌++◌, ℕ, length, slice_get, Some, inl, inr, ◌⊎◌, refl, sym, ap, subst, arith, append_assoc, length-append}
 use Rattle.std.proofs.lemmas.List.{append-nil}
 use Rattle.std.proofs.lemmas.Option.{none-some}
-use Rattle.pair_runs.specs.declared.differences.OutputPair.{OutputPair}
-use Rattle.pair_runs.proofs.Places.{pushed_at}
+use Rattle.cycle_sim.specs.declared.pair_runs.differences.OutputPair.{OutputPair}
+use Rattle.cycle_sim.proofs.pair_runs.Places.{pushed_at}
 use Rattle.replay.specs.cut_sides.Pairs.{IsNextAt, PutsSome}
 use Rattle.replay.proofs.cut_sides.pairs.put_nexts.Goals as goal
 

@@ -1,7 +1,0 @@
-use Rattle.std.proofs.Common.{◌≡◌, drop}
-use Rattle.std.specs.List.{list_any}
-use Rattle.aiger_file.specs.Symbols.{is_bad_byte}
-use Rattle.aiger_file.proofs.symbol.has_bad_byte.Given as goal
-
-abbrev pub invariant-loop-byte : goal.invariant-loop-byte
-invariant-loop-byte l = list_any is_bad_byte l.name ≡ list_any is_bad_byte (drop l.byte-index l.name)

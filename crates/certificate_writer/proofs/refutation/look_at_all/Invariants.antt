@@ -1,8 +1,0 @@
-use Rattle.std.proofs.Common.{take}
-use Rattle.std.specs.List.{All}
-use Rattle.proof_check.specs.Clauses.{IsClause}
-use Rattle.certificate_writer.proofs.refutation.look_at_all.Given as goal
-
--- those so far
-abbrev pub invariant-loop-clause : goal.invariant-loop-clause
-invariant-loop-clause l = All IsClause (take l.clause-index l.clauses)

@@ -1,0 +1,21 @@
+use Rattle.std.proofs.Common.{◌≡◌, ℕ, List, [], ◌∷◌, ◌++◌, length, slice_get, Some, Option, sym, ◌∙◌, ap, subst, arith, length-append}
+use Rattle.flat_net.specs.declared.parts.Port.{Port}
+use Rattle.cycle_sim.proofs.Lists.{item_at}
+use Rattle.cycle_sim.specs.pair_runs.Feeding.{IsColumn}
+use Rattle.cycle_sim.proofs.pair_runs.Places.{each_more}
+use Rattle.cycle_sim.proofs.pair_runs.feed.columns_of.Goals as goal
+
+pub loop-port-preserved : goal.loop-port-preserved
+loop-port-preserved c =
+    let inputs = c.args.net.now.inputs in
+    let columns = c.loop-port.columns.items in
+    let column = c.column_of.result in
+    let port = c.port-item.result in
+    let at = item_at inputs _ c.loop-port.port-index port c.inputs-port-items.ensures c.loop-port-test.true c.port-item.is in
+    let named : IsColumn c.args.header.now port.name column = subst (λ (name : List ℕ). IsColumn c.args.header.now name column) c.as_slice.ensures c.column_of.ensures in
+    let grown : c.push.new.self.items ≡ columns ++ column ∷ [] = c.in_ok-push.ensures.items in
+    let size = ap length grown in (
+      omega (arith, size, length-append columns (column ∷ []), c.loop-port.invariant.0),
+      λ i p q at_p at_q. each_more (λ (j : ℕ) (p : Port) (q : Option ℕ). IsColumn c.args.header.now p.name q) inputs columns port column (ap (slice_get inputs) c.loop-port.invariant.0 ∙ at) named
+          c.loop-port.invariant.1 i p q at_p (sym (ap (λ (cs : List (Option ℕ)). slice_get cs i) grown) ∙ at_q),
+    )
