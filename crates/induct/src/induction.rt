@@ -209,11 +209,11 @@ fn over_blocks(alloc: Global, nets: &BlockNets<'_>, conflicts: u32) -> Result<In
 {
     nets.left.keeps();
     nets.right.keeps();
+    let count = inputs_beside(alloc, nets.left, nets.right)?.len();
+    let blocks = members(alloc, nets.left.latches().len(), nets.blocks)?;
     let graph = BlockGraph::new(alloc, nets)?;
     let outputs = compare_outputs(alloc, nets, &graph, conflicts)?;
-    let blocks = members(alloc, nets.left.latches().len(), nets.blocks)?;
-    let shared = inputs_beside(alloc, nets.left, nets.right)?;
     let first = graph.limit - nets.blocks.len() as u32;
-    let made = judge(alloc, first, shared.len(), outputs, blocks)?;
+    let made = judge(alloc, first, count, outputs, blocks)?;
     Ok(made)
 }

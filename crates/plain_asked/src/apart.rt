@@ -167,7 +167,7 @@ fn literals_of(
 }
 
 /// The functions of signals of the circuit of this side.
-fn functions_of(
+pub(crate) fn functions_of(
     alloc: Global,
     side: Side,
     unfolder: &mut Unfolder<'_>,
@@ -180,6 +180,8 @@ fn functions_of(
     requires nodes { length aig.old ≤ 2 ^ 29 }
     requires entries { length places.old ≤ 2 ^ 29 }
     ensures unfolded { IfOk result (λ us. AllZip (λ s u. IsFunctionOf unfolder.new.net unfolder.new.order aig.new places.new s.0 u) signals.now us.items) }
+    ensures fits { OnOk result (Fits unfolder.new aig.new places.new) }
+    ensures done { OnOk result (unfolder.new.done ≡ unfolder.old.done ++ map (λ s. s.0) signals.now) }
     ensures refused { IfErr result (IsRefusalOf side unfolder.old.net (unfolder.old.done ++ map (λ s. s.0) signals.now)) }
     ensures later { IsLater unfolder.old unfolder.new aig.old aig.new places.old places.new }
 {

@@ -5,15 +5,14 @@ ghost use Rattle.std.specs.List.{AllZip};
 ghost use Rattle.circuit_theory.specs.declared.Side.TheVariants.{A, B};
 ghost use Rattle.aig.specs.Graph.{Grows};
 ghost use Rattle.unfold_places.specs.Reach.{Adds};
-ghost use Rattle.cbf_unfold.specs.Unfolded.{Fits};
 ghost use Rattle.unfold_places.specs.InputOrder.{IsOrderOf};
-ghost use Rattle.unfold_places.specs.declared.error.UnfoldError.TheVariants as unfold_error;
-ghost use Rattle.plain_asked.specs.Pairs.{IsFunctionOf, AreLight, AreTooLarge, IsRefusalOf, Unfolds, left_signals, right_signals};
+ghost use Rattle.plain_asked.specs.Pairs.{IsFunctionOf, AreLight, IsRefusalOf, Unfolds, left_signals, right_signals};
 
+use crate::apart::functions_of;
 use crate::error::PlainError;
 use aig::Aig;
 use base_tables::PlaceTable;
-use cbf_unfold::{UnfoldError, Unfolded, Unfolder};
+use cbf_unfold::{Unfolded, Unfolder};
 use flat_net::{Net, Signal};
 use latch_graph::LatchGraph;
 use sec_base::{Ids, MAX_WEIGHT, NoMemory, Orders, Side};
@@ -145,7 +144,7 @@ pub(crate) fn right_signals(alloc: Global, pairs: &[SignalPair]) -> Result<Vec<S
     Ok(signals)
 }
 
-/// Unfolds the signals of one circuit.
+/// Unfolds the signals of one circuit in their order, by one unfolder.
 fn unfold_side(
     alloc: Global,
     side: Side,
@@ -168,59 +167,6 @@ fn unfold_side(
     ensures nodes { length aig.new ≤ length aig.old + MAX_WEIGHT }
     ensures entries { length places.new ≤ length places.old + MAX_WEIGHT }
 {
-    match unfold_signals(alloc, net, graph, order, aig, places, signals) {
-        Ok(unfolded) => Ok(unfolded),
-        Err(UnfoldError::TooLarge) => Err(PlainError::TooLarge(side)),
-        Err(UnfoldError::NoMemory) => Err(PlainError::NoMemory),
-    }
-}
-
-/// Unfolds the signals of one net in their order, by one unfolder.
-fn unfold_signals(
-    alloc: Global,
-    net: &Net,
-    graph: &LatchGraph,
-    order: &Ids,
-    aig: &mut Aig,
-    places: &mut PlaceTable,
-    signals: &[Signal],
-) -> Result<Vec<Unfolded>, UnfoldError>
-    requires order { IsOrderOf net.now order.now }
-    requires signals { All (λ s. s.0 < length net.now.drivers) signals.now }
-    requires nodes { length aig.old ≤ 2 ^ 28 }
-    requires entries { length places.old ≤ 2 ^ 28 }
-    ensures unfolded { IfOk result (λ us. AllZip (λ s u. IsFunctionOf net.now order.now aig.new places.new s.0 u) signals.now us.items) }
-    ensures light { OnOk result (AreLight net.now (map (λ s. s.0) signals.now)) }
-    ensures over { result ≡ Err unfold_error.TooLarge → AreTooLarge net.now (map (λ s. s.0) signals.now) }
-    ensures grows { Grows aig.old aig.new }
-    ensures adds { Adds (λ p. Unit {0}) places.old places.new }
-    ensures nodes { length aig.new ≤ length aig.old + MAX_WEIGHT }
-    ensures entries { length places.new ≤ length places.old + MAX_WEIGHT }
-{
     let mut unfolder = Unfolder::new(alloc, net, graph, order)?;
-    unfold_all(alloc, &mut unfolder, aig, places, signals)
-}
-
-/// Unfolds the signals in their order by an unfolder that has unfolded nothing.
-fn unfold_all(
-    alloc: Global,
-    unfolder: &mut Unfolder<'_>,
-    aig: &mut Aig,
-    places: &mut PlaceTable,
-    signals: &[Signal],
-) -> Result<Vec<Unfolded>, UnfoldError>
-    requires signals { All (λ s. s.0 < length unfolder.old.net.drivers) signals.now }
-    requires none { unfolder.old.done ≡ [] }
-    requires fits { Fits unfolder.old aig.old places.old }
-    requires nodes { length aig.old ≤ 2 ^ 28 }
-    requires entries { length places.old ≤ 2 ^ 28 }
-    ensures unfolded { IfOk result (λ us. AllZip (λ s u. IsFunctionOf unfolder.old.net unfolder.old.order aig.new places.new s.0 u) signals.now us.items) }
-    ensures light { OnOk result (AreLight unfolder.old.net (map (λ s. s.0) signals.now)) }
-    ensures over { result ≡ Err unfold_error.TooLarge → AreTooLarge unfolder.old.net (map (λ s. s.0) signals.now) }
-    ensures grows { Grows aig.old aig.new }
-    ensures adds { Adds (λ p. Unit {0}) places.old places.new }
-    ensures nodes { length aig.new ≤ length aig.old + MAX_WEIGHT }
-    ensures entries { length places.new ≤ length places.old + MAX_WEIGHT }
-{
-    unfolder.unfold_all(alloc, aig, places, signals)
+    functions_of(alloc, side, &mut unfolder, aig, places, signals)
 }

@@ -68,8 +68,8 @@ fn output_pair(
 {
     let left = NetSignal::Left(output.signal);
     let right = NetSignal::Right(output_named(nets.right, names, output.name.as_slice()));
-    let answer = answer(alloc, nets, graph, left, right, conflicts)?;
     let name = output.name.copy()?;
+    let answer = answer(alloc, nets, graph, left, right, conflicts)?;
     Ok(OutputPair { name, answer })
 }
 

@@ -34,15 +34,15 @@ judge-requires c =
     let few = latches_few n.left.now n.right.now c.keeps.ensures.sound c.keeps-2.ensures.sound c.requires.light.0 c.requires.light.1 in
     let inputs = inputs_few n.left.now c.keeps.ensures.sound c.requires.light.0 in
     let some = shared_few n.left.now n.right.now in
-    let count = ap length c.in_ok-shared.ensures in
-    all_small n c.in_ok-graph.graph c.args.conflicts c.in_ok-outputs.outputs c.in_ok-outputs.ensures c.in_ok-graph.ensures c.len.result (omega (arith, few, c.requires.coarsest.each)) (omega (arith, inputs, some, count, c.len.ensures))
+    let count = ap length c.in_ok-inputs_beside.ensures in
+    all_small n c.in_ok-graph.graph c.args.conflicts c.in_ok-outputs.outputs c.in_ok-outputs.ensures c.in_ok-graph.ensures c.len-count.result (omega (arith, few, c.requires.coarsest.each)) (omega (arith, inputs, some, count, c.len-count.ensures))
 
 pub returns-clause-made : goal.returns-clause-made
 returns-clause-made c =
     let n = c.args.nets.now in
     let g = c.in_ok-graph.graph in
     over_told n g c.args.conflicts c.in_ok-outputs.outputs c.in_ok-graph.ensures c.requires.coarsest c.requires.numbers c.in_ok-outputs.ensures _ _ c.in_ok-made.made c.in_ok-made.ensures.verdict c.keeps.ensures.sound c.keeps-2.ensures.sound c.requires.matches
-    (omega (arith, c.in_ok-graph.ensures.limit_is)) (c.len.ensures ∙ ap length c.in_ok-shared.ensures) (length c.latches.result.now) (ap length c.latches.ensures)
+    (omega (arith, c.in_ok-graph.ensures.limit_is)) (c.len-count.ensures ∙ ap length c.in_ok-inputs_beside.ensures) (length c.latches.result.now) (ap length c.latches.ensures)
     (subst (AreMembers (length c.latches.result.now) n.blocks.now) (sym c.in_ok-made.ensures.blocks) c.in_ok-blocks.ensures) c.in_ok-made.ensures.pairs
 
 pub returns-clause-agree : goal.returns-clause-agree

@@ -31,3 +31,21 @@ returns-in-Err-NoMemory-clause-later c = c.unfold_all.ensures.later
 
 pub unfold_all-requires-clause-signals : goal.unfold_all-requires-clause-signals
 unfold_all-requires-clause-signals c = c.requires.signals
+
+pub returns-in-Ok-clause-fits : goal.returns-in-Ok-clause-fits
+returns-in-Ok-clause-fits c = c.in-Ok.ensures.fits
+
+pub returns-in-Ok-clause-done : goal.returns-in-Ok-clause-done
+returns-in-Ok-clause-done c = c.in-Ok.ensures.done
+
+pub returns-in-Err-TooLarge-clause-fits : goal.returns-in-Err-TooLarge-clause-fits
+returns-in-Err-TooLarge-clause-fits c = tt
+
+pub returns-in-Err-TooLarge-clause-done : goal.returns-in-Err-TooLarge-clause-done
+returns-in-Err-TooLarge-clause-done c = tt
+
+pub returns-in-Err-NoMemory-clause-fits : goal.returns-in-Err-NoMemory-clause-fits
+returns-in-Err-NoMemory-clause-fits c = tt
+
+pub returns-in-Err-NoMemory-clause-done : goal.returns-in-Err-NoMemory-clause-done
+returns-in-Err-NoMemory-clause-done c = tt
