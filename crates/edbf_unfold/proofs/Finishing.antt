@@ -1,6 +1,6 @@
 -- What an unfolding and its care give together.
 use Rattle.std.proofs.lemmas.Option.{slice_get_within}
-use Rattle.std.proofs.Common.{◌≡◌, ◌∙◌, ◌+◌, ◌<◌, ◌≤◌, ℕ, Bool, true, false, List, [], length, slice_get, Some, None, refl, sym, subst, arith}
+use Rattle.std.proofs.Common.{◌≡◌, ◌∙◌, ◌+◌, ◌*◌, ◌<◌, ◌≤◌, ℕ, Bool, true, false, List, [], length, slice_get, Some, None, refl, sym, subst, arith}
 use Rattle.circuit_theory.specs.EventSizes.{Start}
 use Rattle.circuit_theory.specs.Frame.{NotPut}
 use Rattle.event_literals.specs.Sound.{IsSound}
@@ -9,7 +9,7 @@ use Rattle.event_literals.proofs.Places.{one_at}
 use Rattle.event_nodes.specs.Lit.{Lit}
 use Rattle.event_nodes.specs.Nodes.{EventGraphView, IsEventGraph, GrowsEvents}
 use Rattle.event_nodes.specs.View.{EventCircuitView, IsEventCircuit, side_of}
-use Rattle.event_nodes.specs.Visited.{CounterView, HoldsVisits, HoldsNodes}
+use Rattle.event_nodes.specs.Visited.{CounterView, HoldsVisits, HoldsNodes, IsWeighed}
 use Rattle.event_nodes.proofs.Growing.{grows_trans}
 use Rattle.event_nodes.proofs.Lists.{adds_none, adds_trans}
 use Rattle.event_literals.specs.declared.event_walk.frames.Frame.{Frame}
@@ -20,7 +20,7 @@ use Rattle.event_literals.specs.Known.{EventUnfolderView, IsKnownAt, IsKnownIn, 
 use Rattle.event_literals.specs.event_walk.Ready.{put_of}
 use Rattle.edbf_unfold.specs.Reached.{IsOpenPlace, IsOnwardAt, AreNodesOf, IsReachOf}
 use Rattle.event_literals.specs.event_walk.Walk.{IsRootOf, IsCounting, IsCountedOn, HasCountedStart}
-use Rattle.event_literals.specs.Built.{IsWalked}
+use Rattle.event_literals.specs.Built.{IsReadyFor, IsWalked}
 use Rattle.edbf_unfold.proofs.Covering.{care_lit, holds_visits, holds_nodes, reach_of}
 use Rattle.event_literals.proofs.Known.{known_at_later}
 use Rattle.event_literals.proofs.event_walk.Rooting.{root_path}
@@ -29,6 +29,24 @@ use Rattle.event_literals.proofs.Rooted.{walked_later}
 -- the literal at the root, while the graph grows
 pub root_later : (e : EventCircuitView) (w v : EventGraphView) → IsEventGraph w → GrowsEvents w v → (s x : ℕ) → IsKnownIn e w (record { node = 0; put = Free }) s x → IsKnownAt e v None s [] x
 root_later e w v is grows s x k = known_at_later e w v is grows None s [] x (subst (λ (n : List ℕ). IsKnownAt e w None s n x) (root_path w.children) k)
+
+-- room for much is room for little
+pub ready_less : (u : EventUnfolderView) (w : EventGraphView) (c : CounterView) (cap room less : ℕ) → IsReadyFor u w c cap room → less ≤ room → IsReadyFor u w c cap less
+ready_less u w c cap room less r few = record {
+  small = r.small;
+  has = record { frames = omega (arith, r.has.frames, few); nodes = omega (arith, r.has.nodes, few); places = omega (arith, r.has.places, few) };
+  weighed = r.weighed;
+  few = r.few;
+}
+
+-- what one unfolding leaves is enough for another
+pub ready_next : (u v : EventUnfolderView) (w x : EventGraphView) (c d : CounterView) (room : ℕ) → IsReadyFor u w c room (9 * room + 4) → HasUnfolded u v w x room → IsCountedOn u.circuit.net x.children c d → IsReadyFor v x d room room
+ready_next u v w x c d room r h on = record {
+  small = r.small;
+  has = record { frames = omega (arith, r.has.frames, h.few_frames); nodes = omega (arith, r.has.nodes, h.nodes); places = omega (arith, r.has.places, h.places) };
+  weighed = subst (λ (e : EventCircuitView). IsWeighed e.net d) (sym h.circuit) on.weighed;
+  few = on.few;
+}
 
 -- more graph behind an unfolding
 pub unfolded_more : (u v : EventUnfolderView) (w x y : EventGraphView) (room more all : ℕ) → HasUnfolded u v w x room → HasGrown x y more → room + more ≤ all → HasUnfolded u v w y all

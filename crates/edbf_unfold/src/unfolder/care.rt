@@ -1,21 +1,20 @@
 //! The care of an event function.
 
 ghost use Rattle.std.specs.Prelude.{◌≡◌, ℕ, ◌+◌, ◌*◌, ◌^◌, ◌<◌, length, slice_get, Some, Contains, IfOk};
-ghost use Rattle.circuit_theory.specs.Frame.{NotPut};
 ghost use Rattle.event_literals.specs.Driver.TheVariants as driver;
 ghost use Rattle.event_nodes.specs.Graph.{flip};
 ghost use Rattle.event_nodes.specs.Lit.{Lit};
 ghost use Rattle.event_literals.specs.declared.event_walk.frames.Ways.{Ways};
 ghost use Rattle.event_literals.specs.Known.{AreKnown, HasGrown, IsMet};
-ghost use Rattle.event_literals.specs.event_walk.Ready.{IsReadyBy, put_of};
+ghost use Rattle.event_literals.specs.event_walk.Ready.{IsReadyBy};
 ghost use Rattle.event_literals.specs.Built.{AreMetOn};
 ghost use Rattle.event_literals.specs.ShortOr.{IsShortOr};
 ghost use Rattle.edbf_unfold.specs.Care.{IsWithEnable, IsAndEnable, IsCareOf};
 
 use super::EventUnfolder;
 use event_literals::{
-    Aig, Driver, EventGraph, Frame, Lit, NoMemory, Place, PlaceTable, Signal, Ways, constant,
-    latch_of, short_or,
+    Aig, Driver, EventGraph, Lit, NoMemory, Place, PlaceTable, Signal, Ways, constant, latch_of,
+    short_or,
 };
 
 /// The literal of an enable by those of its two functions: the one with the latch at 0, or not that with it at 1.
@@ -101,36 +100,13 @@ impl<'a> EventUnfolder<'a> {
         ensures here { IfOk result (λ x. IsWithEnable self.now.circuit events.new self.now.frames care.0 place x.0) }
         ensures grown { HasGrown events.old events.new 2 }
     {
-        let frame = self.frame(place.0);
-        match constant(frame.put, place.1) {
-            Some(_) => Ok(care),
-            None => self.with_free(events, care, place, ways, j, frame),
-        }
-    }
-
-    /// The same where the latch isn't put in the frame.
-    fn with_free(
-        &self,
-        events: &mut EventGraph,
-        care: Lit,
-        place: Place,
-        ways: Ways,
-        j: u32,
-        frame: Frame,
-    ) -> Result<Lit, NoMemory>
-        requires known { AreKnown self.now.circuit events.old self.now.frames self.now.memo }
-        requires ready { IsReadyBy self.now.circuit self.now.frames events.old.children (IsMet self.now.memo) (record { rank = 0; signal = place.1; frame = place.0; onward = ways.onward; high = ways.high }) }
-        requires latch { slice_get self.now.circuit.net.drivers place.1 ≡ Some (driver.Latch j) }
-        requires framed { slice_get self.now.frames place.0 ≡ Some frame }
-        requires free { NotPut (put_of frame.put) place.1 }
-        requires care { care.0 < 2 * length events.old.graph }
-        requires room { length events.old.graph + 2 < 2 ^ 30 }
-        ensures here { IfOk result (λ x. IsWithEnable self.now.circuit events.new self.now.frames care.0 place x.0) }
-        ensures grown { HasGrown events.old events.new 2 }
-    {
         let circuit = self.circuit();
         circuit.keeps();
         events.keeps();
+        let frame = self.frame(place.0);
+        if let Some(_) = constant(frame.put, place.1) {
+            return Ok(care);
+        }
         if circuit.is_enabled(j) {
             let next = latch_of(circuit.net(), j).next.0;
             let lit = self.and_enable(events, care, (ways.onward, next), (ways.high, next))?;
@@ -162,7 +138,6 @@ impl<'a> EventUnfolder<'a> {
         let f1 = self.met(high);
         let enable = enable_of(events, f0, f1)?;
         events.keeps();
-        let lit = events.and(care, enable)?;
-        Ok(lit)
+        events.and(care, enable)
     }
 }

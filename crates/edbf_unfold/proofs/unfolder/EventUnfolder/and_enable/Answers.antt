@@ -1,5 +1,6 @@
 -- The enable, and the and with it.
 use Rattle.std.proofs.Common.{◌*◌, ◌<◌, ℕ, length, arith}
+use Rattle.std.proofs.lemmas.Result.{IfOk-weaker}
 use Rattle.event_nodes.specs.Graph.{flip}
 use Rattle.event_nodes.proofs.Growth.{Grows-length}
 use Rattle.event_nodes.proofs.Literals.{flip-within}
@@ -23,14 +24,10 @@ and-requires-clause-room c = omega (arith, c.requires.room, c.enable_of.ensures.
 pub returns-in_err-enable-clause-grown : goal.returns-in_err-enable-clause-grown
 returns-in_err-enable-clause-grown c = grown_within c.args.events.now c.enable_of.new.events 1 2 c.enable_of.ensures.grown (omega arith)
 
-pub returns-in_err-lit-clause-grown : goal.returns-in_err-lit-clause-grown
-returns-in_err-lit-clause-grown c =
-    grown_trans c.args.events.now c.enable_of.new.events c.and.new.self 1 1 2 c.enable_of.ensures.grown (cover_grown c.enable_of.new.events c.and.new.self 1 1 c.and.ensures.grows c.and.ensures.same c.and.ensures.few (omega arith)) (omega arith)
-
 pub returns-clause-here : goal.returns-clause-here
 returns-clause-here c =
     let more = Grows-length _ _ c.and.ensures.grows.graph in
-    record {
+    IfOk-weaker c.and.result _ _ (λ x is. record {
       f0 = c.met-f0.result;
       f1 = c.met-f1.result;
       enable = c.in_ok-enable.enable.0;
@@ -39,8 +36,8 @@ returns-clause-here c =
       or_is = IsShortOr-grows c.enable_of.new.events.graph c.and.new.self.graph c.keeps.ensures.events.is_graph c.and.ensures.grows.graph c.met-f0.result.0 (flip c.met-f1.result.0) c.in_ok-enable.enable.0 (inside c.met-f0.result.0 (c.requires.within _ _ c.met-f0.ensures))
           (flip-within c.met-f1.result.0 (length c.enable_of.new.events.graph) (inside c.met-f1.result.0 (c.requires.within _ _ c.met-f1.ensures))) c.in_ok-enable.ensures.here;
       within = omega (arith, c.in_ok-enable.ensures.within, more);
-      is = c.in_ok-lit.ensures.here;
-    }
+      is = is;
+    }) c.and.ensures.here
   where
     inside : (x : ℕ) → x < 2 * length c.args.events.now.graph → x < 2 * length c.enable_of.new.events.graph
     inside x h = omega (arith, h, Grows-length _ _ c.enable_of.ensures.grown.grows.graph)

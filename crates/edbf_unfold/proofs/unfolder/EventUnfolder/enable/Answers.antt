@@ -16,7 +16,9 @@ use Rattle.event_literals.specs.event_walk.Walk.{IsCounting, HasCountedStart, en
 use Rattle.event_literals.specs.Built.{AreMetOn}
 use Rattle.edbf_unfold.proofs.Caring.{enable_later}
 use Rattle.event_literals.proofs.event_walk.Exact.{counting_trans}
-use Rattle.edbf_unfold.proofs.Finishing.{unfolded_more, unfolded_trans, counting_same, finished_care, finished_count}
+use Rattle.event_literals.proofs.event_walk.Stepping.{refused_memory, refused_ok}
+use Rattle.std.proofs.lemmas.Result.{err_from_is_err_and}
+use Rattle.edbf_unfold.proofs.Finishing.{ready_less, ready_next, unfolded_more, unfolded_trans, counting_same, finished_care, finished_count}
 use Rattle.event_literals.proofs.Going.{are_known_later}
 use Rattle.event_literals.proofs.Rooted.{next_within, enable_lit, walked_later, walked_met}
 use Rattle.edbf_unfold.proofs.unfolder.EventUnfolder.enable.Goals as goal
@@ -96,7 +98,7 @@ returns-clause-here c = λ l at.
     subst (λ (k : LatchAt). IsEnableLit c.unfold_in-2.new.self.circuit c.care_of.new.events [] k c.in_ok-value.value.0 × IsCareLit c.unfold_in-2.new.self.circuit c.care_of.new.events (enable_start k) c.in_ok-care.care.0) same (
       enable_later c.unfold_in-2.new.self.circuit c.enable_of.new.events c.care_of.new.events c.keeps-4.ensures.events c.care_of.ensures.grown.grows [] c.latch_of-latch.result.now c.in_ok-value.value.0
           (enable_lit c.unfold_in.new.self.circuit c.unfold_in-2.new.self.circuit c.in_ok-high.ensures.unfolded.0.circuit c.unfold_in.new.events c.unfold_in-2.new.events c.enable_of.new.events c.keeps-2.ensures.events c.keeps-3.ensures.events
-          c.in_ok-high.ensures.unfolded.0.grows c.enable_of.ensures.grown.grows c.latch_of-latch.result.now c.in_ok-low.low.lit.0 c.in_ok-high.high.lit.0 c.in_ok-value.value.0 c.in_ok-low.ensures.here c.in_ok-high.ensures.here c.in_ok-value.ensures.here c.in_ok-value.ensures.within),
+          c.in_ok-high.ensures.unfolded.0.grows c.enable_of.ensures.grown.grows c.latch_of-latch.result.now c.in_ok-low.low.lit.0 c.in_ok-high.field-0.lit.0 c.in_ok-value.value.0 c.in_ok-low.ensures.here c.in_ok-high.ensures.here c.in_ok-value.ensures.here c.in_ok-value.ensures.within),
       finished_care c.unfold_in-2.new.self c.enable_of.new.events c.care_of.new.events (subst (λ (e : EventCircuitView). IsSound e.net) now c.keeps.ensures.sound) (subst IsEventCircuit now c.keeps.ensures.circuit) c.keeps-5.ensures.events c.care_of.ensures.grown.grows
           (record { node = 0; put = Low c.latch_of-latch.result.now.out.0 }) refl c.latch_of-latch.result.now.next.0 c.unfold_in-2.new.counter.places c.args.room c.in_ok-low.low.table c.in_ok-low.low.ways.items walked (enable_start c.latch_of-latch.result.now) (refl, refl) c.in_ok-care.care.0 c.in_ok-care.ensures.here,
     )
@@ -142,3 +144,34 @@ returns-in_err-care-clause-grows c =
 pub returns-clause-grows : goal.returns-clause-grows
 returns-clause-grows c =
     grows_trans c.args.events.now c.enable_of.new.events c.care_of.new.events (grows_trans c.args.events.now c.unfold_in-2.new.events c.enable_of.new.events (grows_trans c.args.events.now c.unfold_in.new.events c.unfold_in-2.new.events c.unfold_in.ensures.counting.0 c.unfold_in-2.ensures.counting.0) c.enable_of.ensures.grown.grows) c.care_of.ensures.grown.grows
+
+pub unfold_in-requires-clause-known : goal.unfold_in-requires-clause-known
+unfold_in-requires-clause-known c = c.requires.known
+
+pub unfold_in-requires-clause-room : goal.unfold_in-requires-clause-room
+unfold_in-requires-clause-room c = ready_less c.args.self.now c.args.events.now c.args.counter.now c.args.room (9 * c.args.room + 4) c.args.room c.requires.room (omega arith)
+
+pub unfold_in-requires-2-clause-known : goal.unfold_in-requires-2-clause-known
+unfold_in-requires-2-clause-known c = c.in_ok-low.ensures.known
+
+pub unfold_in-requires-2-clause-room : goal.unfold_in-requires-2-clause-room
+unfold_in-requires-2-clause-room c = ready_next c.args.self.now c.unfold_in.new.self c.args.events.now c.unfold_in.new.events c.args.counter.now c.unfold_in.new.counter c.args.room c.requires.room c.in_ok-low.ensures.unfolded.0 c.in_ok-low.ensures.unfolded.1
+
+pub enable_of-requires-clause-room : goal.enable_of-requires-clause-room
+enable_of-requires-clause-room c = omega (arith, c.requires.room.has.nodes, c.in_ok-low.ensures.unfolded.0.nodes, c.in_ok-high.ensures.unfolded.0.nodes)
+
+pub care_of-requires-clause-room : goal.care_of-requires-clause-room
+care_of-requires-clause-room c = omega (arith, c.requires.room.has.nodes, c.in_ok-low.ensures.unfolded.0.nodes, c.in_ok-high.ensures.unfolded.0.nodes, c.enable_of.ensures.grown.nodes, c.in_ok-low.ensures.walked.few)
+
+pub returns-in_err-value-clause-refused : goal.returns-in_err-value-clause-refused
+returns-in_err-value-clause-refused c =
+    let p = err_from_is_err_and c.from_residual-in_err-value.result c.from_residual-in_err-value.ensures.1 in
+    rw (p.1, p.2) (refused_memory c.args.self.now.circuit.net c.enable_of.new.events.children c.unfold_in-2.new.counter.places)
+
+pub returns-in_err-care-clause-refused : goal.returns-in_err-care-clause-refused
+returns-in_err-care-clause-refused c =
+    let p = err_from_is_err_and c.from_residual-in_err-care.result c.from_residual-in_err-care.ensures.1 in
+    rw (p.1, p.2) (refused_memory c.args.self.now.circuit.net c.care_of.new.events.children c.unfold_in-2.new.counter.places)
+
+pub returns-clause-refused : goal.returns-clause-refused
+returns-clause-refused c = refused_ok _ _ _ _
