@@ -5,7 +5,7 @@ use Rattle.std.specs.List.{filter, find, flat_map, list_any, Contains}
 use Rattle.std.proofs.lemmas.List.Elements.{filter-append}
 use Rattle.std.proofs.lemmas.List.Folds.{list_any-append}
 use Rattle.std.proofs.lemmas.Slice.Eq.{bytes_eq-Decides}
-use Rattle.flat_net.proofs.TableLemmas.{list_any-map, slice_get-take}
+use Rattle.flat_net.proofs.TableLemmas.{slice_get-take}
 use Rattle.flat_net.specs.Table.{is_among as is_entry}
 use Rattle.circuit_theory.specs.Names.{same_name, is_among}
 use Rattle.circuit_theory.specs.Interface.{Ports, is_clock, inputs_beside}
