@@ -3,7 +3,6 @@
 
 mod apart;
 mod choice;
-pub mod node_agreement;
 mod queries;
 mod query;
 mod roots;
