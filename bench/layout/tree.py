@@ -24,7 +24,7 @@ class Tree:
 
     def __init__(self, top):
         self.top = pathlib.Path(top)
-        self.below = {}
+        self.below, self.nodes = {}, {}
         for row in (self.top / "crates.txt").read_text().splitlines():
             name, colon, libraries = row.partition(":")
             if colon and not row.startswith("#"):
@@ -45,8 +45,15 @@ class Tree:
 
     def handed_on(self, crate, side, place):
         """What the node at this place hands on: the name there, and crate, side and place of what it stands for."""
+        node = crate, side, tuple(place)
+        if node not in self.nodes:
+            self.nodes[node] = self.handed_by(self.texts.get(self.node_file(crate, side, place), ""))
+        return self.nodes[node]
+
+    @staticmethod
+    def handed_by(text):
         found = {}
-        for line in self.texts.get(self.node_file(crate, side, place), "").splitlines():
+        for line in text.splitlines():
             if match := HANDED.match(line):
                 low, low_side, low_place, names, name = match.groups()
                 low_place = parts_of(low_place)
