@@ -9,5 +9,5 @@ pub mod Bits
 pub mod ConeWalks
 pub mod Parts
 pub mod Placing
+pub mod circuit_theory
 pub use Rattle.base_tables.proofs.TableLemmas
-pub use Rattle.sec_base.proofs.circuit_theory

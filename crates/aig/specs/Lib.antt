@@ -6,5 +6,5 @@ pub mod Cone
 pub mod Cones
 pub mod Ways
 pub mod Places
-pub use Rattle.sec_base.specs as sec_base
-pub use Rattle.sec_base.specs.circuit_theory
+pub mod sec_base
+pub mod circuit_theory

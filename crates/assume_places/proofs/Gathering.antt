@@ -9,7 +9,7 @@ use Rattle.std.proofs.lemmas.Option.{slice_get_within, slice_get-get_or, get_or_
 use Rattle.circuit_theory.proofs.Lists.{Contains-head, Contains-map, Contains-map_from, All-from_each, at_of, of_at, zip_push, zip_right, zip_weaker, length-map}
 use Rattle.circuit_theory.proofs.Sums.{sum_within}
 use Rattle.base_tables.specs.Table.{AreDistinct}
-use Rattle.obligations.specs.pair_decide.declared.query.Query.{Query}
+use Rattle.obligations.specs.pair_decide.Query.{Query}
 use Rattle.unfold_places.specs.Reach.{Adds}
 use Rattle.unfold_places.proofs.Lists.{adds_at, adds_from, adds_length, pairs_map}
 use Rattle.assume_functions.proofs.signal_graph.Lists.{AllPairs-from_at}

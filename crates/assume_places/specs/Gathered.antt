@@ -3,7 +3,7 @@ use Rattle.std.specs.Prelude.{◌≡◌, ◌≢◌, ◌↔◌, ℕ, ◌+◌, ◌
 use Rattle.std.specs.List.{All, AllPairs, AllZip, Contains, sum_by}
 use Rattle.sec_base.specs.declared.limits.TheConstants.{MAX_WEIGHT}
 use Rattle.base_tables.specs.Table.{AreDistinct}
-use Rattle.obligations.specs.pair_decide.declared.query.Query.{Query}
+use Rattle.obligations.specs.pair_decide.Query.{Query}
 use Rattle.shift_variables.specs.query_places.Places.{place_of, AreGrouped, ArePlacesOf, ComeInTurn}
 use Rattle.assume_places.specs.declared.gathered.QueryPlaces.{QueryPlaces}
 

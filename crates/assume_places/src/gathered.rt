@@ -2,7 +2,7 @@
 
 ghost use Rattle.std.specs.Prelude.{◌≡◌, ℕ, ◌+◌, ◌-◌, ◌*◌, ◌^◌, ◌<◌, ◌≤◌, min, true, false, List, [], ◌∷◌, ◌++◌, length, map, All, IfOk, OnOk};
 ghost use Rattle.std.specs.List.{AllPairs, sum_by};
-ghost use Rattle.obligations.specs.pair_decide.declared.query.Query.{Query};
+ghost use Rattle.obligations.specs.pair_decide.Query.{Query};
 ghost use Rattle.unfold_places.specs.Reach.{Adds};
 ghost use Rattle.obligations.specs.Asked.{queries_of};
 ghost use Rattle.assume_places.specs.Gathered.{HasPlaces, AreGathered, IsAmong, place_at};

@@ -1,7 +1,7 @@
 -- The first fault and the models of texts that the tests read too, computed from the definitions.
 use Rattle.std.specs.Prelude.{◌≡◌, false, [], ◌∷◌, Some, None, codes, refl}
-use Rattle.blif_read.specs.blif_lines.sec_base.declared.basics.Init.TheVariants as init
-use Rattle.blif_read.specs.blif_lines.sec_base.declared.basics.Edge.TheVariants as edge
+use Rattle.blif_read.specs.blif_lines.sec_base.Init.TheVariants as init
+use Rattle.blif_read.specs.blif_lines.sec_base.Edge.TheVariants as edge
 use Rattle.blif_read.specs.blif_lines.Lines.{cut_line, going_on}
 use Rattle.blif_read.specs.declared.error.ReadKind.TheVariants as kind
 use Rattle.blif_read.specs.declared.design.Statement.TheVariants.{Names, Latch}

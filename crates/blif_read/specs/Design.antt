@@ -4,8 +4,8 @@ use Rattle.std.specs.List.{filter, filter_map, find, All, Contains}
 use Rattle.std.specs.Fmt.{decimal, digits}
 use Rattle.circuit_theory.specs.Circuit.{Circuit, Equation, Gate, Port, Named, Started, Latch as Register}
 use Rattle.circuit_theory.specs.Flattened.{Follows}
-use Rattle.blif_read.specs.blif_lines.sec_base.declared.basics.Init.{Init}
-use Rattle.blif_read.specs.blif_lines.sec_base.declared.basics.Init.TheVariants as init
+use Rattle.blif_read.specs.blif_lines.sec_base.Init.{Init}
+use Rattle.blif_read.specs.blif_lines.sec_base.Init.TheVariants as init
 use Rattle.base_tables.specs.Table.{is_among}
 use Rattle.blif_read.specs.declared.design.BlifModel.{BlifModel}
 use Rattle.blif_read.specs.declared.design.Pair.{Pair}

@@ -2,7 +2,7 @@
 use Rattle.std.specs.Prelude.{ℕ, ◌==◌, nat_lt, ◌&&◌, ◌||◌, not, Bool, true, false, List, [], ◌∷◌, ◌++◌, length, Option, Some, None, codes}
 use Rattle.std.specs.List.{list_any, list_all, before_first, after_first}
 use Rattle.circuit_theory.specs.Interface.{◌or_else◌}
-use Rattle.blif_read.specs.blif_lines.sec_base.declared.limits.TheConstants.{MAX_NAME_BYTES}
+use Rattle.blif_read.specs.blif_lines.sec_base.TheConstants.{MAX_NAME_BYTES}
 use Rattle.blif_read.specs.blif_lines.Lines.{is_empty}
 use Rattle.base_tables.specs.Table.{is_among}
 use Rattle.blif_read.specs.declared.head.Head.{Head}

@@ -7,4 +7,4 @@ pub mod Rows
 pub mod Spelled
 pub mod State
 pub mod blif_lines
-pub use Rattle.sec_base.specs as sec_base
+pub mod sec_base

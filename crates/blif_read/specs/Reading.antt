@@ -1,8 +1,8 @@
 -- What a BLIF text spells, and its first fault.
 use Rattle.std.specs.Prelude.{◌≡◌, ℕ, true, false, List, [], ◌∷◌, Option, Some, None, Result, Ok, Err, codes, refl}
 use Rattle.circuit_theory.specs.Interface.{◌or_else◌}
-use Rattle.blif_read.specs.blif_lines.sec_base.declared.basics.Init.TheVariants as init
-use Rattle.blif_read.specs.blif_lines.sec_base.declared.basics.Edge.TheVariants as edge
+use Rattle.blif_read.specs.blif_lines.sec_base.Init.TheVariants as init
+use Rattle.blif_read.specs.blif_lines.sec_base.Edge.TheVariants as edge
 use Rattle.blif_read.specs.blif_lines.Lines.{cut_line, going_on}
 use Rattle.blif_read.specs.declared.error.ReadKind.{ReadKind}
 use Rattle.blif_read.specs.declared.error.ReadKind.TheVariants as kind

@@ -1,10 +1,10 @@
 -- The models that lines spell. All lists of lines here have the latest line first.
 use Rattle.std.specs.Prelude.{ℕ, ◌==◌, Bool, if◌then◌else◌, List, [], ◌∷◌, ◌++◌, map, reverse, length, Option, Some, None, codes, bytes_eq}
 use Rattle.std.specs.List.{before_first, after_first}
-use Rattle.blif_read.specs.blif_lines.sec_base.declared.basics.Edge.{Edge}
-use Rattle.blif_read.specs.blif_lines.sec_base.declared.basics.Edge.TheVariants as edge
-use Rattle.blif_read.specs.blif_lines.sec_base.declared.basics.Init.{Init}
-use Rattle.blif_read.specs.blif_lines.sec_base.declared.basics.Init.TheVariants as init
+use Rattle.blif_read.specs.blif_lines.sec_base.Edge.{Edge}
+use Rattle.blif_read.specs.blif_lines.sec_base.Edge.TheVariants as edge
+use Rattle.blif_read.specs.blif_lines.sec_base.Init.{Init}
+use Rattle.blif_read.specs.blif_lines.sec_base.Init.TheVariants as init
 use Rattle.base_tables.specs.Table.{is_among}
 use Rattle.blif_read.specs.declared.head.Head.{Head}
 use Rattle.blif_read.specs.declared.head.Head.TheVariants as head

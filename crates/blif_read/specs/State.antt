@@ -1,7 +1,7 @@
 -- What a step of the reader says of the lines before, and what the reader's state means.
 use Rattle.std.specs.Prelude.{◌≡◌, ℕ, Bool, true, false, not, List, [], ◌∷◌, ◌++◌, ◌+◌, map, reverse, length, Option, Some, None, Result, Ok, Err}
-use Rattle.blif_read.specs.blif_lines.sec_base.declared.basics.Init.{Init}
-use Rattle.blif_read.specs.blif_lines.sec_base.declared.basics.Edge.{Edge}
+use Rattle.blif_read.specs.blif_lines.sec_base.Init.{Init}
+use Rattle.blif_read.specs.blif_lines.sec_base.Edge.{Edge}
 use Rattle.std.specs.List.{filter}
 use Rattle.blif_read.specs.declared.blif_lines.line.RawLine.{RawLine}
 use Rattle.blif_read.specs.blif_lines.Lines.{is_empty, token_line}

@@ -1,2 +1,2 @@
 pub mod Lines
-pub use Rattle.sec_base.specs as sec_base
+pub mod sec_base

@@ -2,7 +2,7 @@
 
 ghost use Rattle.std.specs.Prelude.{◌≡◌, ◌<◌, ◌≤◌, [], true, false, not, length};
 ghost use Rattle.std.specs.List.{list_all};
-ghost use Rattle.blif_read.specs.blif_lines.sec_base.declared.limits.TheConstants.{MAX_FILE_BYTES};
+ghost use Rattle.blif_read.specs.blif_lines.sec_base.TheConstants.{MAX_FILE_BYTES};
 ghost use Rattle.blif_read.specs.Kept.{is_plain, covers_fit, written_names, model_names, ports_distinct};
 ghost use Rattle.blif_read.specs.Fault.{repeats};
 ghost use Rattle.blif_read.specs.blif_lines.Lines.{is_empty};

@@ -5,12 +5,12 @@ use Rattle.sec_base.specs.declared.settings.Settings.{Settings}
 use Rattle.flat_net.specs.View.{NetView}
 use Rattle.outcome.specs.declared.verdict.Outcome.{Outcome}
 use Rattle.sec_files.specs.job_files.job_base.Ends.{EndsBy}
-use Rattle.sec_files.specs.job_files.job_base.declared.finding.File.TheVariants as file
-use Rattle.sec_files.specs.job_files.job_base.declared.finding.Refusal.TheVariants as refusal
-use Rattle.sec_files.specs.job_files.job_base.declared.finding.Finding.{Finding}
-use Rattle.sec_files.specs.job_files.job_base.declared.finding.Finding.TheVariants as finding
-use Rattle.sec_files.specs.job_files.job_base.declared.finding.Stop.{Stop}
-use Rattle.sec_files.specs.job_files.job_base.declared.finding.Stop.TheVariants as stop
+use Rattle.sec_files.specs.job_files.job_base.File.TheVariants as file
+use Rattle.sec_files.specs.job_files.job_base.Refusal.TheVariants as refusal
+use Rattle.sec_files.specs.job_files.job_base.Finding.{Finding}
+use Rattle.sec_files.specs.job_files.job_base.Finding.TheVariants as finding
+use Rattle.sec_files.specs.job_files.job_base.Stop.{Stop}
+use Rattle.sec_files.specs.job_files.job_base.Stop.TheVariants as stop
 use Rattle.event_meaning.specs.event_meaning_under.CompareError.{CompareError}
 use Rattle.event_meaning.specs.event_meaning_under.CompareError.TheVariants as compare_error
 use Rattle.event_meaning.specs.Compared.{ComparedIn}

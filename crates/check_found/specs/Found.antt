@@ -3,13 +3,13 @@ use Rattle.std.specs.Prelude.{◌≡◌, ℕ, List, Option, Some, None, Result, 
 use Rattle.flat_net.specs.View.{NetView}
 use Rattle.pair_decide.specs.declared.query.SameBy.{SameBy}
 use Rattle.outcome.specs.declared.verdict.Outcome.{Outcome}
-use Rattle.sec_files.specs.job_files.job_base.declared.finding.File.{File}
-use Rattle.sec_files.specs.job_files.job_base.declared.finding.File.TheVariants as file
-use Rattle.sec_files.specs.job_files.job_base.declared.finding.LineFault.TheVariants as line_fault
-use Rattle.sec_files.specs.job_files.job_base.declared.finding.Refusal.{Refusal}
-use Rattle.sec_files.specs.job_files.job_base.declared.finding.Refusal.TheVariants as refusal
-use Rattle.sec_files.specs.job_files.job_base.declared.finding.Finding.{Finding}
-use Rattle.sec_files.specs.job_files.job_base.declared.finding.Finding.TheVariants as finding
+use Rattle.sec_files.specs.job_files.job_base.File.{File}
+use Rattle.sec_files.specs.job_files.job_base.File.TheVariants as file
+use Rattle.sec_files.specs.job_files.job_base.LineFault.TheVariants as line_fault
+use Rattle.sec_files.specs.job_files.job_base.Refusal.{Refusal}
+use Rattle.sec_files.specs.job_files.job_base.Refusal.TheVariants as refusal
+use Rattle.sec_files.specs.job_files.job_base.Finding.{Finding}
+use Rattle.sec_files.specs.job_files.job_base.Finding.TheVariants as finding
 use Rattle.event_meaning.specs.event_meaning_under.CompareError.{CompareError}
 use Rattle.event_meaning.specs.event_meaning_under.CompareError.TheVariants as compare_error
 use Rattle.event_meaning.specs.Compared.{ComparedIn}

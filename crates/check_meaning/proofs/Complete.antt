@@ -10,12 +10,12 @@ use Rattle.sec_base.specs.declared.settings.Settings.{Settings}
 use Rattle.flat_net.specs.View.{NetView, circuit_of}
 use Rattle.outcome.specs.declared.verdict.Verdict.{Verdict}
 use Rattle.outcome.specs.declared.verdict.Verdict.TheVariants as verdict
-use Rattle.check_found.specs.job_base.declared.finding.File.TheVariants as file
-use Rattle.check_found.specs.job_base.declared.finding.LineFault.TheVariants as line_fault
-use Rattle.check_found.specs.job_base.declared.finding.Refusal.{Refusal}
-use Rattle.check_found.specs.job_base.declared.finding.Refusal.TheVariants as refusal
-use Rattle.check_found.specs.job_base.declared.finding.Finding.{Finding}
-use Rattle.check_found.specs.job_base.declared.finding.Finding.TheVariants as finding
+use Rattle.check_found.specs.job_base.File.TheVariants as file
+use Rattle.check_found.specs.job_base.LineFault.TheVariants as line_fault
+use Rattle.check_found.specs.job_base.Refusal.{Refusal}
+use Rattle.check_found.specs.job_base.Refusal.TheVariants as refusal
+use Rattle.check_found.specs.job_base.Finding.{Finding}
+use Rattle.check_found.specs.job_base.Finding.TheVariants as finding
 use Rattle.check_found.specs.job_base.Written.{verdict_status, status_of}
 use Rattle.sec_setup.specs.cut_points.Common.{common_names}
 use Rattle.sec_setup.specs.Cycles.{AreBroken}

@@ -1,3 +1,3 @@
 pub mod Complete
 pub mod Means
-pub use Rattle.check_texts.proofs as check_texts
+pub mod check_texts

@@ -15,10 +15,10 @@ use Rattle.outcome.specs.declared.verdict.Verdict.{Verdict}
 use Rattle.outcome.specs.declared.verdict.Verdict.TheVariants as verdict
 use Rattle.outcome.specs.declared.verdict.Why.{Why}
 use Rattle.outcome.specs.Report.{report_text}
-use Rattle.check_found.specs.job_base.declared.finding.Finding.{Finding}
-use Rattle.check_found.specs.job_base.declared.finding.Finding.TheVariants as finding
-use Rattle.check_found.specs.job_base.declared.status.StatusName.{StatusName}
-use Rattle.check_found.specs.job_base.declared.status.StatusName.TheVariants as status
+use Rattle.check_found.specs.job_base.Finding.{Finding}
+use Rattle.check_found.specs.job_base.Finding.TheVariants as finding
+use Rattle.check_found.specs.job_base.StatusName.{StatusName}
+use Rattle.check_found.specs.job_base.StatusName.TheVariants as status
 use Rattle.check_found.specs.job_base.Written.{verdict_status, status_of, IsWrittenAs}
 use Rattle.check_texts.specs.CompareError.{CompareError}
 use Rattle.check_texts.specs.Compared.{IsCompared, IsComparedFromReset}

@@ -7,8 +7,8 @@ use Rattle.flat_net.specs.View.{NetView}
 use Rattle.pair_decide.specs.declared.query.Proof.{Proof}
 use Rattle.pair_decide.specs.declared.query.SameBy.{SameBy}
 use Rattle.assume_laws.specs.declared.assume_shape.shape.ShapeFault.{ShapeFault}
-use Rattle.check_found.specs.job_base.declared.status.StatusName.{StatusName}
-use Rattle.check_found.specs.job_base.declared.status.StatusName.TheVariants as status
+use Rattle.check_found.specs.job_base.StatusName.{StatusName}
+use Rattle.check_found.specs.job_base.StatusName.TheVariants as status
 use Rattle.check_texts.specs.CompareError.TheVariants as compare_error
 use Rattle.check_texts.specs.Compared.{ByReset}
 use Rattle.event_texts_under.specs.Answered.{ComparedUnderIn}

@@ -10,7 +10,7 @@ use Rattle.circuit_theory.specs.Classes.{EnablesEqual, EnablesDiffer, AlwaysEnab
 use Rattle.circuit_theory.specs.EventFits.{side_by_side}
 use Rattle.circuit_theory.specs.EventTotals.{IsMapSoFar}
 use Rattle.edbf_unfold.specs.ClassSteps.{HaveTwinEnables}
-use Rattle.event_nodes.specs.flat_net.declared.parts.LatchAt.{LatchAt}
+use Rattle.event_nodes.specs.flat_net.LatchAt.{LatchAt}
 use Rattle.event_nodes.specs.flat_net.Sound.{IsSound}
 use Rattle.edbf_unfold.specs.Nodes.{EventGraphView, IsEventGraph, GrowsEvents}
 use Rattle.edbf_unfold.specs.View.{EventCircuitView, IsEventCircuit, Enabled}

@@ -6,9 +6,9 @@ use Rattle.circuit_theory.specs.Names.{ListBefore}
 use Rattle.circuit_theory.specs.Query.{Variable}
 use Rattle.circuit_theory.proofs.Lists.{Contains-head, Contains-tail, Contains-cases, only}
 use Rattle.circuit_theory.specs.Frame.{NodeBefore}
-use Rattle.event_variables.specs.aig.declared.node.Node.{Node}
-use Rattle.event_variables.specs.aig.declared.node.Node.TheVariants.{Input}
-use Rattle.event_variables.specs.aig.declared.node.Lit.{Lit}
+use Rattle.event_variables.specs.aig.Node.{Node}
+use Rattle.event_variables.specs.aig.Node.TheVariants.{Input}
+use Rattle.event_variables.specs.aig.Lit.{Lit}
 use Rattle.event_variables.specs.aig.Graph.{Grows}
 use Rattle.event_variables.specs.aig.Rules.{IsAndOf}
 use Rattle.event_variables.specs.aig.Cone.{IsReached}

@@ -1,6 +1,6 @@
 -- Queries of load enables.
 use Rattle.std.specs.Prelude.{◌≡◌, ℕ, ◌*◌, ◌<◌, [], ◌∷◌, length, slice_get, Some, Contains}
-use Rattle.event_variables.specs.aig.declared.node.Node.TheVariants.{Input}
+use Rattle.event_variables.specs.aig.Node.TheVariants.{Input}
 use Rattle.event_variables.specs.aig.Cone.{IsReached}
 use Rattle.event_variables.specs.aig.Rules.{IsAndOf}
 use Rattle.event_variables.specs.Nodes.{EventGraphView}

@@ -4,4 +4,4 @@ pub use Rattle.event_variables.specs.event_nodes.Reach
 pub use Rattle.event_variables.specs.event_nodes.Table
 pub use Rattle.event_variables.specs.event_nodes.View
 pub use Rattle.event_variables.specs.event_nodes.Visited
-pub use Rattle.event_variables.specs.event_nodes.declared.error.EventUnfoldError
+pub use Rattle.event_variables.specs.event_nodes.EventUnfoldError

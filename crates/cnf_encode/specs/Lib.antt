@@ -1,2 +1,2 @@
 pub mod Encoding
-pub use Rattle.proof_check.specs as proof_check
+pub mod proof_check

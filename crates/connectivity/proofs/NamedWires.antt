@@ -3,7 +3,7 @@ use Rattle.std.proofs.Common.{◌≡◌, ◌∙◌, ℕ, List, [], ◌∷◌, �
 use Rattle.std.proofs.lemmas.List.{map-append}
 use Rattle.circuit_theory.proofs.Lists.{map-map}
 use Rattle.sec_base.specs.declared.basics.Edge.{Edge}
-use Rattle.elaborate.specs.blif_read.declared.design.BlifModel.{BlifModel}
+use Rattle.elaborate.specs.blif_read.BlifModel.{BlifModel}
 use Rattle.elaborate.specs.declared.flat.Flat.{Flat}
 use Rattle.elaborate.specs.declared.flat.FlatStatement.{FlatStatement}
 use Rattle.elaborate.specs.declared.flat.FlatKind.{FlatKind}

@@ -1,7 +1,7 @@
 -- What the wiring of a flat design without faults of drivers and clocks gives.
 use Rattle.std.specs.Prelude.{◌≡◌, ◌≢◌, ℕ, List, ◌++◌, Option, Some, None}
 use Rattle.std.specs.List.{Contains}
-use Rattle.elaborate.specs.blif_read.declared.design.BlifModel.{BlifModel}
+use Rattle.elaborate.specs.blif_read.BlifModel.{BlifModel}
 use Rattle.elaborate.specs.declared.flat.Flat.{Flat}
 use Rattle.elaborate.specs.declared.error.FlatError.{FlatError}
 use Rattle.elaborate.specs.declared.error.FlatError.TheVariants as fault

@@ -6,8 +6,8 @@ use Rattle.std.proofs.lemmas.List.Elements.{All-push}
 use Rattle.circuit_theory.specs.Cover.{Cover}
 use Rattle.circuit_theory.specs.Interface.{◌or_else◌}
 use Rattle.base_tables.specs.Table.{is_among}
-use Rattle.blif_read.specs.sec_base.declared.basics.Edge.{Edge}
-use Rattle.blif_read.specs.sec_base.declared.basics.Init.{Init}
+use Rattle.blif_read.specs.sec_base.Edge.{Edge}
+use Rattle.blif_read.specs.sec_base.Init.{Init}
 use Rattle.blif_read.specs.declared.design.BlifModel.{BlifModel}
 use Rattle.blif_read.specs.declared.design.Pair.{Pair}
 use Rattle.blif_read.specs.declared.design.Statement.{Statement}

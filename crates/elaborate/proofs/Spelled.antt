@@ -6,8 +6,8 @@ use Rattle.std.proofs.lemmas.List.{map-append, take_more}
 use Rattle.std.proofs.lemmas.List.Folds.{list_all-append}
 use Rattle.std.proofs.lemmas.Option.{slice_get_within}
 use Rattle.base_tables.specs.Table.{is_among}
-use Rattle.blif_read.specs.sec_base.declared.basics.Edge.{Edge}
-use Rattle.blif_read.specs.sec_base.declared.basics.Init.{Init}
+use Rattle.blif_read.specs.sec_base.Edge.{Edge}
+use Rattle.blif_read.specs.sec_base.Init.{Init}
 use Rattle.blif_read.specs.declared.design.BlifModel.{BlifModel}
 use Rattle.blif_read.specs.declared.design.Pair.{Pair}
 use Rattle.elaborate.specs.declared.flat.FlatStatement.{FlatStatement}

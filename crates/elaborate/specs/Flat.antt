@@ -3,9 +3,9 @@ use Rattle.std.specs.Prelude.{◌≡◌, ℕ, ◌==◌, Bool, true, false, not, 
 use Rattle.std.specs.List.{filter, filter_map}
 use Rattle.circuit_theory.specs.Cover.{Cover}
 use Rattle.circuit_theory.specs.Circuit.{Circuit, Equation, Gate, Port, Named, Started, Latch as Register}
-use Rattle.blif_read.specs.sec_base.declared.basics.Edge.{Edge}
-use Rattle.blif_read.specs.sec_base.declared.basics.Init.{Init}
-use Rattle.blif_read.specs.sec_base.declared.basics.Init.TheVariants as init
+use Rattle.blif_read.specs.sec_base.Edge.{Edge}
+use Rattle.blif_read.specs.sec_base.Init.{Init}
+use Rattle.blif_read.specs.sec_base.Init.TheVariants as init
 use Rattle.blif_read.specs.declared.design.BlifModel.{BlifModel}
 use Rattle.blif_read.specs.declared.design.Statement.{Statement}
 use Rattle.blif_read.specs.declared.design.Statement.TheVariants.{Names, Latch, Subckt}

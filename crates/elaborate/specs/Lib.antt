@@ -6,4 +6,4 @@ pub mod Renaming
 pub mod Steps
 pub mod Scopes
 pub mod State
-pub use Rattle.blif_read.specs as blif_read
+pub mod blif_read

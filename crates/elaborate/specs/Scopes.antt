@@ -2,7 +2,7 @@
 use Rattle.std.specs.Prelude.{◌≡◌, ℕ, ◌-◌, ◌<◌, ◌&&◌, nat_lt, ◌+◌, Bool, All, List, [], ◌∷◌, ◌++◌, map, length, Option, Some, None, slice_get}
 use Rattle.std.specs.Fmt.{decimal}
 use Rattle.std.specs.List.{list_any}
-use Rattle.blif_read.specs.sec_base.declared.limits.TheConstants.{MAX_NAME_BYTES}
+use Rattle.blif_read.specs.sec_base.TheConstants.{MAX_NAME_BYTES}
 use Rattle.base_tables.specs.Table.{is_among}
 use Rattle.blif_read.specs.declared.design.BlifModel.{BlifModel}
 use Rattle.blif_read.specs.declared.design.Statement.{Statement}

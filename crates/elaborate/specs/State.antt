@@ -2,7 +2,7 @@
 use Rattle.std.specs.Prelude.{◌≡◌, ℕ, ◌+◌, ◌≤◌, Bool, true, false, List, [], ◌∷◌, ◌++◌, map, length, Option, Some, Ok, slice_get}
 use Rattle.std.specs.List.{list_all}
 use Rattle.circuit_theory.specs.Interface.{◌or_else◌}
-use Rattle.blif_read.specs.sec_base.declared.limits.TheConstants.{MAX_PLACES, MAX_STATEMENTS}
+use Rattle.blif_read.specs.sec_base.TheConstants.{MAX_PLACES, MAX_STATEMENTS}
 use Rattle.base_tables.specs.Table.{is_among}
 use Rattle.blif_read.specs.declared.design.BlifModel.{BlifModel}
 use Rattle.blif_read.specs.declared.design.Pair.{Pair}

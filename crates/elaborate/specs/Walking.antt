@@ -2,7 +2,7 @@
 use Rattle.std.specs.Prelude.{◌≡◌, ℕ, ◌+◌, ◌*◌, nat_lt, nat_le, ◌||◌, not, Bool, true, false, List, [], ◌∷◌, ◌++◌, map, length, Option, Some, None, codes, refl}
 use Rattle.std.specs.List.{list_any, find}
 use Rattle.circuit_theory.specs.Interface.{◌or_else◌}
-use Rattle.blif_read.specs.sec_base.declared.limits.TheConstants.{MAX_NAME_BYTES, MAX_PLACES, MAX_STATEMENTS}
+use Rattle.blif_read.specs.sec_base.TheConstants.{MAX_NAME_BYTES, MAX_PLACES, MAX_STATEMENTS}
 use Rattle.base_tables.specs.Table.{is_among}
 use Rattle.blif_read.specs.declared.design.BlifModel.{BlifModel}
 use Rattle.blif_read.specs.declared.design.Pair.{Pair}

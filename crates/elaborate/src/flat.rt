@@ -2,7 +2,7 @@
 
 ghost use Rattle.std.specs.Prelude.{◌≡◌, ◌<◌, ◌≤◌, length, slice_get, true, Some, All};
 ghost use Rattle.std.specs.List.{list_all, sum_by};
-ghost use Rattle.blif_read.specs.sec_base.declared.limits.TheConstants.{MAX_PLACES, MAX_STATEMENTS};
+ghost use Rattle.blif_read.specs.sec_base.TheConstants.{MAX_PLACES, MAX_STATEMENTS};
 ghost use Rattle.base_tables.specs.Table.{AreDistinct};
 ghost use Rattle.elaborate.specs.Within.{is_within, reads_as_kind, written_places};
 

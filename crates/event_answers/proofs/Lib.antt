@@ -2,7 +2,7 @@ pub mod Stopping
 pub mod Refusals
 pub mod Finding
 pub mod Told
-pub use Rattle.event_names.proofs.Naming
 pub mod Agreeing
 pub mod Comparing
 pub mod Whole
+pub use Rattle.event_names.proofs.Naming

@@ -2,6 +2,7 @@ pub mod Askable
 pub mod Finding
 pub mod Limits
 pub mod Reached
+pub mod Laws
 pub use Rattle.event_names.specs.declared.names.Names
 pub use Rattle.event_names.specs.Nameable
 pub use Rattle.event_names.specs.Named
@@ -12,7 +13,6 @@ pub use Rattle.event_names.specs.Asked
 pub use Rattle.event_names.specs.Circuits
 pub use Rattle.event_names.specs.EventFormError
 pub use Rattle.event_comparison.specs.Counted
-pub mod Laws
 pub use Rattle.event_comparison.specs.Findings
 pub use Rattle.event_comparison.specs.EventFindings
 pub use Rattle.event_comparison.specs.EventPairs

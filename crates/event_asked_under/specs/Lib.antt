@@ -1,3 +1,3 @@
 pub mod Questions
 pub mod Sides
-pub use Rattle.assume_queries.specs as assume_queries
+pub mod assume_queries

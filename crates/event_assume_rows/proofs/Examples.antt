@@ -10,7 +10,7 @@ use Rattle.event_assume_rows.proofs.assume_rows.Shape.{no_fault, weighs_few}
 use Rattle.event_assume_rows.proofs.assume_rows.Spelled.{same_spells}
 use Rattle.design_rows.specs.Small.{IsSmall}
 use Rattle.design_rows.proofs.Spelling.{accepted, net_is_small}
-use Rattle.check_meaning.specs.event_meaning.event_meaning_under.Heavy.{IsTooLargeForEvents}
+use Rattle.check_meaning.specs.event_meaning.Heavy.{IsTooLargeForEvents}
 use Rattle.under_base.specs.Met.{shared_by}
 use Rattle.assume_sequences.specs.assume_taken.Taken.{IsFirstFault}
 use Rattle.event_premises.proofs.Comparing.{comparable_events}

@@ -16,7 +16,7 @@ use Rattle.interface.specs.Pairs.{named_pairs, pair_called, places_of}
 use Rattle.assume_laws.specs.declared.assume_shape.shape.ShapeFault.{ShapeFault}
 use Rattle.assume_laws.specs.declared.assume_shape.shape.ShapeFault.TheVariants as fault
 use Rattle.class_queries.specs.Enables.{class_map}
-use Rattle.check_meaning.specs.event_meaning.event_meaning_under.Heavy.{IsTooLargeForEvents, PairsAreOver}
+use Rattle.check_meaning.specs.event_meaning.Heavy.{IsTooLargeForEvents, PairsAreOver}
 use Rattle.under_base.specs.Met.{IsMet}
 use Rattle.check_meaning.specs.event_texts.Compared.{StopsAtPairs}
 use Rattle.event_premises.proofs.Comparing.{left_events, right_events}

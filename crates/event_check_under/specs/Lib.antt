@@ -1,5 +1,5 @@
 pub mod Circuits
 pub mod Refusals
 pub mod event_names_under
-pub use Rattle.event_meaning.specs.event_meaning_under.Answered
 pub mod event_answers_under
+pub use Rattle.event_meaning.specs.event_meaning_under.Answered

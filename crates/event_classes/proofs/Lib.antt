@@ -1,5 +1,3 @@
-pub use Rattle.class_totals.proofs.Nodes
-pub use Rattle.class_separations.proofs.Variables
 pub mod Standing
 pub mod Naming
 pub mod Ready
@@ -11,3 +9,5 @@ pub mod Refusing
 pub mod WholeMap
 pub mod Limiting
 pub mod Stopping
+pub use Rattle.class_totals.proofs.Nodes
+pub use Rattle.class_separations.proofs.Variables

@@ -1,10 +1,10 @@
-pub use Rattle.event_findings.specs.Compared
-pub use Rattle.event_findings.specs.declared.pairs.EventPairs
 pub mod Asked
 pub mod Shown
 pub mod Agreement
 pub mod Decided
 pub mod Counted
+pub use Rattle.event_findings.specs.Compared
+pub use Rattle.event_findings.specs.declared.pairs.EventPairs
 pub use Rattle.event_findings.specs.Findings
 pub use Rattle.event_findings.specs.declared.findings.EventFindings
 pub use Rattle.event_findings.specs.class_events

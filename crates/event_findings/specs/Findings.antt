@@ -14,8 +14,8 @@ use Rattle.sec_base.specs.declared.basics.PairAnswer.TheVariants as answer
 use Rattle.class_queries.specs.Enables.{both_of}
 use Rattle.event_nodes.specs.View.{EventCircuitView}
 use Rattle.interface.specs.declared.pairs.SignalPair.{SignalPair}
-use Rattle.interface.specs.witness_report.declared.witness.PairName.{PairName}
-use Rattle.interface.specs.witness_report.declared.witness.Witness.{Witness}
+use Rattle.interface.specs.witness_report.PairName.{PairName}
+use Rattle.interface.specs.witness_report.Witness.{Witness}
 use Rattle.outcome.specs.declared.verdict.PairResult.{PairResult}
 use Rattle.unshown_pairs.specs.Decided.{NoneIs}
 use Rattle.unshown_pairs.specs.Answers.{PairFits}

@@ -1,11 +1,11 @@
+pub mod Compared
+pub mod Findings
 pub use Rattle.event_witness.specs.Unshown
 pub use Rattle.event_witness.specs.Shown
 pub use Rattle.event_witness.specs.Sequences
 pub use Rattle.event_witness.specs.declared.unshown.UnshownFrame
 pub use Rattle.unshown_pairs.specs.Separations
 pub use Rattle.unshown_pairs.specs.Reached
-pub mod Compared
-pub mod Findings
 pub use Rattle.unshown_pairs.specs.Answers
 pub use Rattle.unshown_pairs.specs.Asked
 pub use Rattle.unshown_pairs.specs.FrameBit

@@ -8,8 +8,8 @@ use Rattle.circuit_theory.specs.Tree.{Tree}
 use Rattle.circuit_theory.proofs.Lists.{Contains-cases, Contains-map, length-map}
 use Rattle.circuit_theory.specs.EventFrames.{HaveDifferentEvents, IsEventSize, frame_of}
 use Rattle.circuit_theory.specs.Frame.{EventSide}
-use Rattle.aig.specs.sec_base.declared.basics.PairAnswer.{PairAnswer}
-use Rattle.aig.specs.sec_base.declared.basics.PairAnswer.TheVariants as answer
+use Rattle.aig.specs.sec_base.PairAnswer.{PairAnswer}
+use Rattle.aig.specs.sec_base.PairAnswer.TheVariants as answer
 use Rattle.aig.specs.Builds.{Builds}
 use Rattle.aig.specs.declared.node.Node.{Node}
 use Rattle.aig.specs.declared.node.Lit.{Lit}
@@ -27,9 +27,9 @@ use Rattle.obligations.specs.declared.obligation.Obligation.{Obligation}
 use Rattle.obligations.specs.Decided.{AnswerIs, IsAnswered}
 use Rattle.obligations.specs.Found.{Differ, IsDifferenceOf}
 use Rattle.obligations.specs.PairResult.{PairResult}
-use Rattle.obligations.specs.pair_decide.declared.query.Decision.TheVariants as decision
-use Rattle.obligations.specs.pair_decide.declared.query.Proof.{Proof}
-use Rattle.obligations.specs.pair_decide.declared.query.Query.{Query}
+use Rattle.obligations.specs.pair_decide.Decision.TheVariants as decision
+use Rattle.obligations.specs.pair_decide.Proof.{Proof}
+use Rattle.obligations.specs.pair_decide.Query.{Query}
 use Rattle.obligations.specs.pair_decide.Answers.{IsDifference, IsAtLimit}
 use Rattle.obligations.specs.pair_decide.Queries.{IsSame, roots_of}
 use Rattle.obligations.specs.InStead.{IsInStead, DecidesInStead}

@@ -26,7 +26,7 @@ use Rattle.event_agreement.proofs.PairQueries.{queries_later, queries_of_pairs}
 use Rattle.interface.specs.declared.pairs.SignalPair.{SignalPair}
 use Rattle.obligations.specs.Asked.{AreAsked as AreQueries}
 use Rattle.obligations.specs.declared.obligation.Obligation.{Obligation}
-use Rattle.obligations.specs.pair_decide.declared.query.Query.{Query}
+use Rattle.obligations.specs.pair_decide.Query.{Query}
 use Rattle.obligations.specs.pair_decide.Queries.{IsQuery}
 use Rattle.event_agreement.specs.pair_events.View.{EventsView, side_of_both}
 use Rattle.event_form.specs.Asked.{IsAskedOf, AreAsked, IsDecisive, IsLater, HasGraphMore, IsPairOf, IsQueryOf, IsUnion}

@@ -1,7 +1,7 @@
-pub use Rattle.event_agreement.proofs.SameCircuits
 pub mod Asking
 pub mod Counted
 pub mod Answers
 pub mod Telling
 pub mod Refusing
 pub mod Stopping
+pub use Rattle.event_agreement.proofs.SameCircuits

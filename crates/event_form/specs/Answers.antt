@@ -9,8 +9,8 @@ use Rattle.circuit_theory.specs.EventFits.{HaveEqualEvents}
 use Rattle.circuit_theory.specs.EventFrames.{AreNodeVariables, IsPairTree, IsEventSize, HaveDifferentEvents, IsUnshownFrame}
 use Rattle.circuit_theory.specs.Frame.{EventSide, EventUnfolds, ConeLatches, HasCare}
 use Rattle.base_tables.specs.Table.{AreDistinct}
-use Rattle.aig.specs.sec_base.declared.basics.PairAnswer.{PairAnswer}
-use Rattle.aig.specs.sec_base.declared.basics.PairAnswer.TheVariants as answer
+use Rattle.aig.specs.sec_base.PairAnswer.{PairAnswer}
+use Rattle.aig.specs.sec_base.PairAnswer.TheVariants as answer
 use Rattle.aig.specs.declared.node.Node.{Node}
 use Rattle.aig.specs.declared.node.Node.TheVariants.{Input}
 use Rattle.aig.specs.Cone.{IsReached}
@@ -22,8 +22,8 @@ use Rattle.class_search.specs.event_nodes.Nodes.{EventGraphView}
 use Rattle.class_search.specs.event_variables.Variables.{variables_of}
 use Rattle.interface.specs.declared.pairs.SignalPair.{SignalPair}
 use Rattle.obligations.specs.PairResult.{PairResult}
-use Rattle.obligations.specs.pair_decide.declared.query.Proof.{Proof}
-use Rattle.obligations.specs.pair_decide.declared.query.Query.{Query}
+use Rattle.obligations.specs.pair_decide.Proof.{Proof}
+use Rattle.obligations.specs.pair_decide.Query.{Query}
 use Rattle.obligations.specs.pair_decide.Queries.{assigned_to}
 use Rattle.event_form.specs.Asked.{IsDecisive}
 

@@ -12,7 +12,7 @@ use Rattle.event_agreement.specs.event_pairs.SignalFunction.{SignalFunction}
 use Rattle.event_agreement.specs.Queries.{AsksEventPair}
 use Rattle.interface.specs.declared.pairs.SignalPair.{SignalPair}
 use Rattle.obligations.specs.declared.obligation.Obligation.{Obligation}
-use Rattle.obligations.specs.pair_decide.declared.query.Query.{Query}
+use Rattle.obligations.specs.pair_decide.Query.{Query}
 use Rattle.event_agreement.specs.pair_events.View.{EventsView}
 
 -- Whether a difference of the pair shows that the circuits differ: no latch is cut open, and both sides reach latches of class 0 alone.

@@ -10,7 +10,7 @@ use Rattle.circuit_theory.specs.Tree.{AreNumbered}
 use Rattle.circuit_theory.specs.Classes.{HasClasses}
 use Rattle.circuit_theory.specs.Frame.{EventSide}
 use Rattle.interface.specs.flat_net.View.{circuit_of}
-use Rattle.aig.specs.sec_base.declared.basics.PairAnswer.TheVariants as answer
+use Rattle.aig.specs.sec_base.PairAnswer.TheVariants as answer
 use Rattle.class_search.specs.event_nodes.Nodes.{EventGraphView, IsEventGraph}
 use Rattle.class_search.specs.event_nodes.View.{EventCircuitView}
 use Rattle.event_agreement.specs.pair_events.Enables.{both_of}

@@ -1,9 +1,3 @@
-pub use Rattle.obligations.specs.Found
-pub use Rattle.obligations.specs.Decided
-pub use Rattle.obligations.specs.declared.obligation.Obligation
-pub use Rattle.obligations.specs.declared.obligation.Difference
-pub use Rattle.event_agreement.specs.event_pairs.SignalFunction
-pub use Rattle.event_functions.specs.Functions
 pub mod Asked
 pub mod Counted
 pub mod Answers
@@ -11,3 +5,9 @@ pub mod Frames
 pub mod Refused
 pub mod Stopped
 pub mod Laws
+pub use Rattle.obligations.specs.Found
+pub use Rattle.obligations.specs.Decided
+pub use Rattle.obligations.specs.declared.obligation.Obligation
+pub use Rattle.obligations.specs.declared.obligation.Difference
+pub use Rattle.event_agreement.specs.event_pairs.SignalFunction
+pub use Rattle.event_functions.specs.Functions

@@ -12,11 +12,11 @@ use Rattle.circuit_theory.specs.EventFrames.{IsCareTree}
 use Rattle.circuit_theory.specs.EventSizes.{Start}
 use Rattle.circuit_theory.specs.EventTotals.{StartLatches}
 use Rattle.circuit_theory.specs.Frame.{EventUnfolds, ReachedAt}
-use Rattle.event_variables.specs.flat_net.declared.parts.LatchAt.{LatchAt}
+use Rattle.event_variables.specs.flat_net.LatchAt.{LatchAt}
 use Rattle.event_variables.specs.flat_net.Sound.{IsSound}
 use Rattle.event_variables.specs.flat_net.View.{circuit_of}
 use Rattle.event_variables.proofs.flat_net.Nets.{latch_stands}
-use Rattle.event_variables.specs.aig.declared.node.Node.TheVariants.{Input}
+use Rattle.event_variables.specs.aig.Node.TheVariants.{Input}
 use Rattle.event_variables.specs.aig.Graph.{flip}
 use Rattle.event_variables.specs.aig.Cone.{IsReached}
 use Rattle.event_variables.specs.event_nodes.Nodes.{EventGraphView, IsEventGraph, named_places, path_of}

@@ -2,7 +2,7 @@
 use Rattle.std.proofs.Common.{◌≡◌, true, Result, Ok, Err, OnOk}
 use Rattle.std.specs.Result.{is_ok}
 use Rattle.std.proofs.lemmas.Bool.{false≢true}
-use Rattle.event_variables.specs.event_nodes.declared.error.EventUnfoldError.{EventUnfoldError}
+use Rattle.event_variables.specs.event_nodes.EventUnfoldError.{EventUnfoldError}
 
 -- one error is the other
 pub error_is : {X : Type 0} {e f : EventUnfoldError} → ◌≡◌ {A = Result X EventUnfoldError} (Err e) (Err f) → e ≡ f

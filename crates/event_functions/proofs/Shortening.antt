@@ -1,7 +1,7 @@
 -- What the literal of an or reads, also a short one, one of both reads.
 use Rattle.std.proofs.Common.{◌≡◌, ◌∙◌, ℕ, ◌/◌, List, slice_get, Option, Some, None, refl, sym, ap, subst, arith, inl, inr}
-use Rattle.event_variables.specs.aig.declared.node.Node.{Node}
-use Rattle.event_variables.specs.aig.declared.node.Node.TheVariants.{And}
+use Rattle.event_variables.specs.aig.Node.{Node}
+use Rattle.event_variables.specs.aig.Node.TheVariants.{And}
 use Rattle.event_variables.specs.aig.Cone.{Reads}
 use Rattle.event_variables.specs.aig.Graph.{IsGraph, flip}
 use Rattle.event_variables.proofs.Cones.{From, Supports, supports_flip, supports_and_of}

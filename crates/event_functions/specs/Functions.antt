@@ -1,7 +1,7 @@
 -- When an event function is right.
 use Rattle.std.specs.Prelude.{ℕ, [], None}
 use Rattle.circuit_theory.specs.EventSizes.{Start}
-use Rattle.event_variables.specs.flat_net.declared.parts.LatchAt.{LatchAt}
+use Rattle.event_variables.specs.flat_net.LatchAt.{LatchAt}
 use Rattle.event_variables.specs.event_nodes.Nodes.{EventGraphView}
 use Rattle.event_variables.specs.event_nodes.View.{EventCircuitView}
 use Rattle.event_literals.specs.Walk.{enable_start}

@@ -1,8 +1,8 @@
 -- What the variables of event functions are. Each law is the contract of a function of this crate.
 use Rattle.std.specs.Prelude.{◌≡◌, ℕ, List, [], ◌∷◌, slice_get, Some, Contains}
-use Rattle.event_variables.specs.flat_net.declared.parts.LatchAt.{LatchAt}
+use Rattle.event_variables.specs.flat_net.LatchAt.{LatchAt}
 use Rattle.event_variables.specs.flat_net.Sound.{IsSound}
-use Rattle.event_variables.specs.aig.declared.node.Node.TheVariants.{Input}
+use Rattle.event_variables.specs.aig.Node.TheVariants.{Input}
 use Rattle.event_variables.specs.aig.Cone.{IsReached}
 use Rattle.event_variables.specs.event_nodes.Nodes.{EventGraphView, IsEventGraph}
 use Rattle.event_variables.specs.event_nodes.View.{EventCircuitView, IsEventCircuit}

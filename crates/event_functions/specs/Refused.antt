@@ -4,8 +4,8 @@ use Rattle.circuit_theory.specs.Depth.{LatchesHaveDepths}
 use Rattle.circuit_theory.specs.EventSizes.{Start, IsEventOver}
 use Rattle.event_variables.specs.flat_net.View.{NetView, circuit_of}
 use Rattle.base_tables.specs.Table.{AreDistinct}
-use Rattle.event_variables.specs.event_nodes.declared.error.EventUnfoldError.{EventUnfoldError}
-use Rattle.event_variables.specs.event_nodes.declared.error.EventUnfoldError.TheVariants as unfold_error
+use Rattle.event_variables.specs.event_nodes.EventUnfoldError.{EventUnfoldError}
+use Rattle.event_variables.specs.event_nodes.EventUnfoldError.TheVariants as unfold_error
 use Rattle.event_variables.specs.event_nodes.View.{EventCircuitView, side_of, Enabled}
 use Rattle.event_variables.specs.event_nodes.Visited.{IsVisitedPair, HoldsNodes, places_weight}
 

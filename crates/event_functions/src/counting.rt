@@ -1,7 +1,7 @@
 //! What a start visits is counted with what was counted before.
 
 ghost use Rattle.std.specs.Prelude.{◌≡◌, ◌+◌, ◌*◌, ◌^◌, ◌<◌, ◌≤◌, length, All, Contains, IfOk, OnOk, Err};
-ghost use Rattle.event_variables.specs.event_nodes.declared.error.EventUnfoldError.TheVariants as unfold_error;
+ghost use Rattle.event_variables.specs.event_nodes.EventUnfoldError.TheVariants as unfold_error;
 ghost use Rattle.event_variables.specs.event_nodes.Adds.{Adds};
 ghost use Rattle.event_variables.specs.event_nodes.Visited.{IsWeighed};
 ghost use Rattle.event_functions.specs.Refused.{IsOverweight};

@@ -1,8 +1,8 @@
 //! Load enables as event functions.
 
 ghost use Rattle.std.specs.Prelude.{◌≡◌, ◌^◌, ◌<◌, ◌≤◌, [], length, slice_get, Some, IfOk, OnOk, Err};
-ghost use Rattle.event_variables.specs.flat_net.declared.parts.LatchAt.{LatchAt};
-ghost use Rattle.event_variables.specs.event_nodes.declared.error.EventUnfoldError.TheVariants as unfold_error;
+ghost use Rattle.event_variables.specs.flat_net.LatchAt.{LatchAt};
+ghost use Rattle.event_variables.specs.event_nodes.EventUnfoldError.TheVariants as unfold_error;
 ghost use Rattle.event_variables.specs.event_nodes.Nodes.{GrowsEvents};
 ghost use Rattle.event_variables.specs.event_nodes.Visited.{IsWeighed};
 ghost use Rattle.event_literals.specs.Walk.{HasCountedStart, IsCounting, enable_start};

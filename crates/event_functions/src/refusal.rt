@@ -1,8 +1,8 @@
 //! What is answered where what was counted weighs too much.
 
 ghost use Rattle.std.specs.Prelude.{◌≡◌, ◌<◌, ◌≤◌, true, length, slice_get, Some};
-ghost use Rattle.event_variables.specs.flat_net.declared.parts.LatchAt.{LatchAt};
-ghost use Rattle.event_variables.specs.event_nodes.declared.error.EventUnfoldError.TheVariants as unfold_error;
+ghost use Rattle.event_variables.specs.flat_net.LatchAt.{LatchAt};
+ghost use Rattle.event_variables.specs.event_nodes.EventUnfoldError.TheVariants as unfold_error;
 ghost use Rattle.event_variables.specs.event_nodes.Nodes.{GrowsEvents, IsEventGraph};
 ghost use Rattle.event_variables.specs.event_nodes.Visited.{AreNodesFrom, places_weight};
 ghost use Rattle.event_literals.specs.Walk.{enable_start};

@@ -1,7 +1,7 @@
 //! Signals as event functions.
 
 ghost use Rattle.std.specs.Prelude.{◌≡◌, ◌^◌, ◌<◌, ◌≤◌, [], length, None, IfOk, OnOk, Err};
-ghost use Rattle.event_variables.specs.event_nodes.declared.error.EventUnfoldError.TheVariants as unfold_error;
+ghost use Rattle.event_variables.specs.event_nodes.EventUnfoldError.TheVariants as unfold_error;
 ghost use Rattle.event_variables.specs.event_nodes.Nodes.{GrowsEvents};
 ghost use Rattle.event_variables.specs.event_nodes.Visited.{IsWeighed};
 ghost use Rattle.event_literals.specs.Walk.{HasCountedStart, IsCounting};

@@ -8,7 +8,7 @@ use Rattle.circuit_theory.specs.Circuit.{Gate as gate_equation, IsLatch}
 use Rattle.circuit_theory.specs.Tree.{Tree, Trees, Leaf, Fixed, Branch, Nil, Cons, IsInputNumber}
 use Rattle.circuit_theory.specs.Frame.{EventUnfolds, EventUnfoldsAll, NotPut}
 use Rattle.circuit_theory.proofs.Numbers.{slice_get-map}
-use Rattle.event_nodes.specs.flat_net.declared.signals.Signal.{Signal}
+use Rattle.event_nodes.specs.flat_net.Signal.{Signal}
 use Rattle.event_nodes.specs.flat_net.View.{circuit_of}
 use Rattle.event_nodes.specs.Lit.{Lit}
 use Rattle.event_nodes.specs.Node.TheVariants.{Input}

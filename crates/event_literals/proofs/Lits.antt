@@ -10,10 +10,10 @@ use Rattle.circuit_theory.specs.Cover.{Cover}
 use Rattle.circuit_theory.specs.Frame.{NotPut}
 use Rattle.circuit_theory.proofs.Lists.{All-from_each, zip_push, zip_weaker}
 use Rattle.circuit_theory.proofs.Numbers.{at_beside, slice_get-map}
-use Rattle.event_nodes.specs.flat_net.declared.signals.Signal.{Signal}
-use Rattle.event_nodes.specs.flat_net.declared.parts.Gate.{Gate}
-use Rattle.event_nodes.specs.flat_net.declared.parts.LatchAt.{LatchAt}
-use Rattle.event_nodes.specs.flat_net.declared.parts.Driver.TheVariants as driver
+use Rattle.event_nodes.specs.flat_net.Signal.{Signal}
+use Rattle.event_nodes.specs.flat_net.Gate.{Gate}
+use Rattle.event_nodes.specs.flat_net.LatchAt.{LatchAt}
+use Rattle.event_nodes.specs.flat_net.Driver.TheVariants as driver
 use Rattle.event_nodes.specs.flat_net.View.{named, circuit_of, cover_of}
 use Rattle.event_nodes.specs.flat_net.Sound.{IsSound}
 use Rattle.event_nodes.proofs.flat_net.Places.{one_at}

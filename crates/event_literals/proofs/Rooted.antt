@@ -6,7 +6,7 @@ use Rattle.std.proofs.lemmas.List.{take_all}
 use Rattle.std.proofs.lemmas.List.Elements.{All-weaker}
 use Rattle.std.proofs.lemmas.Option.{slice_get_within}
 use Rattle.circuit_theory.proofs.Lists.{at_of}
-use Rattle.event_nodes.specs.flat_net.declared.parts.LatchAt.{LatchAt}
+use Rattle.event_nodes.specs.flat_net.LatchAt.{LatchAt}
 use Rattle.event_nodes.specs.flat_net.Sound.{IsSound}
 use Rattle.event_nodes.specs.flat_net.View.{NetView}
 use Rattle.event_nodes.proofs.flat_net.Growth.{slice_get-append}

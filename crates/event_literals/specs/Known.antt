@@ -3,8 +3,8 @@ use Rattle.std.specs.Prelude.{◌≡◌, ℕ, ◌+◌, ◌*◌, ◌^◌, ◌<◌
 use Rattle.std.specs.List.{AllZip}
 use Rattle.circuit_theory.specs.Tree.{Tree}
 use Rattle.circuit_theory.specs.Frame.{EventUnfolds}
-use Rattle.event_nodes.specs.flat_net.declared.parts.Gate.{Gate}
-use Rattle.event_nodes.specs.flat_net.declared.parts.LatchAt.{LatchAt}
+use Rattle.event_nodes.specs.flat_net.Gate.{Gate}
+use Rattle.event_nodes.specs.flat_net.LatchAt.{LatchAt}
 use Rattle.event_nodes.specs.flat_net.View.{cover_of}
 use Rattle.event_nodes.specs.Lit.{Lit}
 use Rattle.event_nodes.specs.Node.{Node}

@@ -1,9 +1,9 @@
+pub mod Nameable
+pub mod event_fits
 pub use Rattle.event_names.specs.event_fits.Named
 pub use Rattle.event_names.specs.event_fits.Fitting
 pub use Rattle.event_names.specs.event_fits.Compared
-pub mod Nameable
 pub use Rattle.event_names.specs.event_fits.Totals
 pub use Rattle.event_names.specs.event_fits.Asked
 pub use Rattle.event_names.specs.event_fits.Circuits
 pub use Rattle.event_names.specs.event_fits.EventFormError
-pub mod event_fits

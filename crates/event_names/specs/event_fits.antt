@@ -1,11 +1,13 @@
-pub use Rattle.event_findings.specs.declared.pairs.EventPairs
-pub use Rattle.event_findings.specs.Findings
-pub use Rattle.event_findings.specs.declared.verdict.UnshownPair
-pub use Rattle.event_findings.specs.declared.verdict.EventVerdict
 pub mod Named
 pub mod Fitting
 pub mod Shown
 pub mod Compared
+pub mod Circuits
+pub mod Totals
+pub use Rattle.event_findings.specs.declared.pairs.EventPairs
+pub use Rattle.event_findings.specs.Findings
+pub use Rattle.event_findings.specs.declared.verdict.UnshownPair
+pub use Rattle.event_findings.specs.declared.verdict.EventVerdict
 pub use Rattle.event_findings.specs.Answers
 pub use Rattle.event_findings.specs.Asked
 pub use Rattle.event_findings.specs.FrameBit
@@ -13,5 +15,3 @@ pub use Rattle.event_findings.specs.Told
 pub use Rattle.event_findings.specs.Separations
 pub use Rattle.event_findings.specs.ToldSeparation
 pub use Rattle.event_form.specs.declared.error.EventFormError
-pub mod Circuits
-pub mod Totals

@@ -11,9 +11,9 @@ pub mod Bits
 pub mod OnePath
 pub mod Totals
 pub mod Counting
+pub mod aig
+pub mod flat_net
 pub use Rattle.aig.proofs.CoverMeaning
 pub use Rattle.aig.proofs.Growth
 pub use Rattle.aig.proofs.Literals
 pub use Rattle.aig.proofs.Meaning
-pub use Rattle.aig.proofs as aig
-pub use Rattle.flat_net.proofs as flat_net

@@ -10,10 +10,10 @@ use Rattle.circuit_theory.proofs.Sums.{same_or_not}
 use Rattle.circuit_theory.specs.Frame.{ConeOthers, ReachedAt}
 use Rattle.circuit_theory.specs.EventSizes.{Start}
 use Rattle.circuit_laws.proofs.event_laws.EventAgreement.{rank, rank_falls}
-use Rattle.event_nodes.specs.flat_net.declared.parts.Driver.{Driver}
-use Rattle.event_nodes.specs.flat_net.declared.parts.Driver.TheVariants as driver
-use Rattle.event_nodes.specs.flat_net.declared.parts.LatchAt.{LatchAt}
-use Rattle.event_nodes.specs.flat_net.declared.signals.Signal.{Signal}
+use Rattle.event_nodes.specs.flat_net.Driver.{Driver}
+use Rattle.event_nodes.specs.flat_net.Driver.TheVariants as driver
+use Rattle.event_nodes.specs.flat_net.LatchAt.{LatchAt}
+use Rattle.event_nodes.specs.flat_net.Signal.{Signal}
 use Rattle.event_nodes.specs.flat_net.Sound.{IsSound}
 use Rattle.event_nodes.specs.flat_net.View.{NetView, circuit_of}
 use Rattle.event_nodes.proofs.flat_net.Nets.{sound_is_net, latch_stands}

@@ -9,8 +9,8 @@ use Rattle.circuit_theory.specs.Circuit.{IsLatch}
 use Rattle.circuit_theory.proofs.Lists.{at_of, All-from_each}
 use Rattle.circuit_theory.specs.Frame.{ReachedAt}
 use Rattle.circuit_theory.specs.EventSizes.{Start}
-use Rattle.event_nodes.specs.flat_net.declared.signals.Signal.{Signal}
-use Rattle.event_nodes.specs.flat_net.declared.parts.LatchAt.{LatchAt}
+use Rattle.event_nodes.specs.flat_net.Signal.{Signal}
+use Rattle.event_nodes.specs.flat_net.LatchAt.{LatchAt}
 use Rattle.event_nodes.specs.flat_net.View.{circuit_of}
 use Rattle.event_nodes.specs.flat_net.Sound.{IsSound}
 use Rattle.event_nodes.proofs.flat_net.Growth.{slice_get-append}

@@ -27,7 +27,7 @@ use Rattle.assume_texts.proofs.job_base.Limits.{pair_proofs}
 use Rattle.sec_setup.specs.Cuts.{columns_of}
 use Rattle.swept_queries.proofs.Listed.{zip_left}
 use Rattle.class_queries.specs.Enables.{both_of}
-use Rattle.assume_texts.proofs.outcome_fits.plain_meaning.Fitted.{kept_proof, no_names, some_names, were_exposed}
+use Rattle.assume_texts.proofs.outcome_fits.Fitted.{kept_proof, no_names, some_names, were_exposed}
 use Rattle.assume_laws.specs.Assume.{Assumption}
 use Rattle.assume_laws.specs.Sequences.{RowsMeet}
 use Rattle.event_shown_under.specs.event_under.Answers.{PairFitsUnder}

@@ -25,7 +25,7 @@ use Rattle.event_agreement.proofs.SameCircuits.{AreSame, same_part, same_classes
 use Rattle.event_agreement.proofs.event_pairs.Parts.{cone_up, care_tree_up}
 use Rattle.interface.specs.declared.pairs.SignalPair.{SignalPair}
 use Rattle.outcome.specs.declared.verdict.PairResult.{PairResult}
-use Rattle.outcome.specs.pair_decide.declared.query.Proof.{Proof}
+use Rattle.outcome.specs.pair_decide.Proof.{Proof}
 use Rattle.assume_laws.specs.Assume.{Assumption, ReadsInputs, HasVariableAtNode, HaveEqualEventsUnder}
 use Rattle.assume_laws.proofs.EventLaws.{event_functions_agree_under, exposed_event_functions_agree_under}
 use Rattle.event_under.specs.Answers.{AnswerFitsUnder, PairFitsUnder}

@@ -16,9 +16,9 @@ use Rattle.sec_base.specs.declared.basics.PairAnswer.{PairAnswer}
 use Rattle.sec_base.specs.declared.basics.PairAnswer.TheVariants as answer
 use Rattle.aig.specs.declared.node.Node.{Node}
 use Rattle.aig.specs.Values.{value}
-use Rattle.outcome.specs.pair_decide.declared.query.Decision.TheVariants as decision
-use Rattle.outcome.specs.pair_decide.declared.query.Proof.{Proof}
-use Rattle.outcome.specs.pair_decide.declared.query.Query.{Query}
+use Rattle.outcome.specs.pair_decide.Decision.TheVariants as decision
+use Rattle.outcome.specs.pair_decide.Proof.{Proof}
+use Rattle.outcome.specs.pair_decide.Query.{Query}
 use Rattle.outcome.specs.pair_decide.Answers.{IsDifference, IsAtLimit}
 use Rattle.outcome.specs.pair_decide.Queries.{IsSame, IsLeast, Distinguishes, assigned_to, roots_of}
 use Rattle.swept_queries.specs.InStead.{IsInStead, DecidesInStead}

@@ -16,7 +16,7 @@ use Rattle.outcome.specs.cnf_encode.Encoding.{IsEncoding}
 use Rattle.sat_search.specs.Found.{IsFruitless}
 use Rattle.interface.specs.declared.pairs.SignalPair.{SignalPair}
 use Rattle.outcome.specs.declared.verdict.PairResult.{PairResult}
-use Rattle.outcome.specs.pair_decide.declared.query.Proof.{Proof}
+use Rattle.outcome.specs.pair_decide.Proof.{Proof}
 use Rattle.event_form.specs.Answers.{TakesBits, ReadOnly}
 use Rattle.event_form.specs.Asked.{IsDecisive}
 use Rattle.assume_laws.specs.Assume.{Assumption, HasCareUnder, HaveEqualEventsUnder}

@@ -9,7 +9,7 @@ use Rattle.circuit_theory.specs.EventFrames.{AreNodeVariables}
 use Rattle.circuit_theory.specs.Frame.{EventSide, EventUnfolds}
 use Rattle.aig.specs.declared.node.Node.{Node}
 use Rattle.aig.specs.Values.{value}
-use Rattle.outcome.specs.pair_decide.declared.query.Query.{Query}
+use Rattle.outcome.specs.pair_decide.Query.{Query}
 use Rattle.outcome.specs.pair_decide.Queries.{IsQuery}
 use Rattle.event_nodes.specs.Nodes.{EventGraphView}
 use Rattle.event_variables.specs.Variables.{variables_of}

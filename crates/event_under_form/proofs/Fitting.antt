@@ -15,7 +15,7 @@ use Rattle.assume_sequences.proofs.Numbers.{number_below}
 use Rattle.assume_sequences.specs.Filled.{bit_of}
 use Rattle.assume_laws.specs.assume_shape.Shape.{assumption_of}
 use Rattle.assume_laws.specs.Sequences.{IsMeetingRow}
-use Rattle.event_under_verdicts.specs.event_shown_under.event_under_fits.Findings.{FindingsFitUnder}
+use Rattle.event_under_verdicts.specs.event_shown_under.Findings.{FindingsFitUnder}
 use Rattle.event_under_verdicts.proofs.Firsts as verdicts
 use Rattle.event_under_form.specs.Asked.{AreAskedAssumed, CanShow}
 use Rattle.event_under_form.specs.Formed.{AreFoundUnder, FindingsFitAssumed}

@@ -7,8 +7,8 @@ use Rattle.event_form.specs.declared.error.EventFormError.{EventFormError}
 use Rattle.event_form.specs.declared.error.EventFormError.TheVariants as form_error
 use Rattle.event_form.proofs.Stopping.{memory_stopped}
 use Rattle.event_comparison.specs.Counted.{AreRefused}
-use Rattle.event_under_verdicts.specs.assume_queries.declared.map.UnderError.{UnderError}
-use Rattle.event_under_verdicts.specs.assume_queries.declared.map.UnderError.TheVariants as asked_error
+use Rattle.event_under_verdicts.specs.assume_queries.UnderError.{UnderError}
+use Rattle.event_under_verdicts.specs.assume_queries.UnderError.TheVariants as asked_error
 use Rattle.event_under_form.specs.Formed.{AreRefusedUnder}
 use Rattle.event_under_form.specs.Refusals.{refusal_of, refusal_under}
 use Rattle.event_under_form.specs.declared.error.EventUnderError.{EventUnderError}

@@ -18,7 +18,7 @@ use Rattle.assume_sequences.specs.declared.premise.Premise.{Premise}
 use Rattle.assume_sequences.specs.Filled.{bit_of}
 use Rattle.assume_laws.specs.assume_shape.Shape.{assumption_of}
 use Rattle.event_under_verdicts.specs.event_under.Places.{IsLightAtNodes, IsOverAtNodes}
-use Rattle.event_under_verdicts.specs.event_shown_under.event_under_fits.Findings.{FindingsFitUnder}
+use Rattle.event_under_verdicts.specs.event_shown_under.Findings.{FindingsFitUnder}
 use Rattle.event_under_verdicts.specs.Shown.{IsShownUnder}
 use Rattle.event_under_form.specs.Refusals.{refusal_of}
 use Rattle.event_under_form.specs.declared.error.EventUnderError.{EventUnderError}

@@ -4,7 +4,7 @@ ghost use Rattle.std.specs.Prelude.{◌≡◌, length, Err, IfOk};
 ghost use Rattle.event_agreement.specs.pair_events.View.{side_of_both};
 ghost use Rattle.event_form.specs.Asked.{AreAsked};
 ghost use Rattle.assume_sequences.specs.Assumed.{CanBeAssumed};
-ghost use Rattle.event_under_verdicts.specs.assume_queries.declared.map.UnderError.TheVariants as asked_error;
+ghost use Rattle.event_under_verdicts.specs.assume_queries.UnderError.TheVariants as asked_error;
 ghost use Rattle.event_under_verdicts.specs.event_under.Places.{IsOverAtNodes};
 ghost use Rattle.event_under_form.specs.Asked.{AreAskedAssumed};
 

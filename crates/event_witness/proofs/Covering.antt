@@ -6,7 +6,7 @@ use Rattle.aig.specs.declared.node.Node.{Node}
 use Rattle.aig.specs.Values.{value}
 use Rattle.class_separations.specs.cone_values.lane_eval.Tables.{Covers, assigned_to}
 use Rattle.event_variables.proofs.Cones.{reached_among}
-use Rattle.outcome.specs.pair_decide.declared.query.Query.{Query}
+use Rattle.outcome.specs.pair_decide.Query.{Query}
 use Rattle.outcome.specs.pair_decide.Queries.{IsQuery, roots_of}
 
 pub left_covered : (g : List Node) (q : Query) → IsQuery g q → Covers g (q.left.0 ∷ []) q.vars

@@ -18,7 +18,7 @@ use Rattle.class_queries.specs.Enables.{both_of, class_map}
 use Rattle.class_queries.proofs.Meaning.{numbered}
 use Rattle.event_agreement.specs.Laws.{IsFrameDifference}
 use Rattle.event_agreement.proofs.PairQueries.{are_variables, differences_least}
-use Rattle.outcome.specs.pair_decide.declared.query.Query.{Query}
+use Rattle.outcome.specs.pair_decide.Query.{Query}
 use Rattle.outcome.specs.pair_decide.Answers.{IsDifference}
 use Rattle.outcome.specs.pair_decide.Queries.{assigned_to}
 use Rattle.event_witness.specs.Laws.{AlwaysDifferencesMakeDiffer}

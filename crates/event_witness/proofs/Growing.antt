@@ -15,7 +15,7 @@ use Rattle.event_form.specs.Obligation.{Obligation}
 use Rattle.event_form.specs.Decided.{IsFirstOf}
 use Rattle.event_form.specs.Found.{IsDifferenceOf}
 use Rattle.outcome.specs.declared.verdict.PairResult.{PairResult}
-use Rattle.outcome.specs.pair_decide.declared.query.Query.{Query}
+use Rattle.outcome.specs.pair_decide.Query.{Query}
 use Rattle.outcome.specs.pair_decide.Answers.{IsDifference}
 use Rattle.outcome.specs.pair_decide.Queries.{IsQuery, IsSame, IsLeast, Distinguishes, numbered}
 use Rattle.event_form.specs.Asked.{AreAsked, IsAskedOf}

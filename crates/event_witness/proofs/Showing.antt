@@ -13,7 +13,7 @@ use Rattle.event_form.specs.Difference.{Difference}
 use Rattle.event_form.specs.Obligation.{Obligation}
 use Rattle.event_form.specs.Decided.{IsFirstOf}
 use Rattle.outcome.specs.declared.verdict.PairResult.{PairResult}
-use Rattle.outcome.specs.pair_decide.declared.query.Query.{Query}
+use Rattle.outcome.specs.pair_decide.Query.{Query}
 use Rattle.outcome.specs.pair_decide.Queries.{IsQuery}
 use Rattle.event_form.specs.Asked.{AreAsked, IsAskedOf}
 use Rattle.event_witness.specs.Laws.{DifferencesCanBeShown}

@@ -21,7 +21,7 @@ use Rattle.event_form.specs.Difference.{Difference}
 use Rattle.event_form.specs.Decided.{IsFirstOf}
 use Rattle.event_form.specs.Found.{IsDifferenceOf}
 use Rattle.outcome.specs.declared.verdict.PairResult.{PairResult}
-use Rattle.outcome.specs.pair_decide.declared.query.Query.{Query}
+use Rattle.outcome.specs.pair_decide.Query.{Query}
 use Rattle.outcome.specs.pair_decide.Queries.{assigned_to}
 use Rattle.event_form.specs.Asked.{AreAsked, IsAskedOf}
 use Rattle.event_witness.specs.Sequences.{HasInputsBelow, rows_at}

@@ -9,10 +9,10 @@ use Rattle.circuit_theory.specs.Frame.{bits_as_shifts}
 use Rattle.aig.specs.Values.{value}
 use Rattle.event_variables.specs.Nodes.{EventGraphView}
 use Rattle.event_variables.specs.Variables.{variables_of}
-use Rattle.outcome.specs.pair_decide.declared.query.Query.{Query}
+use Rattle.outcome.specs.pair_decide.Query.{Query}
 use Rattle.outcome.specs.pair_decide.Queries.{assigned_to}
-use Rattle.outcome.specs.witness_report.declared.witness.PairName.{PairName}
-use Rattle.outcome.specs.witness_report.declared.witness.Witness.{Witness}
+use Rattle.outcome.specs.witness_report.PairName.{PairName}
+use Rattle.outcome.specs.witness_report.Witness.{Witness}
 
 -- each input that the unfolding of the place visits has a number below this one
 abbrev pub HasInputsBelow : Circuit ℕ → List ℕ → ℕ → ℕ → Type 0

@@ -3,9 +3,9 @@ use Rattle.std.specs.Prelude.{◌≡◌, ℕ, ◌<◌, List, length, slice_get, 
 use Rattle.event_variables.specs.Nodes.{EventGraphView}
 use Rattle.event_form.specs.Difference.{Difference}
 use Rattle.event_form.specs.Obligation.{Obligation}
-use Rattle.outcome.specs.pair_decide.declared.query.Query.{Query}
+use Rattle.outcome.specs.pair_decide.Query.{Query}
 use Rattle.outcome.specs.pair_decide.Queries.{IsQuery}
-use Rattle.outcome.specs.witness_report.declared.witness.Witness.{Witness}
+use Rattle.outcome.specs.witness_report.Witness.{Witness}
 use Rattle.event_witness.specs.declared.unshown.UnshownFrame.{UnshownFrame}
 use Rattle.event_witness.specs.Sequences.{IsWitnessOf}
 use Rattle.event_witness.specs.Unshown.{IsUnshownOf}

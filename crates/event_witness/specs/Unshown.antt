@@ -2,8 +2,8 @@
 use Rattle.std.specs.Prelude.{◌≡◌, Bool, List}
 use Rattle.event_variables.specs.Nodes.{EventGraphView}
 use Rattle.event_form.specs.Frames.{TellsFrame}
-use Rattle.outcome.specs.pair_decide.declared.query.Query.{Query}
-use Rattle.outcome.specs.witness_report.declared.witness.PairName.{PairName}
+use Rattle.outcome.specs.pair_decide.Query.{Query}
+use Rattle.outcome.specs.witness_report.PairName.{PairName}
 use Rattle.event_witness.specs.declared.unshown.UnshownFrame.{UnshownFrame}
 use Rattle.event_witness.specs.Sequences.{AreSidesOf}
 

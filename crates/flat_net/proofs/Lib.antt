@@ -7,5 +7,5 @@ pub mod PlaceLists
 pub mod Exposed
 pub mod CutNets
 pub mod CutCircuits
+pub mod circuit_theory
 pub use Rattle.base_tables.proofs.TableLemmas
-pub use Rattle.circuit_theory.proofs as circuit_theory

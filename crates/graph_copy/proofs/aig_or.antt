@@ -2,4 +2,4 @@ pub mod OrOperands
 pub mod OrValues
 pub mod OrStaying
 pub mod Deciding
-pub use Rattle.aig.proofs as aig
+pub mod aig

@@ -1,2 +1,2 @@
 pub mod ShortOr
-pub use Rattle.aig.specs as aig
+pub mod aig

@@ -1,2 +1,2 @@
 pub mod Report
-pub use Rattle.block_refine.specs as block_refine
+pub mod block_refine

@@ -9,10 +9,10 @@ use Rattle.std.proofs.lemmas.List.Sorted.{Contains-permutation, IsPermutation-sy
 use Rattle.std.proofs.lemmas.Option.{slice_get_within}
 use Rattle.inner_cone.proofs.latch_cone.circuit_theory.Lists.{at_of, of_at, filter_map-from}
 use Rattle.inner_cone.proofs.latch_cone.flat_net.TableLemmas.{take-push}
-use Rattle.inner_cone.specs.latch_cone.flat_net.declared.parts.Gate.{Gate}
-use Rattle.inner_cone.specs.latch_cone.flat_net.declared.parts.LatchAt.{LatchAt}
-use Rattle.inner_cone.specs.latch_cone.flat_net.declared.parts.Driver.{Driver}
-use Rattle.inner_cone.specs.latch_cone.flat_net.declared.parts.Driver.TheVariants as driver
+use Rattle.inner_cone.specs.latch_cone.flat_net.Gate.{Gate}
+use Rattle.inner_cone.specs.latch_cone.flat_net.LatchAt.{LatchAt}
+use Rattle.inner_cone.specs.latch_cone.flat_net.Driver.{Driver}
+use Rattle.inner_cone.specs.latch_cone.flat_net.Driver.TheVariants as driver
 use Rattle.inner_cone.specs.latch_cone.flat_net.View.{NetView}
 use Rattle.inner_cone.specs.latch_cone.flat_net.Sound.{IsSound}
 use Rattle.inner_cone.specs.latch_cone.Parts.{gate_of, gate_at}

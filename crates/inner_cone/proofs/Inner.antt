@@ -12,8 +12,8 @@ use Rattle.std.proofs.lemmas.Map.Keys.{IsStrictlyIncreasing-from_distinct, IsDis
 use Rattle.base_tables.proofs.unique_table.Keys.{all-differ}
 use Rattle.inner_cone.specs.latch_cone.circuit_theory.Circuit.{Reaches}
 use Rattle.inner_cone.proofs.latch_cone.circuit_theory.Lists.{All-from_each, at_of, of_at}
-use Rattle.inner_cone.specs.latch_cone.flat_net.declared.signals.Signal.{Signal}
-use Rattle.inner_cone.specs.latch_cone.flat_net.declared.parts.Gate.{Gate}
+use Rattle.inner_cone.specs.latch_cone.flat_net.Signal.{Signal}
+use Rattle.inner_cone.specs.latch_cone.flat_net.Gate.{Gate}
 use Rattle.inner_cone.specs.latch_cone.flat_net.View.{NetView, circuit_of}
 use Rattle.inner_cone.specs.latch_cone.flat_net.Sound.{IsSound}
 use Rattle.inner_cone.specs.latch_cone.Cones.{AreSome, Stay}

@@ -1,6 +1,6 @@
 pub mod Inner
 pub mod SideSignals
 pub mod Gates
+pub mod circuit_theory
+pub mod flat_net
 pub use Rattle.inner_cone.proofs.latch_cone.Walks
-pub use Rattle.circuit_theory.proofs as circuit_theory
-pub use Rattle.flat_net.proofs as flat_net

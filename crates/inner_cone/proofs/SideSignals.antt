@@ -5,10 +5,10 @@ use Rattle.std.proofs.lemmas.List.Elements.{Contains-append_cases, Contains-appe
 use Rattle.inner_cone.specs.latch_cone.circuit_theory.Circuit.{Reads, Reaches, IsSource, IsLatch}
 use Rattle.inner_cone.specs.latch_cone.circuit_theory.Net.{IsNet}
 use Rattle.inner_cone.proofs.latch_cone.circuit_theory.Lists.{Contains-head, Contains-cases, at_of}
-use Rattle.inner_cone.specs.latch_cone.flat_net.declared.signals.Signal.{Signal}
-use Rattle.inner_cone.specs.latch_cone.flat_net.declared.parts.Gate.{Gate}
-use Rattle.inner_cone.specs.latch_cone.flat_net.declared.parts.Driver.{Driver}
-use Rattle.inner_cone.specs.latch_cone.flat_net.declared.parts.Driver.TheVariants as driver
+use Rattle.inner_cone.specs.latch_cone.flat_net.Signal.{Signal}
+use Rattle.inner_cone.specs.latch_cone.flat_net.Gate.{Gate}
+use Rattle.inner_cone.specs.latch_cone.flat_net.Driver.{Driver}
+use Rattle.inner_cone.specs.latch_cone.flat_net.Driver.TheVariants as driver
 use Rattle.inner_cone.specs.latch_cone.flat_net.View.{NetView, circuit_of}
 use Rattle.inner_cone.specs.latch_cone.flat_net.Sound.{IsSound}
 use Rattle.inner_cone.proofs.latch_cone.flat_net.Nets.{gate_stands, latch_stands, input_stands, sound_is_net}

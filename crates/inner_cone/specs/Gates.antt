@@ -2,9 +2,9 @@
 use Rattle.std.specs.Prelude.{◌≡◌, ◌⊎◌, ℕ, ◌<◌, List, length, slice_get, Some}
 use Rattle.std.specs.List.{Contains}
 use Rattle.std.specs.List.Sorted.{IsNonDecreasing}
-use Rattle.inner_cone.specs.latch_cone.flat_net.declared.signals.Signal.{Signal}
-use Rattle.inner_cone.specs.latch_cone.flat_net.declared.parts.Gate.{Gate}
-use Rattle.inner_cone.specs.latch_cone.flat_net.declared.parts.LatchAt.{LatchAt}
+use Rattle.inner_cone.specs.latch_cone.flat_net.Signal.{Signal}
+use Rattle.inner_cone.specs.latch_cone.flat_net.Gate.{Gate}
+use Rattle.inner_cone.specs.latch_cone.flat_net.LatchAt.{LatchAt}
 use Rattle.inner_cone.specs.latch_cone.flat_net.View.{NetView}
 use Rattle.inner_cone.specs.latch_cone.Parts.{gate_at}
 use Rattle.inner_cone.specs.Inner.{LeadsAside}

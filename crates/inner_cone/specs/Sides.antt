@@ -1,7 +1,7 @@
 -- What the signals that lead back to a signal read besides.
 use Rattle.std.specs.Prelude.{◌≡◌, ◌≢◌, ◌⊎◌, ℕ, ◌<◌, List, [], ◌∷◌, ◌++◌, length, Contains}
 use Rattle.inner_cone.specs.latch_cone.circuit_theory.Circuit.{IsSource, Reaches}
-use Rattle.inner_cone.specs.latch_cone.flat_net.declared.signals.Signal.{Signal}
+use Rattle.inner_cone.specs.latch_cone.flat_net.Signal.{Signal}
 use Rattle.inner_cone.specs.latch_cone.flat_net.View.{NetView, circuit_of}
 use Rattle.inner_cone.specs.Inner.{LeadsAside, IsLow}
 

@@ -3,7 +3,7 @@
 ghost use Rattle.std.specs.Prelude.{◌≡◌, ◌<◌, ℕ, length, slice_get, Some, IfOk};
 ghost use Rattle.std.specs.List.{filter_map};
 ghost use Rattle.std.specs.List.Sorted.{IsNonDecreasing, IsPermutation};
-ghost use Rattle.inner_cone.specs.latch_cone.flat_net.declared.parts.LatchAt.{LatchAt};
+ghost use Rattle.inner_cone.specs.latch_cone.flat_net.LatchAt.{LatchAt};
 ghost use Rattle.inner_cone.specs.latch_cone.Parts.{gate_at};
 ghost use Rattle.inner_cone.specs.Inner.{AreRanked};
 ghost use Rattle.inner_cone.specs.Sides.{AreSides};

@@ -2,7 +2,7 @@
 
 ghost use Rattle.std.specs.Prelude.{◌≡◌, ◌≢◌, ◌<◌, ℕ, length, slice_get, slice_index_or, Some, Contains, IfOk, OnOk};
 ghost use Rattle.inner_cone.specs.latch_cone.circuit_theory.Circuit.{Reads, Reaches, IsSource};
-ghost use Rattle.inner_cone.specs.latch_cone.flat_net.declared.signals.Signal.{Signal};
+ghost use Rattle.inner_cone.specs.latch_cone.flat_net.Signal.{Signal};
 ghost use Rattle.inner_cone.specs.latch_cone.flat_net.View.{NetView, circuit_of};
 ghost use Rattle.inner_cone.specs.latch_cone.Cones.{AreRead};
 ghost use Rattle.inner_cone.specs.Inner.{AreRanked, AreHigh, IsLow};

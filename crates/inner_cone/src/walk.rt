@@ -2,7 +2,7 @@
 
 ghost use Rattle.std.specs.Prelude.{◌≡◌, ◌<◌, ◌⊎◌, ℕ, [], length, slice_get, Some, Contains, IfOk, OnOk};
 ghost use Rattle.inner_cone.specs.latch_cone.circuit_theory.Circuit.{Reads, Reaches};
-ghost use Rattle.inner_cone.specs.latch_cone.flat_net.declared.signals.Signal.{Signal};
+ghost use Rattle.inner_cone.specs.latch_cone.flat_net.Signal.{Signal};
 ghost use Rattle.inner_cone.specs.latch_cone.flat_net.View.{NetView, circuit_of};
 ghost use Rattle.inner_cone.specs.latch_cone.Cones.{AreSome, AreRead, Stay};
 ghost use Rattle.inner_cone.specs.Inner.{AreRanked, AreInside, IsLow, AreHigh, IsHighPut};

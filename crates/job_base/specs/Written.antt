@@ -2,7 +2,7 @@
 use Rattle.std.specs.Prelude.{◌≡◌, ℕ, List, [], ◌∷◌, ◌++◌, Option}
 use Rattle.std.specs.List.{filter_map}
 use Rattle.sec_base.specs.Outside.{Takes, TakesFront}
-use Rattle.outcome.specs.pair_decide.declared.query.Proof.{Proof}
+use Rattle.outcome.specs.pair_decide.Proof.{Proof}
 use Rattle.cycle_sim.specs.declared.pair_runs.differences.Difference.{Difference}
 use Rattle.outcome.specs.Proofs.{verdict_proofs}
 use Rattle.outcome.specs.declared.verdict.Outcome.{Outcome}

@@ -3,4 +3,4 @@ pub mod Inputs
 pub mod Leads
 pub mod Rows
 pub mod Splits
-pub use Rattle.aig.specs as aig
+pub mod aig

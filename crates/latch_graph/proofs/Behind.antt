@@ -3,8 +3,8 @@ use Rattle.std.proofs.Common.{◌≡◌, ◌≢◌, ℕ, ◌+◌, ◌<◌, Bool,
 use Rattle.std.specs.Prelude.{◌⊎◌, slice_get, if◌then◌else◌}
 use Rattle.std.proofs.Math.ListN.{set}
 use Rattle.std.proofs.lemmas.Option.{slice_get_within, slice_get-get_or, get_or_from_slice_get}
-use Rattle.signal_graph.specs.flat_net.declared.signals.Signal.{Signal}
-use Rattle.signal_graph.specs.flat_net.declared.parts.LatchAt.{LatchAt}
+use Rattle.signal_graph.specs.flat_net.Signal.{Signal}
+use Rattle.signal_graph.specs.flat_net.LatchAt.{LatchAt}
 use Rattle.signal_graph.specs.flat_net.Cut.{no_latch}
 use Rattle.signal_graph.proofs.flat_net.Places.{one_at}
 use Rattle.signal_graph.proofs.flat_net.Nets.{latch_stands}

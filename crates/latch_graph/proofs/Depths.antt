@@ -1,8 +1,8 @@
 -- What a settled table says of the net: depths, and that there is none.
 use Rattle.std.proofs.Common.{◌≡◌, ◌≢◌, ℕ, zero, suc, ◌+◌, ◌<◌, Bool, List, [], Option, Some, None, refl, sym, ap, subst, arith, inl, inr}
 use Rattle.std.specs.Prelude.{◌⊎◌, slice_get}
-use Rattle.signal_graph.specs.flat_net.declared.signals.Signal.{Signal}
-use Rattle.signal_graph.specs.flat_net.declared.parts.LatchAt.{LatchAt}
+use Rattle.signal_graph.specs.flat_net.Signal.{Signal}
+use Rattle.signal_graph.specs.flat_net.LatchAt.{LatchAt}
 use Rattle.signal_graph.specs.flat_net.View.{NetView, circuit_of}
 use Rattle.signal_graph.proofs.flat_net.Nets.{some_at, latch_stands}
 use Rattle.circuit_theory.specs.Circuit.{IsLatch, Reads, Reaches}

@@ -1,7 +1,7 @@
 -- Cycles and depths depend on nothing but which latches' self-edges are left out.
 use Rattle.std.proofs.Common.{◌≡◌, ℕ, Bool, true, false, List, refl, sym, subst, arith, inl, inr}
 use Rattle.std.specs.Prelude.{◌⊎◌, slice_get, Some}
-use Rattle.signal_graph.specs.flat_net.declared.parts.LatchAt.{LatchAt}
+use Rattle.signal_graph.specs.flat_net.LatchAt.{LatchAt}
 use Rattle.signal_graph.specs.flat_net.View.{NetView, circuit_of}
 use Rattle.circuit_theory.specs.Circuit.{Circuit, Latch as latch_equation, IsLatch}
 use Rattle.circuit_theory.specs.declared.Mode.{Mode}

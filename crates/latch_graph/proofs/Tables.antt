@@ -5,7 +5,7 @@ use Rattle.std.proofs.Math.ListN.{set}
 use Rattle.std.proofs.lemmas.List.Sums.{sum_by-set}
 use Rattle.std.proofs.lemmas.Option.{slice_get_within, get_or_from_slice_get}
 use Rattle.signal_graph.proofs.flat_net.Places.{one_at}
-use Rattle.signal_graph.specs.flat_net.declared.signals.Signal.{Signal}
+use Rattle.signal_graph.specs.flat_net.Signal.{Signal}
 use Rattle.circuit_theory.proofs.Sums.{same_or_not}
 use Rattle.signal_graph.specs.declared.nodes.Node.{Node}
 use Rattle.signal_graph.proofs.Lists.{set_other}

@@ -4,7 +4,7 @@ use Rattle.std.specs.Prelude.{◌⊎◌, slice_get, if◌then◌else◌}
 use Rattle.std.proofs.Math.ListN.{set}
 use Rattle.std.proofs.lemmas.List.{length-set, length-drop}
 use Rattle.std.proofs.lemmas.Option.{slice_get_within}
-use Rattle.signal_graph.specs.flat_net.declared.parts.LatchAt.{LatchAt}
+use Rattle.signal_graph.specs.flat_net.LatchAt.{LatchAt}
 use Rattle.signal_graph.proofs.flat_net.Places.{one_at}
 use Rattle.signal_graph.proofs.flat_net.Growth.{slice_get-append, slice_get-push, slice_get-push_cases, length-push}
 use Rattle.signal_graph.proofs.flat_net.CutNets.{few_distinct}

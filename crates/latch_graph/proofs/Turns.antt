@@ -4,8 +4,8 @@ use Rattle.std.specs.Prelude.{◌⊎◌, slice_get}
 use Rattle.std.specs.List.{Contains}
 use Rattle.std.proofs.lemmas.Option.{slice_get_within, slice_get-get_or}
 use Rattle.std.proofs.lemmas.List.Elements.{All-contains}
-use Rattle.signal_graph.specs.flat_net.declared.parts.LatchAt.{LatchAt}
-use Rattle.signal_graph.specs.flat_net.declared.parts.Driver.TheVariants as driver
+use Rattle.signal_graph.specs.flat_net.LatchAt.{LatchAt}
+use Rattle.signal_graph.specs.flat_net.Driver.TheVariants as driver
 use Rattle.signal_graph.specs.flat_net.View.{NetView, circuit_of}
 use Rattle.signal_graph.specs.flat_net.Sound.{IsSound}
 use Rattle.signal_graph.specs.flat_net.Cut.{no_latch}

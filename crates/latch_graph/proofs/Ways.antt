@@ -8,7 +8,7 @@ use Rattle.std.proofs.lemmas.Option.{slice_get_within}
 use Rattle.signal_graph.proofs.flat_net.Places.{one_at}
 use Rattle.signal_graph.proofs.flat_net.Nets.{some_at}
 use Rattle.signal_graph.proofs.flat_net.Growth.{slice_get-append, slice_get-push, slice_get-push_cases, length-push}
-use Rattle.signal_graph.specs.flat_net.declared.signals.Signal.{Signal}
+use Rattle.signal_graph.specs.flat_net.Signal.{Signal}
 use Rattle.circuit_theory.proofs.Sums.{same_or_not}
 use Rattle.signal_graph.specs.declared.nodes.Node.{Node}
 use Rattle.latch_graph.specs.declared.states.State.{State}

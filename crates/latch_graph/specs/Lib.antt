@@ -1,7 +1,7 @@
 pub mod Settling
 pub mod Kept
 pub mod Rounds
+pub mod signal_graph
+pub mod flat_net
 pub use Rattle.signal_graph.specs.Graph
-pub use Rattle.signal_graph.specs as signal_graph
-pub use Rattle.signal_graph.specs.flat_net
 pub use Rattle.signal_graph.specs.latch_cone

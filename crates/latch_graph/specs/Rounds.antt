@@ -4,7 +4,7 @@ use Rattle.circuit_theory.specs.Names.{ListBefore}
 use Rattle.circuit_theory.specs.Circuit.{Reaches}
 use Rattle.circuit_theory.specs.Depth.{after_in_round}
 use Rattle.signal_graph.specs.flat_net.Table.{AreDistinct}
-use Rattle.signal_graph.specs.flat_net.declared.parts.LatchAt.{LatchAt}
+use Rattle.signal_graph.specs.flat_net.LatchAt.{LatchAt}
 use Rattle.signal_graph.specs.flat_net.View.{NetView, circuit_of}
 use Rattle.signal_graph.specs.flat_net.Cut.{no_latch}
 use Rattle.signal_graph.specs.declared.nodes.Node.{Node}

@@ -4,8 +4,8 @@ ghost use Rattle.std.specs.Prelude.{◌≡◌, ℕ, ◌+◌, ◌-◌, ◌^◌, �
 ghost use Rattle.circuit_theory.specs.Names.{ListBefore};
 ghost use Rattle.circuit_theory.specs.Circuit.{Reaches};
 ghost use Rattle.circuit_theory.specs.Depth.{HasCycle, IsCycle, BeginsWithLeast};
-ghost use Rattle.signal_graph.specs.flat_net.declared.signals.Signal.{Signal};
-ghost use Rattle.signal_graph.specs.flat_net.declared.parts.LatchAt.{LatchAt};
+ghost use Rattle.signal_graph.specs.flat_net.Signal.{Signal};
+ghost use Rattle.signal_graph.specs.flat_net.LatchAt.{LatchAt};
 ghost use Rattle.signal_graph.specs.flat_net.View.{NetView, circuit_of};
 ghost use Rattle.signal_graph.specs.declared.nodes.Node.{Node};
 ghost use Rattle.latch_graph.specs.declared.states.State.{State};

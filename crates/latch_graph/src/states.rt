@@ -1,7 +1,7 @@
 //! The depths of all signals, by walks back through what they read.
 
 ghost use Rattle.std.specs.Prelude.{◌≡◌, ℕ, ◌+◌, ◌*◌, ◌^◌, ◌<◌, ◌≤◌, [], ◌∷◌, ◌++◌, true, false, length, slice_get, slice_set, Some, OnOk, IfOk, IfSome, IfNone, is_some};
-ghost use Rattle.signal_graph.specs.flat_net.declared.signals.Signal.{Signal};
+ghost use Rattle.signal_graph.specs.flat_net.Signal.{Signal};
 ghost use Rattle.signal_graph.specs.declared.nodes.Node.{Node};
 ghost use Rattle.latch_graph.specs.declared.states.State.{State};
 ghost use Rattle.latch_graph.specs.Settling.{HasDepth, IsGreatest, IsDepthOf, IsFirst, IsSettled, SameRemoved, IsLater, IsGivenUp, Leads, new_count, IsWay, depth_of};

@@ -8,7 +8,7 @@ use Rattle.flat_net.specs.View.{NetView, circuit_of}
 use Rattle.inner_cone.specs.declared.latch_cone.kinds.LatchKind.{LatchKind}
 use Rattle.inner_cone.specs.declared.latch_cone.kinds.LatchKind.TheVariants as kind
 use Rattle.inner_cone.specs.latch_cone.Kinds.{AreKindsIn}
-use Rattle.latch_kinds.specs.unate_enable.pair_decide.declared.query.Proof.{Proof}
+use Rattle.latch_kinds.specs.unate_enable.pair_decide.Proof.{Proof}
 use Rattle.latch_kinds.specs.unate_enable.Cones.{out_of_latch}
 use Rattle.latch_kinds.specs.unate_enable.Recovery.{HasSelfEdge, IsAsked, IsEnabledAt, IsUndecided, IsLight, IsTooLarge}
 use Rattle.latch_kinds.specs.declared.kinds.KindsError.{KindsError}

@@ -7,7 +7,7 @@ use Rattle.std.proofs.lemmas.List.Elements.{All-contains}
 use Rattle.circuit_theory.specs.Circuit.{Equation, Gate as gate_equation, Latch as latch_equation, Port as port_equation, IsSource, IsLatch, Reads, Reaches}
 use Rattle.circuit_theory.specs.Depth.{LatchReads, LatchPath, HasCycle}
 use Rattle.circuit_theory.specs.Net.{IsNet, IsWithin}
-use Rattle.minimal_cut.specs.graph_components.flat_net.declared.parts.LatchAt.{LatchAt}
+use Rattle.minimal_cut.specs.graph_components.flat_net.LatchAt.{LatchAt}
 use Rattle.minimal_cut.specs.graph_components.flat_net.Cut.{no_latch}
 use Rattle.minimal_cut.specs.graph_components.flat_net.View.{NetView, circuit_of}
 use Rattle.minimal_cut.proofs.graph_components.flat_net.Places.{one_at}

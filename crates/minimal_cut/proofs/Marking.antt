@@ -6,7 +6,7 @@ use Rattle.std.proofs.lemmas.Bool.{ne_eqb}
 use Rattle.std.proofs.lemmas.List.{length-set}
 use Rattle.std.proofs.lemmas.List.Sums.{sum_by-set}
 use Rattle.std.proofs.lemmas.Option.{slice_get_within, get_or_from_slice_get}
-use Rattle.minimal_cut.specs.graph_components.flat_net.declared.parts.LatchAt.{LatchAt}
+use Rattle.minimal_cut.specs.graph_components.flat_net.LatchAt.{LatchAt}
 use Rattle.minimal_cut.proofs.graph_components.flat_net.Places.{one_at}
 use Rattle.minimal_cut.proofs.graph_components.flat_net.Nets.{some_at}
 use Rattle.circuit_theory.proofs.Inputs.{test_refl}

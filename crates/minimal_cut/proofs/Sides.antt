@@ -7,8 +7,8 @@ use Rattle.std.proofs.lemmas.List.Elements.{All-contains, Contains-append_left, 
 use Rattle.circuit_theory.proofs.Lists.{Contains-head, Contains-map_from, at_of}
 use Rattle.circuit_theory.proofs.Sums.{same_or_not}
 use Rattle.base_tables.specs.Table.{AreDistinct}
-use Rattle.minimal_cut.specs.graph_components.flat_net.declared.parts.LatchAt.{LatchAt}
-use Rattle.minimal_cut.specs.graph_components.flat_net.declared.parts.Driver.TheVariants as driver
+use Rattle.minimal_cut.specs.graph_components.flat_net.LatchAt.{LatchAt}
+use Rattle.minimal_cut.specs.graph_components.flat_net.Driver.TheVariants as driver
 use Rattle.minimal_cut.specs.graph_components.flat_net.View.{NetView}
 use Rattle.minimal_cut.specs.graph_components.flat_net.Cut.{no_latch}
 use Rattle.minimal_cut.proofs.graph_components.flat_net.Places.{one_at, All-at}

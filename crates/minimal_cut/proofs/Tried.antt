@@ -8,7 +8,7 @@ use Rattle.std.proofs.lemmas.Bool.{cases_order}
 use Rattle.circuit_theory.specs.Depth.{HasCycle, without}
 use Rattle.circuit_theory.proofs.Lists.{Contains-cases, Contains-map, at_of, map_at, length-map}
 use Rattle.base_tables.specs.Table.{AreDistinct}
-use Rattle.minimal_cut.specs.graph_components.flat_net.declared.parts.LatchAt.{LatchAt}
+use Rattle.minimal_cut.specs.graph_components.flat_net.LatchAt.{LatchAt}
 use Rattle.minimal_cut.specs.graph_components.flat_net.View.{NetView, circuit_of}
 use Rattle.minimal_cut.specs.graph_components.flat_net.Cut.{no_latch}
 use Rattle.minimal_cut.proofs.graph_components.flat_net.Places.{one_at, All-at}

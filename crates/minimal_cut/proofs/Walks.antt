@@ -4,7 +4,7 @@ use Rattle.std.specs.Prelude.{◌⊎◌, slice_get}
 use Rattle.std.proofs.Math.ListN.{set}
 use Rattle.std.proofs.lemmas.Option.{slice_get_within}
 use Rattle.circuit_theory.proofs.Sums.{same_or_not}
-use Rattle.minimal_cut.specs.graph_components.flat_net.declared.signals.Signal.{Signal}
+use Rattle.minimal_cut.specs.graph_components.flat_net.Signal.{Signal}
 use Rattle.minimal_cut.proofs.graph_components.flat_net.Places.{one_at}
 use Rattle.minimal_cut.proofs.graph_components.flat_net.Growth.{slice_get-append, slice_get-push, slice_get-push_cases, length-push}
 use Rattle.minimal_cut.specs.graph_components.Node.{Node}

@@ -1,5 +1,5 @@
 pub mod Ranks
+pub mod flat_net
 pub use Rattle.signal_graph.proofs.Driving
 pub use Rattle.signal_graph.proofs.Lists
 pub use Rattle.signal_graph.proofs.Reading
-pub use Rattle.signal_graph.proofs.flat_net

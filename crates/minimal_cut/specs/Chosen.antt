@@ -2,7 +2,7 @@
 use Rattle.std.specs.Prelude.{ℕ, ◌<◌, ◌⊎◌, List, length, map, slice_index_or, All}
 use Rattle.std.specs.List.{AllPairs}
 use Rattle.circuit_theory.specs.Depth.{HasCycle, without}
-use Rattle.minimal_cut.specs.graph_components.flat_net.declared.parts.LatchAt.{LatchAt}
+use Rattle.minimal_cut.specs.graph_components.flat_net.LatchAt.{LatchAt}
 use Rattle.minimal_cut.specs.graph_components.flat_net.View.{NetView, circuit_of}
 use Rattle.minimal_cut.specs.graph_components.flat_net.Cut.{no_latch}
 use Rattle.minimal_cut.specs.graph_components.Graph.{GraphView, IsGraphOf, SkippedBy}

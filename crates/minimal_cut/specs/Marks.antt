@@ -1,6 +1,6 @@
 -- What the marks of the signals of a graph say while latches are tried.
 use Rattle.std.specs.Prelude.{◌≡◌, ◌≢◌, ℕ, ◌<◌, ◌⊎◌, Bool, true, false, List, length, slice_get, slice_index_or, Some}
-use Rattle.minimal_cut.specs.graph_components.flat_net.declared.parts.LatchAt.{LatchAt}
+use Rattle.minimal_cut.specs.graph_components.flat_net.LatchAt.{LatchAt}
 use Rattle.minimal_cut.specs.graph_components.flat_net.Cut.{no_latch}
 use Rattle.minimal_cut.specs.graph_components.Node.{Node}
 use Rattle.minimal_cut.specs.declared.marks.Direction.{Direction}

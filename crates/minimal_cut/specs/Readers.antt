@@ -1,6 +1,6 @@
 -- Readings, ways along them, and the same turned round.
 use Rattle.std.specs.Prelude.{◌≡◌, ℕ, ◌<◌, ◌⊎◌, List, length, slice_get, Some}
-use Rattle.minimal_cut.specs.graph_components.flat_net.declared.signals.Signal.{Signal}
+use Rattle.minimal_cut.specs.graph_components.flat_net.Signal.{Signal}
 use Rattle.minimal_cut.specs.graph_components.Node.{Node}
 
 -- the signal s reads the signal r

@@ -2,7 +2,7 @@
 use Rattle.std.specs.Prelude.{◌≡◌, ◌≢◌, ◌==◌, ℕ, ◌<◌, ◌⊎◌, if◌then◌else◌, Bool, true, false, List, [], ◌∷◌, ◌++◌, length, slice_get, slice_set, Some}
 use Rattle.std.specs.List.{sum_by}
 use Rattle.minimal_cut.specs.graph_components.Node.{Node}
-use Rattle.minimal_cut.specs.graph_components.flat_net.declared.signals.Signal.{Signal}
+use Rattle.minimal_cut.specs.graph_components.flat_net.Signal.{Signal}
 use Rattle.minimal_cut.specs.declared.marks.Direction.{Direction}
 use Rattle.minimal_cut.specs.declared.marks.Direction.TheVariants.{Back, Ahead}
 use Rattle.minimal_cut.specs.declared.marks.Mark.{Mark}

@@ -1,7 +1,7 @@
 //! What is known of the signals of a graph while its latches are tried.
 
 ghost use Rattle.std.specs.Prelude.{◌≡◌, ◌≢◌, ℕ, ◌<◌, All, true, false, length, slice_get, Some, IfOk};
-ghost use Rattle.minimal_cut.specs.graph_components.flat_net.declared.parts.LatchAt.{LatchAt};
+ghost use Rattle.minimal_cut.specs.graph_components.flat_net.LatchAt.{LatchAt};
 ghost use Rattle.minimal_cut.specs.graph_components.Node.{Node};
 ghost use Rattle.minimal_cut.specs.graph_components.Graph.{AreNodes};
 ghost use Rattle.minimal_cut.specs.Marks.{AreFirst};

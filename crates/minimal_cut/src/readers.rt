@@ -1,7 +1,7 @@
 //! Which signals read a signal.
 
 ghost use Rattle.std.specs.Prelude.{◌≡◌, ℕ, ◌+◌, ◌^◌, ◌<◌, [], ◌∷◌, ◌++◌, None, length, slice_get, Some, IfOk, OnOk};
-ghost use Rattle.minimal_cut.specs.graph_components.flat_net.declared.signals.Signal.{Signal};
+ghost use Rattle.minimal_cut.specs.graph_components.flat_net.Signal.{Signal};
 ghost use Rattle.minimal_cut.specs.graph_components.Node.{Node};
 ghost use Rattle.minimal_cut.specs.Readers.{AreReaders, AreReadersUpTo};
 

@@ -2,7 +2,7 @@
 //! ahead along what reads.
 
 ghost use Rattle.std.specs.Prelude.{◌≡◌, ℕ, ◌+◌, ◌<◌, [], ◌∷◌, true, false, length, slice_get, slice_set, Some, OnOk, IfOk};
-ghost use Rattle.minimal_cut.specs.graph_components.flat_net.declared.signals.Signal.{Signal};
+ghost use Rattle.minimal_cut.specs.graph_components.flat_net.Signal.{Signal};
 ghost use Rattle.minimal_cut.specs.graph_components.Node.{Node};
 ghost use Rattle.minimal_cut.specs.declared.marks.Mark.{Mark};
 ghost use Rattle.minimal_cut.specs.Readers.{AreReaders, WayBack};

@@ -9,7 +9,7 @@ use Rattle.std.proofs.lemmas.Option.{none-some}
 use Rattle.circuit_theory.proofs.Lists.{Contains-head, Contains-cases, at_of}
 use Rattle.base_tables.specs.Table.{is_among, AreDistinct}
 use Rattle.base_tables.proofs.TableLemmas.{Contains_not-is_among}
-use Rattle.elaborate.specs.blif_read.declared.design.BlifModel.{BlifModel}
+use Rattle.elaborate.specs.blif_read.BlifModel.{BlifModel}
 use Rattle.elaborate.specs.blif_read.Design.{top, name_of, main_inputs, main_outputs}
 use Rattle.elaborate.specs.blif_read.Fault.{repeats}
 use Rattle.elaborate.specs.blif_read.Kept.{ports_distinct, written_names, names_in_model, names_in_all}

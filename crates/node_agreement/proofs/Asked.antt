@@ -2,8 +2,8 @@
 use Rattle.std.proofs.Common.{◌≡◌, ◌≢◌, ℕ, ◌*◌, ◌<◌, List, [], ◌∷◌, length, Option, Some, None, refl, sym, ◌∙◌, ap, subst, arith}
 use Rattle.std.specs.Prelude.{Contains}
 use Rattle.std.specs.List.{AllPairs}
-use Rattle.lane_eval.specs.root_classes.aig.declared.node.Node.{Node}
-use Rattle.lane_eval.specs.root_classes.aig.declared.node.Node.TheVariants.{Input}
+use Rattle.lane_eval.specs.root_classes.aig.Node.{Node}
+use Rattle.lane_eval.specs.root_classes.aig.Node.TheVariants.{Input}
 use Rattle.lane_eval.specs.root_classes.aig.Graph.{IsGraph}
 use Rattle.lane_eval.specs.root_classes.aig.Values.{value}
 use Rattle.lane_eval.proofs.root_classes.aig.CoverMeaning.{value-one}

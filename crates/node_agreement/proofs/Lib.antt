@@ -2,5 +2,5 @@ pub mod Stood
 pub mod Asked
 pub mod Told
 pub mod Modelled
-pub use Rattle.pair_decide.proofs as pair_decide
-pub use Rattle.lane_eval.proofs as lane_eval
+pub mod pair_decide
+pub mod lane_eval

@@ -2,8 +2,8 @@
 use Rattle.std.proofs.Common.{◌≡◌, ℕ, List, [], ◌∷◌, ◌++◌, length, slice_get, Some, sym, ◌∙◌, ap, subst, inl, inr}
 use Rattle.std.specs.Prelude.{◌⊎◌}
 use Rattle.std.proofs.lemmas.Option.{same_Some}
-use Rattle.lane_eval.specs.root_classes.aig.declared.node.Node.{Node}
-use Rattle.lane_eval.specs.root_classes.aig.declared.node.Node.TheVariants.{Input}
+use Rattle.lane_eval.specs.root_classes.aig.Node.{Node}
+use Rattle.lane_eval.specs.root_classes.aig.Node.TheVariants.{Input}
 use Rattle.lane_eval.proofs.root_classes.aig.Insert.{push-cases}
 use Rattle.node_agreement.specs.Answers.{AreVariables}
 

@@ -2,8 +2,8 @@
 use Rattle.std.proofs.Common.{◌≡◌, ℕ, get_or, Result, Ok, Err, ◌*◌, ◌/◌, ◌%◌, ◌<◌, ◌≤◌, Bool, not, ◌&&◌, List, [], ◌∷◌, ◌++◌, length, slice_get, Some, refl, sym, ◌∙◌, ap, subst, arith, inl, inr}
 use Rattle.std.specs.Prelude.{◌⊎◌, IfOk}
 use Rattle.std.proofs.lemmas.Option.{slice_get-get_or}
-use Rattle.lane_eval.specs.root_classes.aig.declared.node.Lit.{Lit}
-use Rattle.lane_eval.specs.root_classes.aig.declared.node.Node.{Node}
+use Rattle.lane_eval.specs.root_classes.aig.Lit.{Lit}
+use Rattle.lane_eval.specs.root_classes.aig.Node.{Node}
 use Rattle.lane_eval.specs.root_classes.aig.Graph.{flip}
 use Rattle.lane_eval.specs.root_classes.aig.Values.{value, KeepsValues}
 use Rattle.lane_eval.proofs.root_classes.aig.Literals.{flip-even, flip-within}

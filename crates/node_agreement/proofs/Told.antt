@@ -4,8 +4,8 @@ use Rattle.std.specs.Prelude.{Contains, IfSome}
 use Rattle.std.specs.List.{AllPairs}
 use Rattle.std.proofs.lemmas.Option.{slice_get-get_or, slice_get_within}
 use Rattle.circuit_theory.proofs.Lists.{at_of}
-use Rattle.lane_eval.specs.root_classes.aig.declared.node.Node.{Node}
-use Rattle.lane_eval.specs.root_classes.aig.declared.node.Node.TheVariants.{Input}
+use Rattle.lane_eval.specs.root_classes.aig.Node.{Node}
+use Rattle.lane_eval.specs.root_classes.aig.Node.TheVariants.{Input}
 use Rattle.lane_eval.specs.root_classes.aig.Graph.{IsGraph}
 use Rattle.lane_eval.specs.root_classes.aig.Values.{value}
 use Rattle.lane_eval.proofs.root_classes.aig.Meaning.{value-node}

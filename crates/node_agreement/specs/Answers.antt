@@ -1,8 +1,8 @@
 -- What attempts tell.
 use Rattle.std.specs.Prelude.{◌≡◌, ◌≢◌, ℕ, Bool, List, length, slice_get, Some, None, Option, ⊤}
 use Rattle.circuit_theory.specs.Query.{bits_of}
-use Rattle.lane_eval.specs.root_classes.aig.declared.node.Node.{Node}
-use Rattle.lane_eval.specs.root_classes.aig.declared.node.Node.TheVariants.{Input}
+use Rattle.lane_eval.specs.root_classes.aig.Node.{Node}
+use Rattle.lane_eval.specs.root_classes.aig.Node.TheVariants.{Input}
 use Rattle.lane_eval.specs.root_classes.aig.Values.{value}
 use Rattle.lane_eval.specs.Tables.{assigned_to}
 use Rattle.lane_eval.specs.root_classes.Agreeing.{Agree}

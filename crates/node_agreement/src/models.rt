@@ -1,7 +1,7 @@
 //! Assignments that tell two literals apart.
 
 ghost use Rattle.std.specs.Prelude.{◌≡◌, ℕ, ◌++◌, [], ◌∷◌, slice_get, Some, IfOk, IfSome, IsTrue};
-ghost use Rattle.lane_eval.specs.root_classes.aig.declared.node.Node.TheVariants.{Input};
+ghost use Rattle.lane_eval.specs.root_classes.aig.Node.TheVariants.{Input};
 ghost use Rattle.node_agreement.specs.Answers.{IsModelOf};
 
 use lane_eval::root_classes::{Aig, Bits, NoMemory, Node};

@@ -1,7 +1,7 @@
 //! Proving that two literals of a graph agree.
 
 ghost use Rattle.std.specs.Prelude.{◌≡◌, ℕ, ◌*◌, ◌<◌, ◌≤◌, List, length, IfOk, IfSome};
-ghost use Rattle.lane_eval.specs.root_classes.aig.declared.node.Node.{Node};
+ghost use Rattle.lane_eval.specs.root_classes.aig.Node.{Node};
 ghost use Rattle.lane_eval.specs.root_classes.Agreeing.{Agree};
 ghost use Rattle.sweep_candidates.specs.declared.models.Model.{Model};
 ghost use Rattle.node_agreement.specs.declared.proof.Proved.TheVariants as proved;

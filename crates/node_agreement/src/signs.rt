@@ -1,7 +1,7 @@
 //! Signs of literals.
 
 ghost use Rattle.std.specs.Prelude.{◌≡◌, ℕ, ◌*◌, ◌/◌, ◌<◌, Bool, false, List, length};
-ghost use Rattle.lane_eval.specs.root_classes.aig.declared.node.Node.{Node};
+ghost use Rattle.lane_eval.specs.root_classes.aig.Node.{Node};
 ghost use Rattle.lane_eval.specs.root_classes.aig.Values.{value};
 ghost use Rattle.node_agreement.specs.Standing.{StandsFor, signed_lit};
 

@@ -1,7 +1,7 @@
 //! Small graphs that stand for a part of a graph. Their variables are nodes of that graph.
 
 ghost use Rattle.std.specs.Prelude.{◌≡◌, ℕ, ◌+◌, ◌*◌, ◌/◌, ◌^◌, ◌<◌, ◌≤◌, List, length, IfOk, OnOk, IfSome, slice_get, Some};
-ghost use Rattle.lane_eval.specs.root_classes.aig.declared.node.Node.{Node};
+ghost use Rattle.lane_eval.specs.root_classes.aig.Node.{Node};
 ghost use Rattle.lane_eval.specs.root_classes.aig.Values.{KeepsValues};
 ghost use Rattle.node_agreement.specs.Standing.{StandsFor, AreLocal, by_nodes};
 

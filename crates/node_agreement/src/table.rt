@@ -2,7 +2,7 @@
 
 ghost use Rattle.std.specs.Prelude.{◌≡◌, ℕ, ◌*◌, ◌<◌, List, Some, length, IfOk};
 ghost use Rattle.circuit_theory.specs.Query.{bits_of};
-ghost use Rattle.lane_eval.specs.root_classes.aig.declared.node.Node.{Node};
+ghost use Rattle.lane_eval.specs.root_classes.aig.Node.{Node};
 ghost use Rattle.lane_eval.specs.root_classes.Inputs.{inputs_of};
 ghost use Rattle.node_agreement.specs.Answers.{IsAnswer, IsFound};
 

@@ -2,4 +2,4 @@ pub mod Listed
 pub mod Swept
 pub mod Steps
 pub mod Results
-pub use Rattle.swept_queries.proofs as swept_queries
+pub mod swept_queries

@@ -5,9 +5,9 @@ use Rattle.std.specs.List.{All, AllZip}
 use Rattle.std.proofs.lemmas.List.Elements.{All-nil, All-push}
 use Rattle.std.proofs.lemmas.Option.{slice_get_within}
 use Rattle.circuit_theory.proofs.Lists.{zip_push, zip_length}
-use Rattle.outcome.specs.sec_base.declared.basics.PairAnswer.{PairAnswer}
-use Rattle.outcome.specs.sec_base.declared.basics.PairAnswer.TheVariants as answer
-use Rattle.outcome.specs.aig.declared.node.Node.{Node}
+use Rattle.outcome.specs.sec_base.PairAnswer.{PairAnswer}
+use Rattle.outcome.specs.sec_base.PairAnswer.TheVariants as answer
+use Rattle.outcome.specs.aig.Node.{Node}
 use Rattle.outcome.proofs.aig.Growth.{slice_get-append}
 use Rattle.outcome.proofs.aig.Insert.{push-cases}
 use Rattle.swept_queries.proofs.Listed.{All-at}

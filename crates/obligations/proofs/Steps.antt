@@ -4,7 +4,7 @@ use Rattle.std.specs.Prelude.{◌⊎◌}
 use Rattle.std.specs.List.{All}
 use Rattle.std.proofs.lemmas.Option.{same_Some, slice_get_within}
 use Rattle.circuit_theory.proofs.Lists.{All-from_each, at_of}
-use Rattle.outcome.specs.aig.declared.node.Node.{Node}
+use Rattle.outcome.specs.aig.Node.{Node}
 use Rattle.outcome.specs.Query.{Query}
 use Rattle.outcome.specs.Decision.{Decision}
 use Rattle.outcome.specs.Decision.TheVariants as decision

@@ -1,7 +1,7 @@
 -- What is asked, as queries over one graph.
 use Rattle.std.specs.Prelude.{◌≡◌, ℕ, List, [], ◌∷◌, ◌++◌, slice_get, Option, Some, None}
 use Rattle.std.specs.List.{All, AllZip}
-use Rattle.outcome.specs.aig.declared.node.Node.{Node}
+use Rattle.outcome.specs.aig.Node.{Node}
 use Rattle.outcome.specs.Query.{Query}
 use Rattle.outcome.specs.Queries.{IsQuery}
 use Rattle.swept_queries.specs.declared.sides.Sides.{Sides}

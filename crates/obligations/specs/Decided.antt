@@ -1,10 +1,10 @@
 -- What is found of all obligations.
 use Rattle.std.specs.Prelude.{◌≡◌, ◌≢◌, ℕ, ◌<◌, Bool, true, false, List, slice_get, Option, Some, None}
 use Rattle.std.specs.List.{All, AllZip}
-use Rattle.outcome.specs.aig.declared.node.Node.{Node}
-use Rattle.outcome.specs.sec_base.declared.basics.PairAnswer.{PairAnswer}
-use Rattle.outcome.specs.sec_base.declared.basics.PairAnswer.TheVariants as answer
-use Rattle.outcome.specs.witness_report.declared.witness.PairName.{PairName}
+use Rattle.outcome.specs.aig.Node.{Node}
+use Rattle.outcome.specs.sec_base.PairAnswer.{PairAnswer}
+use Rattle.outcome.specs.sec_base.PairAnswer.TheVariants as answer
+use Rattle.outcome.specs.witness_report.PairName.{PairName}
 use Rattle.outcome.specs.Proof.{Proof}
 use Rattle.outcome.specs.Queries.{IsSame}
 use Rattle.outcome.specs.declared.verdict.PairResult.{PairResult}

@@ -1,9 +1,9 @@
 -- What is found of the queries of one obligation.
 use Rattle.std.specs.Prelude.{◌≡◌, ℕ, ◌<◌, Bool, true, false, List, slice_get, Option, Some, None}
 use Rattle.std.specs.List.{All}
-use Rattle.outcome.specs.aig.declared.node.Node.{Node}
-use Rattle.outcome.specs.sec_base.declared.basics.PairAnswer.{PairAnswer}
-use Rattle.outcome.specs.sec_base.declared.basics.PairAnswer.TheVariants as answer
+use Rattle.outcome.specs.aig.Node.{Node}
+use Rattle.outcome.specs.sec_base.PairAnswer.{PairAnswer}
+use Rattle.outcome.specs.sec_base.PairAnswer.TheVariants as answer
 use Rattle.outcome.specs.Query.{Query}
 use Rattle.outcome.specs.Proof.{Proof}
 use Rattle.outcome.specs.Decision.{Decision}

@@ -1,6 +1,6 @@
 -- Which obligation gives the verdict.
 use Rattle.std.specs.Prelude.{◌≡◌, ◌≢◌, ℕ, ◌<◌, max, List, fold, slice_get, Option, Some, None}
-use Rattle.outcome.specs.sec_base.declared.basics.PairAnswer.TheVariants as answer
+use Rattle.outcome.specs.sec_base.PairAnswer.TheVariants as answer
 use Rattle.outcome.specs.declared.verdict.PairResult.{PairResult}
 use Rattle.obligations.specs.declared.obligation.Difference.{Difference}
 use Rattle.obligations.specs.declared.verdict.VerdictAt.{VerdictAt}

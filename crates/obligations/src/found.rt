@@ -2,7 +2,7 @@
 
 ghost use Rattle.std.specs.Prelude.{◌≡◌, ℕ, ◌+◌, ◌<◌, ◌≤◌, ◌^◌, length, slice_get, Some, IfOk, IfSome, MatchOption};
 ghost use Rattle.std.specs.List.{All};
-ghost use Rattle.outcome.specs.aig.declared.node.Node.{Node};
+ghost use Rattle.outcome.specs.aig.Node.{Node};
 ghost use Rattle.outcome.specs.Query.{Query};
 ghost use Rattle.outcome.specs.Queries.{IsQuery};
 ghost use Rattle.swept_queries.specs.InStead.{IsKnown};

@@ -2,13 +2,13 @@
 use Rattle.std.specs.Prelude.{ℕ, Bool, true, false, List, [], ◌∷◌, ◌++◌, length, codes, if◌then◌else◌, Option, Some, None}
 use Rattle.std.specs.Fmt.{decimal}
 use Rattle.std.specs.List.{flat_map}
-use Rattle.witness_report.specs.circuit_theory.declared.Mode.{Mode}
-use Rattle.witness_report.specs.circuit_theory.declared.Mode.TheVariants.{Plain, Event}
-use Rattle.witness_report.specs.circuit_theory.declared.Side.{Side}
-use Rattle.witness_report.specs.circuit_theory.declared.Side.TheVariants.{A, B}
-use Rattle.witness_report.specs.sec_base.declared.basics.PairAnswer.{PairAnswer}
-use Rattle.witness_report.specs.sec_base.declared.basics.PairAnswer.TheVariants as answer
-use Rattle.witness_report.specs.sec_base.declared.settings.Settings.{Settings}
+use Rattle.witness_report.specs.circuit_theory.Mode.{Mode}
+use Rattle.witness_report.specs.circuit_theory.Mode.TheVariants.{Plain, Event}
+use Rattle.witness_report.specs.circuit_theory.Side.{Side}
+use Rattle.witness_report.specs.circuit_theory.Side.TheVariants.{A, B}
+use Rattle.witness_report.specs.sec_base.PairAnswer.{PairAnswer}
+use Rattle.witness_report.specs.sec_base.PairAnswer.TheVariants as answer
+use Rattle.witness_report.specs.sec_base.Settings.{Settings}
 use Rattle.witness_report.specs.sec_base.Texts.{digit_of, names_text}
 use Rattle.witness_report.specs.Text.{stimulus_text, row_line}
 use Rattle.witness_report.specs.declared.witness.PairName.{PairName}

@@ -4,9 +4,9 @@ use Rattle.std.specs.List.{Contains}
 use Rattle.circuit_theory.specs.Circuit.{Circuit}
 use Rattle.circuit_theory.specs.Tree.{Tree, Unfolds, tree_value}
 use Rattle.circuit_theory.specs.Query.{Variable, AreVariables, ShiftBefore}
-use Rattle.obligations.specs.aig.declared.node.Node.{Node}
+use Rattle.obligations.specs.aig.Node.{Node}
 use Rattle.base_tables.specs.Table.{AreDistinct}
-use Rattle.obligations.specs.aig.declared.node.Node.TheVariants.{Input}
+use Rattle.obligations.specs.aig.Node.TheVariants.{Input}
 use Rattle.obligations.specs.aig.Cone.{IsReached}
 use Rattle.obligations.specs.aig.Graph.{IsGraph}
 use Rattle.obligations.specs.aig.Values.{value}

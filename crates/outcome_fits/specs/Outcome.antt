@@ -5,16 +5,16 @@ use Rattle.circuit_theory.specs.Circuit.{Circuit}
 use Rattle.circuit_theory.specs.Fits.{IsPairDepth, IsWitness}
 use Rattle.circuit_theory.specs.Query.{Distinguishes, pair_query}
 use Rattle.circuit_theory.specs.Tree.{Tree, Unfolds, HaveEqualFunctions}
-use Rattle.sec_setup.specs.sec_base.declared.basics.PairAnswer.{PairAnswer}
-use Rattle.sec_setup.specs.sec_base.declared.basics.PairAnswer.TheVariants as answer
+use Rattle.sec_setup.specs.sec_base.PairAnswer.{PairAnswer}
+use Rattle.sec_setup.specs.sec_base.PairAnswer.TheVariants as answer
 use Rattle.obligations.specs.outcome.Proof.{Proof}
-use Rattle.sec_setup.specs.witness_report.declared.witness.Witness.{Witness}
-use Rattle.obligations.specs.outcome.declared.verdict.PairResult.{PairResult}
-use Rattle.obligations.specs.outcome.declared.verdict.Verdict.{Verdict}
-use Rattle.obligations.specs.outcome.declared.verdict.Verdict.TheVariants as verdict
-use Rattle.obligations.specs.outcome.declared.verdict.Why.TheVariants as why
-use Rattle.obligations.specs.outcome.declared.verdict.LimitAt.{LimitAt}
-use Rattle.obligations.specs.outcome.declared.verdict.LimitAt.TheVariants as limit_at
+use Rattle.sec_setup.specs.witness_report.Witness.{Witness}
+use Rattle.obligations.specs.outcome.PairResult.{PairResult}
+use Rattle.obligations.specs.outcome.Verdict.{Verdict}
+use Rattle.obligations.specs.outcome.Verdict.TheVariants as verdict
+use Rattle.obligations.specs.outcome.Why.TheVariants as why
+use Rattle.obligations.specs.outcome.LimitAt.{LimitAt}
+use Rattle.obligations.specs.outcome.LimitAt.TheVariants as limit_at
 use Rattle.sec_setup.specs.Pairs.{NamedPair}
 pub use Rattle.obligations.specs.Decided.{NoneIs}
 pub use Rattle.obligations.specs.Verdict.{greatest_size}

@@ -6,8 +6,8 @@ use Rattle.circuit_theory.specs.Tree.{Tree, tree_value}
 use Rattle.circuit_theory.specs.Query.{Variable, AreVariables}
 use Rattle.reset_laws.specs.Reset.{ResetUnfolds, CycleBefore}
 use Rattle.base_tables.specs.Table.{AreDistinct}
-use Rattle.obligations.specs.aig.declared.node.Node.{Node}
-use Rattle.obligations.specs.aig.declared.node.Node.TheVariants.{Input}
+use Rattle.obligations.specs.aig.Node.{Node}
+use Rattle.obligations.specs.aig.Node.TheVariants.{Input}
 use Rattle.obligations.specs.aig.Cone.{IsReached}
 use Rattle.obligations.specs.aig.Graph.{IsGraph}
 use Rattle.obligations.specs.aig.Values.{value}

@@ -5,16 +5,16 @@ use Rattle.circuit_theory.specs.Fits.{IsPairDepth}
 use Rattle.circuit_theory.specs.Query.{Distinguishes, pair_query}
 use Rattle.circuit_theory.specs.Tree.{Tree}
 use Rattle.reset_laws.specs.Reset.{ResetUnfolds, HaveEqualResets, IsResetWitness}
-use Rattle.sec_setup.specs.sec_base.declared.basics.PairAnswer.{PairAnswer}
-use Rattle.sec_setup.specs.sec_base.declared.basics.PairAnswer.TheVariants as answer
+use Rattle.sec_setup.specs.sec_base.PairAnswer.{PairAnswer}
+use Rattle.sec_setup.specs.sec_base.PairAnswer.TheVariants as answer
 use Rattle.obligations.specs.outcome.Proof.{Proof}
-use Rattle.obligations.specs.outcome.declared.verdict.PairResult.{PairResult}
-use Rattle.sec_setup.specs.witness_report.declared.witness.PairName.{PairName}
+use Rattle.obligations.specs.outcome.PairResult.{PairResult}
+use Rattle.sec_setup.specs.witness_report.PairName.{PairName}
 use Rattle.sec_setup.specs.Pairs.{NamedPair}
 pub use Rattle.obligations.specs.Decided.{NoneIs}
 pub use Rattle.obligations.specs.Verdict.{greatest_size}
 use Rattle.outcome_fits.specs.ResetLimits.{IsUndecidedAt}
-use Rattle.obligations.specs.outcome.declared.verdict.ResetWitness.{ResetWitness}
+use Rattle.obligations.specs.outcome.ResetWitness.{ResetWitness}
 
 -- Two circuits with the numbers of their inputs' and their latches' variables, and the names of the inputs' numbers.
 pub record Numbered : Type 0 where

@@ -2,8 +2,8 @@
 use Rattle.std.proofs.Common.{◌≡◌, ℕ, zero, suc, ◌+◌, ◌*◌, ◌/◌, ◌%◌, ◌<◌, ◌⊎◌, inl, inr, Bool, List, length, get_or, slice_get, Some, Contains, refl, sym, ◌∙◌, ap, arith}
 use Rattle.std.specs.Prelude.{not, ◌&&◌}
 use Rattle.std.proofs.lemmas.Option.{slice_get_within, slice_get-get_or}
-use Rattle.lane_eval.specs.aig.declared.node.Node.{Node}
-use Rattle.lane_eval.specs.aig.declared.node.Node.TheVariants.{Constant, Input, And}
+use Rattle.lane_eval.specs.aig.Node.{Node}
+use Rattle.lane_eval.specs.aig.Node.TheVariants.{Constant, Input, And}
 use Rattle.lane_eval.specs.aig.Graph.{IsOrdered, IsAbove, flip}
 use Rattle.lane_eval.specs.aig.Values.{value, node_value}
 use Rattle.lane_eval.specs.aig.Cone.{Reads, IsReached}

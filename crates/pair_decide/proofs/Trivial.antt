@@ -1,7 +1,7 @@
 -- Sides that are one literal, and a care that never holds.
 use Rattle.std.proofs.Common.{◌≡◌, ℕ, inl, inr, Bool, false, List, sym, ◌∙◌, ap, true≢false}
-use Rattle.lane_eval.specs.aig.declared.node.Node.{Node}
-use Rattle.lane_eval.specs.aig.declared.node.Node.TheVariants.{Constant}
+use Rattle.lane_eval.specs.aig.Node.{Node}
+use Rattle.lane_eval.specs.aig.Node.TheVariants.{Constant}
 use Rattle.lane_eval.specs.aig.Graph.{IsGraph}
 use Rattle.lane_eval.specs.aig.Values.{value}
 use Rattle.lane_eval.proofs.aig.Meaning.{value-node}

@@ -1,7 +1,7 @@
 -- The answers to a query, and what stands behind each.
 use Rattle.std.specs.Prelude.{◌≡◌, ℕ, ◌≤◌, ◌<◌, Bool, List, length, Some, None, Option}
 use Rattle.lane_eval.specs.circuit_theory.Query.{bits_of}
-use Rattle.lane_eval.specs.aig.declared.node.Node.{Node}
+use Rattle.lane_eval.specs.aig.Node.{Node}
 use Rattle.cnf_encode.specs.proof_check.Chains.{IsRefutation}
 use Rattle.sat_search.specs.Found.{IsFruitless}
 use Rattle.cnf_encode.specs.Encoding.{IsEncoding}

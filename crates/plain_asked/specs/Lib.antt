@@ -5,4 +5,4 @@ pub mod Formed
 pub mod Pairs
 pub mod Sequences
 pub mod Variables
-pub use Rattle.outcome_fits.specs as outcome_fits
+pub mod outcome_fits

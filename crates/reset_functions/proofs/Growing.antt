@@ -8,7 +8,7 @@ use Rattle.std.proofs.lemmas.Option.{slice_get_within}
 use Rattle.circuit_theory.specs.Fits.{IsPairDepth}
 use Rattle.circuit_theory.proofs.Lists.{All-from_each, Contains-cases, zip_push, zip_right, zip_weaker, at_of, of_at}
 use Rattle.unfold_places.proofs.Zips.{zip_left}
-use Rattle.sec_setup.specs.interface.declared.pairs.SignalPair.{SignalPair}
+use Rattle.sec_setup.specs.interface.SignalPair.{SignalPair}
 use Rattle.sec_setup.specs.declared.setup.Setup.{Setup}
 use Rattle.shift_variables.proofs.Assignments.{take_next}
 use Rattle.base_tables.proofs.TableLemmas.{slice_get-take}

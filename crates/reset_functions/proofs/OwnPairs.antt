@@ -10,7 +10,7 @@ use Rattle.circuit_theory.proofs.Lists.{Contains-map, Contains-map_from}
 use Rattle.flat_net.specs.declared.parts.Port.{Port}
 use Rattle.flat_net.specs.View.{NetView}
 use Rattle.flat_net.specs.Sound.{IsSound}
-use Rattle.sec_setup.specs.interface.declared.pairs.SignalPair.{SignalPair}
+use Rattle.sec_setup.specs.interface.SignalPair.{SignalPair}
 use Rattle.sec_setup.specs.declared.setup.Setup.{Setup}
 use Rattle.sec_setup.specs.Setup.{IsSetup}
 use Rattle.sec_setup.specs.Pairs.{outputs_of}

@@ -12,7 +12,7 @@ use Rattle.unfold_places.specs.declared.signal_function.Unfolded.{Unfolded}
 use Rattle.reset_unfold.specs.Places.{starts_of}
 use Rattle.reset_unfold.specs.View.{ResetView}
 use Rattle.reset_unfold.specs.Unfolded.{IsResetUnfolded}
-use Rattle.sec_setup.specs.interface.declared.pairs.SignalPair.{SignalPair}
+use Rattle.sec_setup.specs.interface.SignalPair.{SignalPair}
 use Rattle.sec_setup.specs.declared.setup.Setup.{Setup}
 use Rattle.reset_functions.specs.declared.bases.Bases.{Bases}
 use Rattle.reset_functions.specs.declared.error.ResetError.{ResetError}

@@ -1,3 +1,3 @@
 pub mod Ends
 pub mod Reading
-pub use Rattle.job_base.specs as job_base
+pub mod job_base

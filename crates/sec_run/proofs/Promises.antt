@@ -9,7 +9,7 @@ use Rattle.job_base.specs.declared.status.StatusName.TheVariants as status
 use Rattle.job_base.specs.Written.{status_of, IsWrittenAs}
 use Rattle.job_base.specs.Meaning.{SaysNothing}
 use Rattle.job_base.proofs.Meaning.{says_nothing, by_finding}
-use Rattle.job_cert.specs.sec_files.job_files.Reading.{Held}
+use Rattle.job_cert.specs.sec_files.Reading.{Held}
 use Rattle.job_circuit.proofs.Means.{graph_means, sim_means}
 use Rattle.job_circuit.proofs.CompleteReports.{graph_complete, sim_complete}
 use Rattle.job_replay.proofs.Means.{replay_means}

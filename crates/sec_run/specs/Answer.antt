@@ -11,7 +11,7 @@ use Rattle.job_base.specs.declared.status.Status.{Status}
 use Rattle.job_base.specs.declared.status.StatusName.{StatusName}
 use Rattle.job_base.specs.declared.status.StatusName.TheVariants as status
 use Rattle.job_base.specs.Lines.{finding_text}
-use Rattle.job_cert.specs.sec_files.job_files.Reading.{Held}
+use Rattle.job_cert.specs.sec_files.Reading.{Held}
 use Rattle.job_circuit.specs.Reports.{IsGraphFound, IsSimFound}
 use Rattle.job_replay.specs.Replays.{IsReplayFound}
 use Rattle.job_check.specs.Found.{IsFoundOf}

@@ -2,7 +2,7 @@
 use Rattle.std.specs.Prelude.{ℕ, List, [], Option, Some, None}
 use Rattle.command_line.specs.declared.task.Task.{Task}
 use Rattle.command_line.specs.declared.task.Task.TheVariants as task
-use Rattle.job_cert.specs.sec_files.job_files.Reading.{IsLoaded}
+use Rattle.job_cert.specs.sec_files.Reading.{IsLoaded}
 use Rattle.job_circuit.specs.Reports.{graph_paths, sim_paths}
 use Rattle.job_replay.specs.Replays.{replay_paths}
 use Rattle.job_check.specs.Check.{check_paths}

@@ -6,7 +6,7 @@ use Rattle.pair_decide.specs.declared.query.Proof.{Proof}
 use Rattle.job_base.specs.Meaning.{SaysNothing, EndsWith}
 use Rattle.job_base.specs.declared.status.StatusName.{StatusName}
 use Rattle.job_base.specs.declared.status.StatusName.TheVariants as status
-use Rattle.job_cert.specs.sec_files.job_files.Reading.{Held}
+use Rattle.job_cert.specs.sec_files.Reading.{Held}
 use Rattle.job_circuit.specs.Reports.{GraphMeans, SimMeans, IsGraphComplete, IsSimComplete}
 use Rattle.job_replay.specs.Replays.{ReplayMeans, IsReplayComplete}
 use Rattle.check_meaning.specs.Answer.{CheckMeans, IsCheckComplete}

@@ -5,4 +5,4 @@ pub mod Setups
 pub mod ToldCycles
 pub mod Uncut
 pub mod ReadInputs
-pub use Rattle.interface.proofs.flat_net
+pub mod flat_net

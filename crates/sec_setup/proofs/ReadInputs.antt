@@ -9,10 +9,10 @@ use Rattle.circuit_theory.specs.Sizes.{Visits}
 use Rattle.circuit_theory.proofs.Lists.{Contains-cases, Contains-head, Contains-map, Contains-tail, at_of, of_at}
 use Rattle.circuit_theory.proofs.Inputs.{test_refl}
 use Rattle.circuit_theory.proofs.Numbers.{beside_at, slice_get-map}
-use Rattle.interface.specs.flat_net.declared.signals.Signal.{Signal}
-use Rattle.interface.specs.flat_net.declared.parts.Port.{Port}
-use Rattle.interface.specs.flat_net.declared.parts.Gate.{Gate}
-use Rattle.interface.specs.flat_net.declared.parts.LatchAt.{LatchAt}
+use Rattle.interface.specs.flat_net.Signal.{Signal}
+use Rattle.interface.specs.flat_net.Port.{Port}
+use Rattle.interface.specs.flat_net.Gate.{Gate}
+use Rattle.interface.specs.flat_net.LatchAt.{LatchAt}
 use Rattle.interface.specs.flat_net.View.{NetView, named, equation_of_gate, equation_of_latch, circuit_of, is_read, ports_of}
 use Rattle.interface.proofs.flat_net.Nets.{OfGate, OfLatch, equation_from}
 use Rattle.interface.proofs.flat_net.Places.{one_at}

@@ -3,7 +3,7 @@ use Rattle.std.proofs.Common.{◌≡◌, ℕ, ◌+◌, ◌<◌, ◌≤◌, ◌^�
 use Rattle.std.specs.List.{Contains}
 use Rattle.circuit_theory.specs.Interface.{shared_inputs}
 use Rattle.base_tables.specs.Table.{AreDistinct}
-use Rattle.interface.specs.sec_base.declared.basics.Orders.{Orders}
+use Rattle.interface.specs.sec_base.Orders.{Orders}
 use Rattle.interface.specs.flat_net.Comparable.{IsComparable}
 use Rattle.interface.specs.flat_net.Sound.{IsSound}
 use Rattle.interface.specs.flat_net.View.{NetView, circuit_of, ports_of}

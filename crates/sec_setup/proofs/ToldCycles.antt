@@ -9,7 +9,7 @@ use Rattle.circuit_theory.specs.declared.Mode.TheVariants.{Plain}
 use Rattle.circuit_theory.specs.Circuit.{Circuit, IsLatch}
 use Rattle.circuit_theory.specs.Depth.{LatchReads, LatchPath, IsCycle, BeginsWithLeast, HasCycle, after_in_round}
 use Rattle.circuit_theory.specs.Run.{NoneEnabled}
-use Rattle.interface.specs.flat_net.declared.parts.LatchAt.{LatchAt}
+use Rattle.interface.specs.flat_net.LatchAt.{LatchAt}
 use Rattle.interface.specs.flat_net.View.{NetView, circuit_of}
 use Rattle.interface.specs.flat_net.Cut.{no_latch, latch_at, exposed_names}
 use Rattle.interface.proofs.flat_net.Nets.{latch_stands, some_at}

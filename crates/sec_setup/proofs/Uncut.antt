@@ -7,7 +7,7 @@ use Rattle.circuit_theory.specs.declared.Mode.TheVariants.{Plain}
 use Rattle.circuit_theory.specs.Agree.{cut, is_kept, IsMinimalCut}
 use Rattle.circuit_theory.specs.Circuit.{Circuit, Equation, Gate, Latch, Port as port_equation}
 use Rattle.base_tables.specs.Table.{AreDistinct}
-use Rattle.interface.specs.flat_net.declared.parts.LatchAt.{LatchAt}
+use Rattle.interface.specs.flat_net.LatchAt.{LatchAt}
 use Rattle.interface.specs.flat_net.Cut.{latch_at, exposed_names, stays, IsCut, IsCutCircuit}
 use Rattle.interface.specs.flat_net.View.{NetView, circuit_of}
 use Rattle.sec_setup.specs.declared.cut_points.exposed.Exposure.{Exposure}

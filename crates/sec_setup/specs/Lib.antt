@@ -5,7 +5,7 @@ pub mod Matching
 pub mod Pairs
 pub mod Setup
 pub mod cut_points
-pub use Rattle.interface.specs as interface
-pub use Rattle.interface.specs.flat_net
-pub use Rattle.interface.specs.sec_base
-pub use Rattle.interface.specs.witness_report
+pub mod interface
+pub mod flat_net
+pub mod sec_base
+pub mod witness_report

@@ -2,11 +2,11 @@
 use Rattle.std.proofs.Common.{◌≡◌, ◌≢◌, ℕ, zero, suc, ◌<◌, Bool, true, false, List, [], ◌∷◌, length, map, Option, Some, None, refl, sym, ◌∙◌, ap, subst, arith, inr}
 use Rattle.std.specs.Prelude.{slice_get}
 use Rattle.std.specs.List.{Contains}
-use Rattle.inner_cone.specs.flat_net.declared.signals.Signal.{Signal}
-use Rattle.inner_cone.specs.flat_net.declared.parts.Gate.{Gate}
-use Rattle.inner_cone.specs.flat_net.declared.parts.LatchAt.{LatchAt}
-use Rattle.inner_cone.specs.flat_net.declared.parts.Driver.{Driver}
-use Rattle.inner_cone.specs.flat_net.declared.parts.Driver.TheVariants as driver
+use Rattle.inner_cone.specs.flat_net.Signal.{Signal}
+use Rattle.inner_cone.specs.flat_net.Gate.{Gate}
+use Rattle.inner_cone.specs.flat_net.LatchAt.{LatchAt}
+use Rattle.inner_cone.specs.flat_net.Driver.{Driver}
+use Rattle.inner_cone.specs.flat_net.Driver.TheVariants as driver
 use Rattle.inner_cone.specs.flat_net.View.{NetView, circuit_of, cover_of}
 use Rattle.inner_cone.specs.flat_net.Sound.{Drives}
 use Rattle.inner_cone.proofs.flat_net.Places.{one_at, All-at}

@@ -3,8 +3,8 @@ use Rattle.std.proofs.Common.{◌≡◌, ℕ, Bool, List, [], length, map, Some,
 use Rattle.std.specs.Prelude.{slice_get}
 use Rattle.std.specs.List.{Contains}
 use Rattle.std.proofs.lemmas.List.Elements.{All-contains}
-use Rattle.inner_cone.specs.flat_net.declared.signals.Signal.{Signal}
-use Rattle.inner_cone.specs.flat_net.declared.parts.LatchAt.{LatchAt}
+use Rattle.inner_cone.specs.flat_net.Signal.{Signal}
+use Rattle.inner_cone.specs.flat_net.LatchAt.{LatchAt}
 use Rattle.inner_cone.specs.flat_net.View.{NetView, circuit_of, cover_of}
 use Rattle.inner_cone.proofs.flat_net.Nets.{sound_is_net}
 use Rattle.inner_cone.specs.circuit_theory.Circuit.{Equation, Gate as gate_equation, Latch as latch_equation, Port as port_equation, IsLatch, Reads}

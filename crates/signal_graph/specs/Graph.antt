@@ -2,13 +2,13 @@
 use Rattle.std.specs.Prelude.{◌≡◌, ℕ, Bool, true, false, List, [], ◌∷◌, length, map, slice_get, slice_index_or, Option, Some, None, ◌^◌, ◌<◌}
 use Rattle.inner_cone.specs.Cones.{IsMarkedBy, MarksEnabled}
 use Rattle.inner_cone.specs.Sides.{AreSides}
-use Rattle.inner_cone.specs.flat_net.declared.signals.Signal.{Signal}
-use Rattle.inner_cone.specs.flat_net.declared.parts.Gate.{Gate}
-use Rattle.inner_cone.specs.flat_net.declared.parts.LatchAt.{LatchAt}
-use Rattle.inner_cone.specs.flat_net.declared.parts.Driver.{Driver}
-use Rattle.inner_cone.specs.flat_net.declared.parts.Driver.TheVariants as driver
+use Rattle.inner_cone.specs.flat_net.Signal.{Signal}
+use Rattle.inner_cone.specs.flat_net.Gate.{Gate}
+use Rattle.inner_cone.specs.flat_net.LatchAt.{LatchAt}
+use Rattle.inner_cone.specs.flat_net.Driver.{Driver}
+use Rattle.inner_cone.specs.flat_net.Driver.TheVariants as driver
 use Rattle.inner_cone.specs.flat_net.View.{NetView}
-use Rattle.inner_cone.specs.circuit_theory.declared.Mode.{Mode}
+use Rattle.inner_cone.specs.circuit_theory.Mode.{Mode}
 use Rattle.inner_cone.specs.flat_net.Sound.{IsSound}
 use Rattle.inner_cone.specs.flat_net.Cut.{no_latch}
 use Rattle.signal_graph.specs.declared.nodes.Node.{Node}

@@ -1,5 +1,5 @@
 pub mod Graph
-pub use Rattle.inner_cone.specs.Cones
 pub mod unfolding_weight
-pub use Rattle.inner_cone.specs.flat_net
+pub mod flat_net
+pub use Rattle.inner_cone.specs.Cones
 pub use Rattle.inner_cone.specs.latch_cone

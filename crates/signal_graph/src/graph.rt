@@ -1,7 +1,7 @@
 //! The readings of all signals of a net.
 
 ghost use Rattle.std.specs.Prelude.{◌≡◌, length, IfOk};
-ghost use Rattle.inner_cone.specs.circuit_theory.declared.Mode.{Mode};
+ghost use Rattle.inner_cone.specs.circuit_theory.Mode.{Mode};
 ghost use Rattle.inner_cone.specs.Cones.{MarksEnabled};
 ghost use Rattle.signal_graph.specs.Graph.{AreNodes, IsGraphOf, IsGraphIn};
 

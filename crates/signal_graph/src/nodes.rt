@@ -2,7 +2,7 @@
 
 ghost use Rattle.std.specs.Prelude.{◌≡◌, ◌<◌, ℕ, length, slice_get, Some, IfOk};
 ghost use Rattle.inner_cone.specs.Inner.{AreRanked};
-ghost use Rattle.inner_cone.specs.flat_net.declared.parts.Driver.{Driver};
+ghost use Rattle.inner_cone.specs.flat_net.Driver.{Driver};
 ghost use Rattle.signal_graph.specs.declared.nodes.Node.{Node};
 ghost use Rattle.signal_graph.specs.Graph.{IsNodeOf, AreTaken};
 

@@ -5,8 +5,8 @@ use Rattle.std.specs.List.{All, AllZip}
 use Rattle.std.proofs.lemmas.List.{take_more}
 use Rattle.std.proofs.lemmas.List.Elements.{All-nil, All-cons, All-head, All-tail, All-get_or}
 use Rattle.std.proofs.lemmas.Option.{none-some, same_Some, slice_get_within, get_or_from_slice_get}
-use Rattle.swept_queries.specs.sweep.aig.declared.node.Lit.{Lit}
-use Rattle.swept_queries.specs.sweep.aig.declared.node.Node.{Node}
+use Rattle.swept_queries.specs.sweep.aig.Lit.{Lit}
+use Rattle.swept_queries.specs.sweep.aig.Node.{Node}
 use Rattle.swept_queries.proofs.sweep.aig.Insert.{push-cases}
 use Rattle.swept_queries.specs.declared.sides.Sides.{Sides}
 use Rattle.swept_queries.specs.declared.sides.Known.{Known}

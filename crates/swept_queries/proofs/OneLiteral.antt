@@ -2,13 +2,13 @@
 use Rattle.std.proofs.Common.{◌≡◌, ◌∙◌, ℕ, ◌/◌, Bool, List, [], ◌∷◌, slice_get, refl, sym, ap, subst, inl, inr}
 use Rattle.std.specs.Prelude.{◌⊎◌, Contains}
 use Rattle.circuit_theory.proofs.Lists.{Contains-head, Contains-tail, Contains-cases}
-use Rattle.swept_queries.specs.sweep.aig.declared.node.Node.{Node}
+use Rattle.swept_queries.specs.sweep.aig.Node.{Node}
 use Rattle.swept_queries.specs.sweep.aig.Cone.{IsReached}
 use Rattle.swept_queries.specs.sweep.aig.Graph.{IsGraph}
 use Rattle.swept_queries.specs.sweep.aig.Values.{value}
-use Rattle.swept_queries.specs.sweep.pair_decide.declared.query.Query.{Query}
-use Rattle.swept_queries.specs.sweep.pair_decide.declared.query.SameBy.TheVariants as same
-use Rattle.swept_queries.specs.sweep.pair_decide.declared.query.Decision.TheVariants as decision
+use Rattle.swept_queries.specs.sweep.pair_decide.Query.{Query}
+use Rattle.swept_queries.specs.sweep.pair_decide.SameBy.TheVariants as same
+use Rattle.swept_queries.specs.sweep.pair_decide.Decision.TheVariants as decision
 use Rattle.swept_queries.specs.sweep.pair_decide.Queries.{IsQuery}
 use Rattle.swept_queries.specs.declared.sides.Sides.{Sides}
 use Rattle.swept_queries.specs.InStead.{sides_of, StandFor, DecidesInStead}

@@ -4,13 +4,13 @@ use Rattle.std.specs.Prelude.{◌⊎◌}
 use Rattle.std.specs.List.{All, AllPairs, AllZip, Contains}
 use Rattle.circuit_theory.proofs.Lists.{All-from_each, at_of}
 use Rattle.circuit_theory.specs.Query.{bits_of}
-use Rattle.swept_queries.specs.sweep.aig.declared.node.Lit.{Lit}
-use Rattle.swept_queries.specs.sweep.aig.declared.node.Node.{Node}
+use Rattle.swept_queries.specs.sweep.aig.Lit.{Lit}
+use Rattle.swept_queries.specs.sweep.aig.Node.{Node}
 use Rattle.swept_queries.specs.sweep.aig.Graph.{IsGraph, vars_of}
-use Rattle.swept_queries.specs.sweep.pair_decide.declared.query.Query.{Query}
-use Rattle.swept_queries.specs.sweep.pair_decide.declared.query.SameBy.{SameBy}
-use Rattle.swept_queries.specs.sweep.pair_decide.declared.query.SameBy.TheVariants as same
-use Rattle.swept_queries.specs.sweep.pair_decide.declared.query.Decision.TheVariants as decision
+use Rattle.swept_queries.specs.sweep.pair_decide.Query.{Query}
+use Rattle.swept_queries.specs.sweep.pair_decide.SameBy.{SameBy}
+use Rattle.swept_queries.specs.sweep.pair_decide.SameBy.TheVariants as same
+use Rattle.swept_queries.specs.sweep.pair_decide.Decision.TheVariants as decision
 use Rattle.swept_queries.specs.sweep.pair_decide.Queries.{IsQuery, IsSame, IsLeast, Distinguishes, assigned_to, numbered}
 use Rattle.swept_queries.specs.sweep.pair_decide.Answers.{Decides, IsDifference}
 use Rattle.swept_queries.specs.declared.sweep.graph.Swept.{Swept}

@@ -4,8 +4,8 @@ use Rattle.std.proofs.lemmas.Bool.Decides.{Decides-eqb}
 use Rattle.std.specs.Prelude.{◌⊎◌, ◌==◌, slice_index_or}
 use Rattle.std.specs.List.{Contains}
 use Rattle.circuit_theory.proofs.Lists.{Contains-head, Contains-tail, Contains-cases, at_of, length-map}
-use Rattle.swept_queries.specs.sweep.aig.declared.node.Node.{Node}
-use Rattle.swept_queries.specs.sweep.aig.declared.node.Node.TheVariants.{Constant, Input}
+use Rattle.swept_queries.specs.sweep.aig.Node.{Node}
+use Rattle.swept_queries.specs.sweep.aig.Node.TheVariants.{Constant, Input}
 use Rattle.swept_queries.specs.sweep.aig.Graph.{IsGraph, flip}
 use Rattle.swept_queries.specs.sweep.aig.Cone.{IsReached}
 use Rattle.swept_queries.specs.sweep.aig.Values.{value}
@@ -14,7 +14,7 @@ use Rattle.swept_queries.proofs.sweep.aig.Meaning.{value-flip, value-node}
 use Rattle.swept_queries.specs.sweep.lane_eval.Blocks.{block_bit, turned}
 use Rattle.swept_queries.specs.sweep.lane_eval.Signatures.{word_lane, AreSignatures}
 use Rattle.swept_queries.proofs.sweep.lane_eval.Numbered.{assigned_to-at, map-at}
-use Rattle.swept_queries.specs.sweep.pair_decide.declared.query.Query.{Query}
+use Rattle.swept_queries.specs.sweep.pair_decide.Query.{Query}
 use Rattle.swept_queries.specs.sweep.pair_decide.Queries.{IsQuery, IsTrivial, assigned_to, roots_of}
 use Rattle.swept_queries.specs.sweep.pair_decide.Answers.{IsDifference}
 use Rattle.swept_queries.proofs.sweep.pair_decide.Reached.{same-root}

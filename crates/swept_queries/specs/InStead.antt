@@ -1,13 +1,13 @@
 -- Queries that are decided in the stead of others.
 use Rattle.std.specs.Prelude.{◌≡◌, ◌⊎◌, ℕ, ◌*◌, ◌<◌, Bool, List, [], ◌∷◌, length, slice_get, Option, Some, None}
 use Rattle.std.specs.List.{Contains}
-use Rattle.swept_queries.specs.sweep.aig.declared.node.Node.{Node}
-use Rattle.swept_queries.specs.sweep.aig.declared.node.Node.TheVariants.{Input}
+use Rattle.swept_queries.specs.sweep.aig.Node.{Node}
+use Rattle.swept_queries.specs.sweep.aig.Node.TheVariants.{Input}
 use Rattle.swept_queries.specs.sweep.aig.Graph.{IsGraph, vars_of}
 use Rattle.swept_queries.specs.sweep.aig.Cone.{IsReached}
 use Rattle.swept_queries.specs.sweep.aig.Values.{value}
-use Rattle.swept_queries.specs.sweep.pair_decide.declared.query.Query.{Query}
-use Rattle.swept_queries.specs.sweep.pair_decide.declared.query.Decision.{Decision}
+use Rattle.swept_queries.specs.sweep.pair_decide.Query.{Query}
+use Rattle.swept_queries.specs.sweep.pair_decide.Decision.{Decision}
 use Rattle.swept_queries.specs.sweep.pair_decide.Queries as asks
 use Rattle.swept_queries.specs.sweep.pair_decide.Queries.{IsQuery}
 use Rattle.swept_queries.specs.sweep.pair_decide.Answers.{Decides}

@@ -1,6 +1,6 @@
 -- Assignments of a table of signatures, by their numbers.
 use Rattle.std.specs.Prelude.{◌≡◌, ◌≢◌, ℕ, ◌/◌, ◌%◌, ◌<◌, ◌==◌, Bool, true, List, [], map, slice_index_or}
-use Rattle.swept_queries.specs.sweep.aig.declared.node.Node.{Node}
+use Rattle.swept_queries.specs.sweep.aig.Node.{Node}
 use Rattle.swept_queries.specs.sweep.aig.Values.{value}
 use Rattle.swept_queries.specs.sweep.lane_eval.Blocks.{block_bit, turned}
 use Rattle.swept_queries.specs.sweep.lane_eval.Signatures.{word_lane}

@@ -1,6 +1,6 @@
 -- The literals of queries as the roots of a sweep, three for each query.
 use Rattle.std.specs.Prelude.{◌≡◌, ℕ, ◌+◌, ◌*◌, List, [], ◌∷◌, ◌++◌, Some, slice_get}
-use Rattle.swept_queries.specs.sweep.aig.declared.node.Lit.{Lit}
+use Rattle.swept_queries.specs.sweep.aig.Lit.{Lit}
 use Rattle.swept_queries.specs.declared.sides.Sides.{Sides}
 use Rattle.swept_queries.specs.declared.sides.Known.{Known}
 use Rattle.swept_queries.specs.declared.sides.Known.TheVariants.{Nothing, Swept, Apart}

@@ -1,9 +1,9 @@
 //! Sweeping the queries, and deciding them.
 
 ghost use Rattle.std.specs.Prelude.{◌≡◌, ◌*◌, ◌<◌, ◌≤◌, List, length, All, IfOk};
-ghost use Rattle.swept_queries.specs.sweep.aig.declared.node.Node.{Node};
+ghost use Rattle.swept_queries.specs.sweep.aig.Node.{Node};
 ghost use Rattle.swept_queries.specs.sweep.aig.Graph.{vars_of};
-ghost use Rattle.swept_queries.specs.sweep.pair_decide.declared.query.Query.{Query};
+ghost use Rattle.swept_queries.specs.sweep.pair_decide.Query.{Query};
 ghost use Rattle.swept_queries.specs.sweep.pair_decide.Queries.{IsQuery};
 ghost use Rattle.swept_queries.specs.sweep.Swept.{IsSwept};
 ghost use Rattle.swept_queries.specs.Lanes.{DiffersAt};

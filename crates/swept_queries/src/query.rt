@@ -1,8 +1,8 @@
 //! One query over the swept graph.
 
 ghost use Rattle.std.specs.Prelude.{◌≡◌, ℕ, List, Contains, slice_get, IfOk, IfSome, IsTrue};
-ghost use Rattle.swept_queries.specs.sweep.aig.declared.node.Node.{Node};
-ghost use Rattle.swept_queries.specs.sweep.aig.declared.node.Node.TheVariants.{Input};
+ghost use Rattle.swept_queries.specs.sweep.aig.Node.{Node};
+ghost use Rattle.swept_queries.specs.sweep.aig.Node.TheVariants.{Input};
 ghost use Rattle.swept_queries.specs.sweep.pair_decide.Queries.{IsQuery};
 ghost use Rattle.swept_queries.specs.InStead.{AreWithin, sides_of, ReadsOnly, StandFor, IsInStead};
 

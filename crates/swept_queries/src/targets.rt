@@ -1,7 +1,7 @@
 //! Which nodes a sweep tries: those of queries whose sides are still different literals.
 
 ghost use Rattle.std.specs.Prelude.{◌≡◌, ◌*◌, ◌<◌, List, length, All, IfOk, IfSome, OnOk};
-ghost use Rattle.swept_queries.specs.sweep.aig.declared.node.Node.{Node};
+ghost use Rattle.swept_queries.specs.sweep.aig.Node.{Node};
 ghost use Rattle.swept_queries.specs.declared.sides.Known.TheVariants as what;
 ghost use Rattle.swept_queries.specs.InStead.{AreKnownWithin};
 

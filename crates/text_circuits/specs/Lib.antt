@@ -1,1 +1,1 @@
-pub use Rattle.sec_files.specs as sec_files
+pub mod sec_files

@@ -7,12 +7,12 @@ use Rattle.flat_net.specs.View.{NetView, circuit_of}
 use Rattle.sec_base.specs.declared.basics.PairAnswer.{PairAnswer}
 use Rattle.sec_base.specs.declared.basics.PairAnswer.TheVariants as answer
 use Rattle.sec_base.specs.declared.settings.Settings.{Settings}
-use Rattle.obligations.specs.pair_decide.declared.query.Proof.{Proof}
-use Rattle.obligations.specs.outcome.declared.verdict.Outcome.{Outcome}
-use Rattle.obligations.specs.outcome.declared.verdict.PairResult.{PairResult}
-use Rattle.obligations.specs.outcome.declared.verdict.Verdict.{Verdict}
-use Rattle.obligations.specs.outcome.declared.verdict.Verdict.TheVariants as verdict
-use Rattle.obligations.specs.outcome.declared.verdict.Why.TheVariants as why
+use Rattle.obligations.specs.pair_decide.Proof.{Proof}
+use Rattle.obligations.specs.outcome.Outcome.{Outcome}
+use Rattle.obligations.specs.outcome.PairResult.{PairResult}
+use Rattle.obligations.specs.outcome.Verdict.{Verdict}
+use Rattle.obligations.specs.outcome.Verdict.TheVariants as verdict
+use Rattle.obligations.specs.outcome.Why.TheVariants as why
 use Rattle.witness_report.specs.declared.witness.Witness.{Witness}
 use Rattle.outcome_fits.specs.Cuts.{columns_of, is_cut}
 use Rattle.outcome_fits.specs.Pairs.{NamedPair, named_pairs}

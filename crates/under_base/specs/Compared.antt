@@ -7,10 +7,10 @@ use Rattle.flat_net.specs.View.{NetView, circuit_of, ports_of}
 use Rattle.witness_report.specs.declared.witness.Witness.{Witness}
 use Rattle.witness_report.specs.Shown.{MakesDiffer, MakesCutsDiffer}
 use Rattle.sec_base.specs.declared.settings.Settings.{Settings}
-use Rattle.obligations.specs.outcome.declared.verdict.Verdict.TheVariants as verdict
-use Rattle.obligations.specs.outcome.declared.verdict.Why.TheVariants as why
-use Rattle.obligations.specs.outcome.declared.verdict.Outcome.{Outcome}
-use Rattle.obligations.specs.outcome.declared.verdict.ResetWitness.{ResetWitness}
+use Rattle.obligations.specs.outcome.Verdict.TheVariants as verdict
+use Rattle.obligations.specs.outcome.Why.TheVariants as why
+use Rattle.obligations.specs.outcome.Outcome.{Outcome}
+use Rattle.obligations.specs.outcome.ResetWitness.{ResetWitness}
 use Rattle.sec_setup.specs.Matching.{InterfacesMatch}
 use Rattle.outcome_fits.specs.Pairs.{named_pairs}
 use Rattle.outcome_fits.specs.Fitting.{IsLight}

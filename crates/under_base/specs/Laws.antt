@@ -5,9 +5,9 @@ use Rattle.circuit_theory.specs.Circuit.{Circuit}
 use Rattle.flat_net.specs.View.{NetView, circuit_of}
 use Rattle.witness_report.specs.Shown.{MakesDiffer}
 use Rattle.sec_base.specs.declared.settings.Settings.{Settings}
-use Rattle.obligations.specs.outcome.declared.verdict.Outcome.{Outcome}
-use Rattle.obligations.specs.outcome.declared.verdict.Verdict.{Verdict}
-use Rattle.obligations.specs.outcome.declared.verdict.Verdict.TheVariants as verdict
+use Rattle.obligations.specs.outcome.Outcome.{Outcome}
+use Rattle.obligations.specs.outcome.Verdict.{Verdict}
+use Rattle.obligations.specs.outcome.Verdict.TheVariants as verdict
 use Rattle.assume_laws.specs.Assume.{Assumption, AgreeUnder}
 use Rattle.assume_laws.specs.Sequences.{RowsMeet}
 use Rattle.assume_sequences.specs.assume_taken.Taken.{assumed_by}

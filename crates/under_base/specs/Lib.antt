@@ -1,4 +1,3 @@
-pub use Rattle.assume_sequences.specs.assume_taken.Taken
 pub mod Met
 pub mod Sizes
 pub mod Compared
@@ -6,3 +5,4 @@ pub mod Laws
 pub mod Refusals
 pub mod compare_base
 pub mod under_fits
+pub use Rattle.assume_sequences.specs.assume_taken.Taken

@@ -3,10 +3,10 @@ use Rattle.std.specs.Prelude.{◌≡◌, ℕ, Bool, List, [], length, Some}
 use Rattle.circuit_theory.specs.Interface.{shared_inputs}
 use Rattle.flat_net.specs.Sound.{IsSound}
 use Rattle.flat_net.specs.View.{NetView, ports_of}
-use Rattle.obligations.specs.pair_decide.declared.query.Proof.{Proof}
-use Rattle.obligations.specs.outcome.declared.verdict.LimitAt.TheVariants as limit_at
-use Rattle.obligations.specs.outcome.declared.verdict.Outcome.{Outcome}
-use Rattle.obligations.specs.outcome.declared.verdict.Verdict.TheVariants as verdict
+use Rattle.obligations.specs.pair_decide.Proof.{Proof}
+use Rattle.obligations.specs.outcome.LimitAt.TheVariants as limit_at
+use Rattle.obligations.specs.outcome.Outcome.{Outcome}
+use Rattle.obligations.specs.outcome.Verdict.TheVariants as verdict
 use Rattle.sec_setup.specs.Matching.{InterfacesMatch}
 use Rattle.assume_sequences.specs.assume_taken.Asked.{IsKeptRow}
 use Rattle.assume_sequences.specs.assume_taken.Taken.{IsAssumed, assumed_by, IsUndecidedBy}

@@ -1,3 +1,6 @@
+pub mod Compared
+pub mod FromReset
+pub mod Says
 pub use Rattle.reset_functions.specs.declared.error.ResetError
 pub use Rattle.outcome_fits.specs.Limits
 pub use Rattle.outcome_fits.specs.Outcome
@@ -7,6 +10,3 @@ pub use Rattle.outcome_fits.specs.Cuts
 pub use Rattle.sec_setup.specs.Matching
 pub use Rattle.sec_setup.specs.declared.error.SetupError
 pub use Rattle.outcome_fits.specs.Fitting
-pub mod Compared
-pub mod FromReset
-pub mod Says

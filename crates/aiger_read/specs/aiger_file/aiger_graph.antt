@@ -1,4 +1,4 @@
 pub mod Circuit
 pub mod Literals
 pub mod Loops
-pub use Rattle.net_assembly.specs as net_assembly
+pub mod net_assembly

@@ -1,8 +1,8 @@
 -- The shape of an assumption, and its first fault.
 use Rattle.std.specs.Prelude.{◌≡◌, ◌≢◌, ℕ, ◌<◌, List, [], ◌∷◌, length, Option, Some, None, slice_get}
 use Rattle.std.specs.List.{All, Contains}
-use Rattle.interface.specs.flat_net.declared.parts.Port.{Port}
-use Rattle.interface.specs.flat_net.declared.parts.LatchAt.{LatchAt}
+use Rattle.interface.specs.flat_net.Port.{Port}
+use Rattle.interface.specs.flat_net.LatchAt.{LatchAt}
 use Rattle.interface.specs.flat_net.View.{NetView, circuit_of}
 use Rattle.assume_laws.specs.Assume.{Assumption}
 use Rattle.assume_laws.specs.declared.assume_shape.shape.ShapeFault.{ShapeFault}

@@ -3,7 +3,7 @@ use Rattle.std.proofs.Common.{◌≡◌, ◌+◌, ◌≤◌, ℕ, List, [], ◌�
 use Rattle.std.specs.Prelude.{◌⊎◌}
 use Rattle.std.specs.List.{Contains}
 use Rattle.base_tables.specs.unique_table.Places.{IsWith}
-use Rattle.event_nodes.specs.flat_net.declared.parts.LatchAt.{LatchAt}
+use Rattle.event_nodes.specs.flat_net.LatchAt.{LatchAt}
 use Rattle.event_nodes.specs.Adds.{Adds}
 use Rattle.event_nodes.specs.View.{EventCircuitView, Enabled}
 use Rattle.event_nodes.proofs.Lists.{adds_none, adds_push, adds_weaker, adds_contains, adds_at}

@@ -7,9 +7,9 @@ use Rattle.circuit_theory.specs.Circuit.{Reads}
 use Rattle.circuit_theory.specs.EventSizes.{Start}
 use Rattle.circuit_theory.specs.EventTotals.{StartLatches}
 use Rattle.circuit_theory.specs.Frame.{NotPut, IsNode}
-use Rattle.event_nodes.specs.flat_net.declared.signals.Signal.{Signal}
-use Rattle.event_nodes.specs.flat_net.declared.parts.LatchAt.{LatchAt}
-use Rattle.event_nodes.specs.flat_net.declared.parts.Driver.TheVariants as driver
+use Rattle.event_nodes.specs.flat_net.Signal.{Signal}
+use Rattle.event_nodes.specs.flat_net.LatchAt.{LatchAt}
+use Rattle.event_nodes.specs.flat_net.Driver.TheVariants as driver
 use Rattle.event_nodes.specs.flat_net.Sound.{IsSound}
 use Rattle.event_nodes.specs.flat_net.View.{NetView, circuit_of}
 use Rattle.event_nodes.proofs.flat_net.Places.{one_at}

@@ -1,7 +1,7 @@
 //! Where a latch takes over its data.
 
 ghost use Rattle.std.specs.Prelude.{◌≡◌, ◌+◌, ◌^◌, ◌<◌, ◌≤◌, length, slice_get, Some, Contains, IfOk};
-ghost use Rattle.event_nodes.specs.flat_net.declared.parts.LatchAt.{LatchAt};
+ghost use Rattle.event_nodes.specs.flat_net.LatchAt.{LatchAt};
 ghost use Rattle.event_nodes.specs.Adds.{Adds};
 ghost use Rattle.event_literals.specs.event_walk.Walk.{IsEntry, AreWays};
 

@@ -3,7 +3,7 @@
 ghost use Rattle.std.specs.Prelude.{◌≡◌, ◌⊎◌, ℕ, List, ◌+◌, ◌*◌, ◌^◌, ◌<◌, ◌≤◌, [], ◌∷◌, ◌++◌, length, slice_get, Some, All, Contains, IfOk, OnOk, OnErr, Err};
 ghost use Rattle.event_nodes.specs.flat_net.Sound.{IsSound};
 ghost use Rattle.circuit_theory.specs.EventSizes.{Start};
-ghost use Rattle.event_nodes.specs.flat_net.declared.parts.Driver.TheVariants as driver;
+ghost use Rattle.event_nodes.specs.flat_net.Driver.TheVariants as driver;
 ghost use Rattle.event_nodes.specs.declared.error.EventUnfoldError.TheVariants as unfold_error;
 ghost use Rattle.event_nodes.specs.Adds.{Adds};
 ghost use Rattle.event_nodes.specs.Nodes.{GrowsEvents, IsTree};

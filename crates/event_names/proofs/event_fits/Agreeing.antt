@@ -21,7 +21,7 @@ use Rattle.interface.specs.declared.pairs.SignalPair.{SignalPair}
 use Rattle.interface.specs.Pairs.{NamedPair, named_pairs, places_of}
 use Rattle.sec_base.specs.declared.basics.PairAnswer.{PairAnswer}
 use Rattle.sec_base.specs.declared.basics.PairAnswer.TheVariants as answer
-use Rattle.reset_functions.specs.pair_decide.declared.query.Proof.{Proof}
+use Rattle.reset_functions.specs.pair_decide.Proof.{Proof}
 use Rattle.under_base.specs.compare_base.Cuts.{columns_of}
 use Rattle.event_setup.proofs.read_inputs.CutNets.{cut_numbered}
 use Rattle.outcome.specs.declared.verdict.PairResult.{PairResult}

@@ -5,7 +5,7 @@ use Rattle.circuit_theory.specs.Interface.{shared_inputs}
 use Rattle.circuit_theory.specs.Classes.{classes_of}
 use Rattle.flat_net.specs.View.{NetView, circuit_of, ports_of}
 use Rattle.sec_base.specs.declared.basics.Tag.{Tag}
-use Rattle.reset_functions.specs.pair_decide.declared.query.Proof.{Proof}
+use Rattle.reset_functions.specs.pair_decide.Proof.{Proof}
 use Rattle.interface.specs.Pairs.{named_pairs, places_of}
 use Rattle.outcome.specs.declared.verdict.LimitAt.{LimitAt}
 use Rattle.outcome.specs.declared.verdict.LimitAt.TheVariants as limit_at

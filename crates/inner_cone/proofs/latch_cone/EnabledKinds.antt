@@ -4,8 +4,8 @@ use Rattle.std.proofs.lemmas.List.{length-replicate}
 use Rattle.std.proofs.lemmas.Option.{slice_get_within, same_Some}
 use Rattle.flat_net.specs.circuit_theory.Circuit.{Circuit}
 use Rattle.flat_net.specs.circuit_theory.Agree.{EnabledIn}
-use Rattle.flat_net.specs.circuit_theory.declared.Mode.{Mode}
-use Rattle.flat_net.specs.circuit_theory.declared.Mode.TheVariants.{Plain, Event}
+use Rattle.flat_net.specs.circuit_theory.Mode.{Mode}
+use Rattle.flat_net.specs.circuit_theory.Mode.TheVariants.{Plain, Event}
 use Rattle.flat_net.proofs.circuit_theory.Numbers.{slice_get-map}
 use Rattle.flat_net.specs.declared.parts.LatchAt.{LatchAt}
 use Rattle.flat_net.specs.View.{NetView, circuit_of}

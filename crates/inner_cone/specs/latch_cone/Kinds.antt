@@ -2,8 +2,8 @@
 use Rattle.std.specs.Prelude.{◌≡◌, ℕ, Bool, true, false, List, length, slice_get, Some}
 use Rattle.flat_net.specs.circuit_theory.Circuit.{Circuit, IsLatch, InCone}
 use Rattle.flat_net.specs.circuit_theory.Run.{IsEnabled}
-use Rattle.flat_net.specs.circuit_theory.declared.Mode.{Mode}
-use Rattle.flat_net.specs.circuit_theory.declared.Mode.TheVariants.{Plain, Event}
+use Rattle.flat_net.specs.circuit_theory.Mode.{Mode}
+use Rattle.flat_net.specs.circuit_theory.Mode.TheVariants.{Plain, Event}
 use Rattle.flat_net.specs.declared.parts.LatchAt.{LatchAt}
 use Rattle.flat_net.specs.View.{NetView, circuit_of}
 use Rattle.inner_cone.specs.declared.latch_cone.kinds.LatchKind.{LatchKind}

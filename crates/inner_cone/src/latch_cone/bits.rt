@@ -1,7 +1,7 @@
 //! Bits that say which latches count as enabled.
 
 ghost use Rattle.std.specs.Prelude.{◌≡◌, false, length, replicate, IfOk};
-ghost use Rattle.flat_net.specs.circuit_theory.declared.Mode.TheVariants.{Plain};
+ghost use Rattle.flat_net.specs.circuit_theory.Mode.TheVariants.{Plain};
 ghost use Rattle.inner_cone.specs.latch_cone.Cones.{MarksEnabled};
 
 use flat_net::{Bits, Net, NoMemory, Seq};

@@ -1,8 +1,8 @@
 //! What is known of each latch: whether it has a load enable.
 
 ghost use Rattle.std.specs.Prelude.{◌≡◌, length, map, IfOk};
-ghost use Rattle.flat_net.specs.circuit_theory.declared.Mode.{Mode};
-ghost use Rattle.flat_net.specs.circuit_theory.declared.Mode.TheVariants.{Plain};
+ghost use Rattle.flat_net.specs.circuit_theory.Mode.{Mode};
+ghost use Rattle.flat_net.specs.circuit_theory.Mode.TheVariants.{Plain};
 ghost use Rattle.flat_net.specs.View.{NetView};
 ghost use Rattle.inner_cone.specs.latch_cone.Cones.{MarksEnabled};
 ghost use Rattle.inner_cone.specs.latch_cone.Kinds.{AreKindsIn, is_enabled};

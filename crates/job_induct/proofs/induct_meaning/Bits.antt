@@ -19,9 +19,9 @@ use Rattle.latch_blocks.specs.Blocks.{block_at}
 use Rattle.latch_blocks.specs.Readings.{AreRead}
 use Rattle.latch_blocks.specs.Signals.{variable_at, variable_of}
 use Rattle.latch_blocks.specs.declared.variables.Variables.{Variables}
-use Rattle.induct.specs.block_refine.declared.block_graph.nets.BlockNets.{BlockNets}
-use Rattle.induct.specs.block_refine.declared.block_graph.graph.BlockGraph.{BlockGraph}
-use Rattle.induct.specs.block_refine.block_graph.Graph.{IsBlockGraph}
+use Rattle.induct.specs.block_refine.BlockNets.{BlockNets}
+use Rattle.induct.specs.block_refine.BlockGraph.{BlockGraph}
+use Rattle.induct.specs.block_refine.Graph.{IsBlockGraph}
 use Rattle.induct.specs.Inductions.{variable_told}
 use Rattle.job_induct.specs.induct_meaning.Answer.{shared_count, HaveBits}
 

@@ -14,7 +14,7 @@ use Rattle.blif_read.specs.Design.{Place}
 use Rattle.pair_decide.specs.declared.query.Proof.{Proof}
 use Rattle.latch_blocks.specs.Blocks.{block_at}
 use Rattle.latch_blocks.specs.QueryLaws.{AreBlockValues}
-use Rattle.induct.specs.induct_report.block_refine.declared.refinement.SplitLimit.{SplitLimit}
+use Rattle.induct.specs.induct_report.block_refine.SplitLimit.{SplitLimit}
 use Rattle.induct.specs.induct_report.block_refine.Refining.{IsSplitLimit}
 use Rattle.induct.specs.block_outputs.Answers.{IsLimit}
 use Rattle.sec_files.specs.Loading.{IsAccepted, Loads, SpellsCircuit}

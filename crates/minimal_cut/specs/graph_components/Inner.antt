@@ -1,6 +1,6 @@
 -- Nodes with those of their readings that can be part of a cycle.
 use Rattle.std.specs.Prelude.{◌≡◌, ℕ, ◌≤◌, ◌==◌, List, length, filter, slice_get, slice_index_or, Some}
-use Rattle.signal_graph.specs.flat_net.declared.signals.Signal.{Signal}
+use Rattle.signal_graph.specs.flat_net.Signal.{Signal}
 use Rattle.signal_graph.specs.declared.nodes.Node.{Node}
 
 -- no signal reads one with a greater number

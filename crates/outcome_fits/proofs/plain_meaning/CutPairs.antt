@@ -16,14 +16,14 @@ use Rattle.circuit_theory.proofs.Inputs.{same_name-sound}
 use Rattle.circuit_theory.proofs.Numbers.{slice_get-map}
 use Rattle.circuit_laws.proofs.Onward.{latch_named-found}
 use Rattle.circuit_laws.proofs.Pairs.{pairs_are_listed}
-use Rattle.sec_setup.specs.flat_net.declared.parts.Port.{Port}
+use Rattle.sec_setup.specs.flat_net.Port.{Port}
 use Rattle.sec_setup.specs.flat_net.View.{NetView, named, circuit_of}
 use Rattle.sec_setup.specs.flat_net.Table.{AreDistinct}
-use Rattle.sec_setup.specs.sec_base.declared.basics.PairAnswer.{PairAnswer}
-use Rattle.sec_setup.specs.sec_base.declared.basics.PairAnswer.TheVariants as answer
-use Rattle.obligations.specs.pair_decide.declared.query.Proof.{Proof}
-use Rattle.sec_setup.specs.witness_report.declared.witness.PairName.{PairName}
-use Rattle.sec_setup.specs.witness_report.declared.witness.PairName.TheVariants as pair
+use Rattle.sec_setup.specs.sec_base.PairAnswer.{PairAnswer}
+use Rattle.sec_setup.specs.sec_base.PairAnswer.TheVariants as answer
+use Rattle.obligations.specs.pair_decide.Proof.{Proof}
+use Rattle.sec_setup.specs.witness_report.PairName.{PairName}
+use Rattle.sec_setup.specs.witness_report.PairName.TheVariants as pair
 use Rattle.obligations.specs.PairResult.{PairResult}
 use Rattle.outcome_fits.specs.Outcome.{AnswerFits, PairFits, PairsFit, greatest_size}
 use Rattle.sec_setup.specs.Pairs.{NamedPair, pair_called, named_pairs}

@@ -6,10 +6,10 @@ use Rattle.std.proofs.lemmas.Option.{none-some}
 use Rattle.circuit_theory.specs.Agree.{place_named, latch_named, second_of_pair}
 use Rattle.circuit_theory.specs.Circuit.{Circuit, Named}
 use Rattle.circuit_theory.proofs.Lists.{Contains-head, Contains-tail, Contains-cases, filter_map-from}
-use Rattle.sec_setup.specs.sec_base.declared.basics.PairAnswer.{PairAnswer}
-use Rattle.sec_setup.specs.sec_base.declared.basics.PairAnswer.TheVariants as answer
-use Rattle.sec_setup.specs.witness_report.declared.witness.PairName.TheVariants as pair
-use Rattle.obligations.specs.pair_decide.declared.query.Proof.{Proof}
+use Rattle.sec_setup.specs.sec_base.PairAnswer.{PairAnswer}
+use Rattle.sec_setup.specs.sec_base.PairAnswer.TheVariants as answer
+use Rattle.sec_setup.specs.witness_report.PairName.TheVariants as pair
+use Rattle.obligations.specs.pair_decide.Proof.{Proof}
 use Rattle.obligations.specs.PairResult.{PairResult}
 use Rattle.sec_setup.specs.Cuts.{is_cut}
 use Rattle.sec_setup.specs.Pairs.{NamedPair, pair_called, named_pairs}

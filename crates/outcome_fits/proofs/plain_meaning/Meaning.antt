@@ -16,21 +16,21 @@ use Rattle.circuit_laws.proofs.Onward.{cut_input, cut_run}
 use Rattle.circuit_laws.proofs.TreeDepth.{tree_depth}
 use Rattle.circuit_laws.proofs.CutLaws.{cut_single}
 use Rattle.circuit_laws.proofs.LawProofs.{exposed_functions_agree}
-use Rattle.sec_setup.specs.flat_net.declared.parts.Port.{Port}
+use Rattle.sec_setup.specs.flat_net.Port.{Port}
 use Rattle.sec_setup.specs.flat_net.View.{NetView, circuit_of}
 use Rattle.sec_setup.specs.flat_net.Sound.{IsSound}
 use Rattle.sec_setup.proofs.flat_net.Nets.{sound_is_net, sound_names}
 use Rattle.sec_setup.specs.flat_net.Table.{AreDistinct}
-use Rattle.sec_setup.specs.sec_base.declared.basics.PairAnswer.{PairAnswer}
-use Rattle.sec_setup.specs.sec_base.declared.basics.PairAnswer.TheVariants as answer
-use Rattle.sec_setup.specs.witness_report.declared.witness.PairName.{PairName}
-use Rattle.sec_setup.specs.witness_report.declared.stimulus.Stimulus.{Stimulus}
-use Rattle.sec_setup.specs.witness_report.declared.witness.Witness.{Witness}
+use Rattle.sec_setup.specs.sec_base.PairAnswer.{PairAnswer}
+use Rattle.sec_setup.specs.sec_base.PairAnswer.TheVariants as answer
+use Rattle.sec_setup.specs.witness_report.PairName.{PairName}
+use Rattle.sec_setup.specs.witness_report.Stimulus.{Stimulus}
+use Rattle.sec_setup.specs.witness_report.Witness.{Witness}
 use Rattle.obligations.specs.PairResult.{PairResult}
-use Rattle.obligations.specs.outcome.declared.verdict.Verdict.{Verdict}
-use Rattle.obligations.specs.outcome.declared.verdict.Verdict.TheVariants as verdict
-use Rattle.obligations.specs.outcome.declared.verdict.Why.TheVariants as why
-use Rattle.obligations.specs.outcome.declared.verdict.Outcome.{Outcome}
+use Rattle.obligations.specs.outcome.Verdict.{Verdict}
+use Rattle.obligations.specs.outcome.Verdict.TheVariants as verdict
+use Rattle.obligations.specs.outcome.Why.TheVariants as why
+use Rattle.obligations.specs.outcome.Outcome.{Outcome}
 use Rattle.outcome_fits.specs.Outcome.{AnswerFits, PairFits, IsFirstOfAnswer, NoneIs, VerdictFits}
 use Rattle.sec_setup.specs.Pairs.{NamedPair, named_pairs}
 use Rattle.outcome_fits.specs.plain_meaning.Equal.{AreEqual}

@@ -14,7 +14,7 @@ use Rattle.circuit_theory.specs.Interface.{AreNumbersOf}
 use Rattle.circuit_theory.proofs.Lists.{Contains-head, Contains-tail, of_at}
 use Rattle.circuit_theory.proofs.Numbers.{slice_get-map, beside_at}
 use Rattle.circuit_laws.proofs.Windows.{row_value-is}
-use Rattle.sec_setup.specs.witness_report.declared.witness.Witness.{Witness}
+use Rattle.sec_setup.specs.witness_report.Witness.{Witness}
 use Rattle.sec_setup.specs.witness_report.Shown.{Obeys}
 use Rattle.outcome_fits.proofs.plain_meaning.Leaves.{run_by_leaves, shared_name}
 

@@ -9,8 +9,8 @@ use Rattle.circuit_theory.specs.Cone.{latches_of, latch_place}
 use Rattle.circuit_theory.proofs.Lists.{Contains-head, Contains-tail, Contains-cases, filter_map-from, at_of, of_at}
 use Rattle.circuit_theory.proofs.Numbers.{slice_get-map}
 use Rattle.base_tables.proofs.TableLemmas.{key_at}
-use Rattle.flat_net.specs.sec_base.declared.basics.Init.{Init}
-use Rattle.flat_net.specs.sec_base.declared.basics.Init.TheVariants as init
+use Rattle.flat_net.specs.sec_base.Init.{Init}
+use Rattle.flat_net.specs.sec_base.Init.TheVariants as init
 use Rattle.flat_net.specs.declared.parts.Gate.{Gate}
 use Rattle.flat_net.specs.declared.parts.LatchAt.{LatchAt}
 use Rattle.flat_net.specs.declared.parts.Driver.TheVariants as driver

@@ -6,8 +6,8 @@ use Rattle.std.proofs.lemmas.List.Elements.{All-head, All-tail, All-cons, All-ni
 use Rattle.std.proofs.lemmas.Option.{slice_get-get_or}
 use Rattle.circuit_theory.specs.Agree.{IsMinimalCut}
 use Rattle.circuit_theory.specs.declared.Mode.{Mode}
-use Rattle.latch_graph.specs.flat_net.declared.parts.LatchAt.{LatchAt}
-use Rattle.latch_graph.specs.flat_net.declared.parts.Driver.TheVariants as driver
+use Rattle.latch_graph.specs.flat_net.LatchAt.{LatchAt}
+use Rattle.latch_graph.specs.flat_net.Driver.TheVariants as driver
 use Rattle.latch_graph.specs.flat_net.View.{NetView, circuit_of}
 use Rattle.latch_graph.specs.flat_net.Sound.{IsSound}
 use Rattle.latch_graph.specs.flat_net.Cut.{no_latch, latch_at, exposed_names}

@@ -13,8 +13,8 @@ use Rattle.circuit_theory.specs.Names.{is_among}
 use Rattle.circuit_theory.specs.Flattened.{latch_names}
 use Rattle.circuit_theory.proofs.Lists.{Contains-map, Contains-map_from, All-from_each, at_of, of_at}
 use Rattle.circuit_theory.proofs.Numbers.{is_among-sound, is_among-complete}
-use Rattle.latch_graph.specs.flat_net.declared.parts.Gate.{Gate}
-use Rattle.latch_graph.specs.flat_net.declared.parts.LatchAt.{LatchAt}
+use Rattle.latch_graph.specs.flat_net.Gate.{Gate}
+use Rattle.latch_graph.specs.flat_net.LatchAt.{LatchAt}
 use Rattle.latch_graph.specs.flat_net.View.{NetView, circuit_of, equation_of_gate, equation_of_latch}
 use Rattle.latch_graph.specs.flat_net.Cut.{no_latch, latch_at, exposed_names}
 use Rattle.latch_graph.proofs.flat_net.Places.{All-at}

@@ -8,7 +8,7 @@ use Rattle.circuit_theory.specs.Depth.{IsCycle, BeginsWithLeast}
 use Rattle.circuit_theory.specs.declared.Mode.{Mode}
 use Rattle.circuit_theory.specs.declared.Side.TheVariants.{A, B}
 use Rattle.circuit_theory.specs.Agree.{EnabledIn}
-use Rattle.latch_graph.specs.flat_net.declared.parts.LatchAt.{LatchAt}
+use Rattle.latch_graph.specs.flat_net.LatchAt.{LatchAt}
 use Rattle.latch_graph.specs.flat_net.View.{NetView, circuit_of}
 use Rattle.latch_graph.specs.flat_net.Cut.{no_latch, latch_at, exposed_names}
 use Rattle.latch_graph.proofs.flat_net.Nets.{latch_stands}

@@ -4,7 +4,7 @@ use Rattle.std.specs.List.{All, AllPairs, filter}
 use Rattle.circuit_theory.specs.Circuit.{Circuit}
 use Rattle.circuit_theory.specs.Names.{is_among}
 use Rattle.circuit_theory.specs.Flattened.{latch_names}
-use Rattle.latch_graph.specs.flat_net.declared.parts.LatchAt.{LatchAt}
+use Rattle.latch_graph.specs.flat_net.LatchAt.{LatchAt}
 use Rattle.latch_graph.specs.flat_net.View.{NetView, circuit_of}
 use Rattle.latch_graph.specs.flat_net.Cut.{no_latch, exposed_names}
 use Rattle.sec_setup.specs.declared.cut_points.expose_pick.pairs.LatchPair.{LatchPair}

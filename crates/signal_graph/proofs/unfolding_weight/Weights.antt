@@ -4,11 +4,11 @@ use Rattle.std.specs.Prelude.{◌⊎◌, slice_get, IfSome, IfNone}
 use Rattle.std.specs.List.{Contains, AllPairs, sum_by}
 use Rattle.std.proofs.lemmas.List.Sums.{sum_by-cons, sum_by-append}
 use Rattle.std.proofs.lemmas.Option.{slice_get_within}
-use Rattle.inner_cone.specs.flat_net.declared.signals.Signal.{Signal}
-use Rattle.inner_cone.specs.flat_net.declared.parts.Gate.{Gate}
-use Rattle.inner_cone.specs.flat_net.declared.parts.LatchAt.{LatchAt}
-use Rattle.inner_cone.specs.flat_net.declared.parts.Driver.{Driver}
-use Rattle.inner_cone.specs.flat_net.declared.parts.Driver.TheVariants as driver
+use Rattle.inner_cone.specs.flat_net.Signal.{Signal}
+use Rattle.inner_cone.specs.flat_net.Gate.{Gate}
+use Rattle.inner_cone.specs.flat_net.LatchAt.{LatchAt}
+use Rattle.inner_cone.specs.flat_net.Driver.{Driver}
+use Rattle.inner_cone.specs.flat_net.Driver.TheVariants as driver
 use Rattle.inner_cone.specs.flat_net.View.{NetView, circuit_of, cover_of}
 use Rattle.inner_cone.specs.flat_net.Sound.{IsSound, Drives}
 use Rattle.inner_cone.proofs.flat_net.Places.{one_at, cover_of-is}

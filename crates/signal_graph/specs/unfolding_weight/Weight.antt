@@ -4,10 +4,10 @@ use Rattle.std.specs.List.{Contains, sum_by}
 use Rattle.inner_cone.specs.circuit_theory.Circuit.{Circuit}
 use Rattle.inner_cone.specs.circuit_theory.Sizes.{IsWeight, IsOver, Visits}
 use Rattle.inner_cone.specs.flat_net.Table.{AreDistinct}
-use Rattle.inner_cone.specs.flat_net.declared.signals.Signal.{Signal}
-use Rattle.inner_cone.specs.flat_net.declared.parts.Gate.{Gate}
-use Rattle.inner_cone.specs.flat_net.declared.parts.Driver.{Driver}
-use Rattle.inner_cone.specs.flat_net.declared.parts.Driver.TheVariants as driver
+use Rattle.inner_cone.specs.flat_net.Signal.{Signal}
+use Rattle.inner_cone.specs.flat_net.Gate.{Gate}
+use Rattle.inner_cone.specs.flat_net.Driver.{Driver}
+use Rattle.inner_cone.specs.flat_net.Driver.TheVariants as driver
 use Rattle.signal_graph.specs.declared.nodes.Node.{Node}
 use Rattle.signal_graph.specs.Graph.{step_of}
 use Rattle.inner_cone.specs.flat_net.View.{NetView, circuit_of, cover_of}

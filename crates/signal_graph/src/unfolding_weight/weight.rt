@@ -2,7 +2,7 @@
 
 ghost use Rattle.std.specs.Prelude.{◌≡◌, ℕ, ◌+◌, ◌*◌, ◌^◌, ◌<◌, ◌≤◌, map, List, [], length, slice_get, Some, IfOk, IfSome, IfNone, OnOk};
 ghost use Rattle.inner_cone.specs.circuit_theory.Sizes.{IsOver};
-ghost use Rattle.inner_cone.specs.flat_net.declared.signals.Signal.{Signal};
+ghost use Rattle.inner_cone.specs.flat_net.Signal.{Signal};
 ghost use Rattle.inner_cone.specs.flat_net.View.{circuit_of};
 ghost use Rattle.signal_graph.specs.Graph.{ArePlainNodes, step_of};
 ghost use Rattle.signal_graph.specs.unfolding_weight.Weight.{Weighs, weight_of, AreMet, Stay, Meeting, IsVisited, AreVisited, AreThere, AreReadsThere};

@@ -4,7 +4,7 @@ use Rattle.std.proofs.Common.{◌≡◌, sym, subst, Result, Ok, Err}
 use Rattle.circuit_theory.specs.declared.Side.TheVariants.{A, B}
 use Rattle.flat_net.specs.View.{NetView}
 use Rattle.sec_base.specs.declared.settings.Settings.{Settings}
-use Rattle.obligations.specs.outcome.declared.verdict.Outcome.{Outcome}
+use Rattle.obligations.specs.outcome.Outcome.{Outcome}
 use Rattle.sec_setup.specs.declared.error.SetupError.{SetupError}
 use Rattle.sec_setup.specs.declared.error.SetupError.TheVariants as unset
 use Rattle.sec_setup.specs.Choosing.{Chosen}

@@ -8,10 +8,10 @@ use Rattle.flat_net.specs.Sound.{IsSound}
 use Rattle.flat_net.specs.View.{NetView, circuit_of, ports_of}
 use Rattle.witness_report.specs.declared.witness.Witness.{Witness}
 use Rattle.sec_base.specs.declared.settings.Settings.{Settings}
-use Rattle.obligations.specs.outcome.declared.verdict.Verdict.TheVariants as verdict
-use Rattle.obligations.specs.outcome.declared.verdict.Why.TheVariants as why
-use Rattle.obligations.specs.outcome.declared.verdict.Outcome.{Outcome}
-use Rattle.obligations.specs.outcome.declared.verdict.ResetWitness.{ResetWitness}
+use Rattle.obligations.specs.outcome.Verdict.TheVariants as verdict
+use Rattle.obligations.specs.outcome.Why.TheVariants as why
+use Rattle.obligations.specs.outcome.Outcome.{Outcome}
+use Rattle.obligations.specs.outcome.ResetWitness.{ResetWitness}
 use Rattle.reset_laws.specs.Reset.{AgreeFromReset}
 use Rattle.sec_setup.specs.cut_points.Common.{common_names}
 use Rattle.sec_setup.specs.cut_points.Exposed.{IsFreeWithout, IsToldCycle}

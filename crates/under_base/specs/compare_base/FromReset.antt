@@ -8,11 +8,11 @@ use Rattle.circuit_theory.specs.Fits.{IsPairDepth}
 use Rattle.circuit_theory.specs.Interface.{shared_inputs, AreNumbersOf}
 use Rattle.sec_base.specs.declared.basics.PairAnswer.TheVariants as answer
 use Rattle.flat_net.specs.View.{NetView, circuit_of, ports_of}
-use Rattle.obligations.specs.outcome.declared.verdict.LimitAt.TheVariants as limit_at
-use Rattle.obligations.specs.outcome.declared.verdict.Outcome.{Outcome}
-use Rattle.obligations.specs.outcome.declared.verdict.PairResult.{PairResult}
-use Rattle.obligations.specs.outcome.declared.verdict.Verdict.{Verdict}
-use Rattle.obligations.specs.outcome.declared.verdict.Verdict.TheVariants as verdict
+use Rattle.obligations.specs.outcome.LimitAt.TheVariants as limit_at
+use Rattle.obligations.specs.outcome.Outcome.{Outcome}
+use Rattle.obligations.specs.outcome.PairResult.{PairResult}
+use Rattle.obligations.specs.outcome.Verdict.{Verdict}
+use Rattle.obligations.specs.outcome.Verdict.TheVariants as verdict
 use Rattle.reset_laws.specs.Reset.{AreBased}
 use Rattle.outcome_fits.specs.Pairs.{NamedPair, named_pairs}
 use Rattle.outcome_fits.specs.ResetOutcome.{Numbered, PairFits, IsFirstDifference, IsFirstLimit, greatest_size}

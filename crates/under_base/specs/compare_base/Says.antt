@@ -10,8 +10,8 @@ use Rattle.circuit_theory.specs.Run.{IsRun, IsResetRun}
 use Rattle.witness_report.specs.declared.witness.PairName.TheVariants as pair
 use Rattle.witness_report.specs.declared.witness.Witness.{Witness}
 use Rattle.witness_report.specs.Shown.{Obeys, MakesDiffer, MakesCutsDiffer}
-use Rattle.obligations.specs.outcome.declared.verdict.Outcome.{Outcome}
-use Rattle.obligations.specs.outcome.declared.verdict.ResetWitness.{ResetWitness}
+use Rattle.obligations.specs.outcome.Outcome.{Outcome}
+use Rattle.obligations.specs.outcome.ResetWitness.{ResetWitness}
 use Rattle.reset_laws.specs.Reset.{AreAlikeFromReset, TakesPower}
 use Rattle.outcome_fits.specs.plain_meaning.Equal.{AreEqual}
 

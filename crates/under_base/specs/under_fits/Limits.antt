@@ -9,7 +9,7 @@ use Rattle.aig.specs.Graph.{IsGraph}
 use Rattle.aig.specs.Values.{value}
 use Rattle.cnf_encode.specs.Encoding.{IsEncoding}
 use Rattle.sat_search.specs.Found.{IsFruitless}
-use Rattle.obligations.specs.pair_decide.declared.query.Proof.{Proof}
+use Rattle.obligations.specs.pair_decide.Proof.{Proof}
 use Rattle.unfold_places.specs.Growing.{TakesBits}
 use Rattle.assume_laws.specs.Assume.{Assumption, MeetsAtVariables}
 use Rattle.assume_laws.specs.Sequences.{AreVariablesUnder}

@@ -5,8 +5,8 @@ use Rattle.circuit_theory.specs.Fits.{IsPairDepth}
 use Rattle.circuit_theory.specs.Tree.{Tree, Unfolds, tree_value}
 use Rattle.sec_base.specs.declared.basics.PairAnswer.{PairAnswer}
 use Rattle.sec_base.specs.declared.basics.PairAnswer.TheVariants as answer
-use Rattle.obligations.specs.pair_decide.declared.query.Proof.{Proof}
-use Rattle.obligations.specs.outcome.declared.verdict.PairResult.{PairResult}
+use Rattle.obligations.specs.pair_decide.Proof.{Proof}
+use Rattle.obligations.specs.outcome.PairResult.{PairResult}
 use Rattle.sec_setup.specs.Pairs.{NamedPair}
 use Rattle.assume_laws.specs.Assume.{Assumption, MeetsAtVariables, HaveEqualFunctionsUnder}
 use Rattle.under_base.specs.under_fits.Limits.{IsUndecidedUnder}

@@ -9,12 +9,12 @@ use Rattle.sec_base.specs.declared.basics.PairAnswer.TheVariants as answer
 use Rattle.flat_net.specs.View.{NetView, circuit_of, ports_of}
 use Rattle.witness_report.specs.declared.witness.PairName.TheVariants as pair
 use Rattle.witness_report.specs.Shown.{Obeys}
-use Rattle.obligations.specs.outcome.declared.verdict.LimitAt.TheVariants as limit_at
-use Rattle.obligations.specs.outcome.declared.verdict.Outcome.{Outcome}
-use Rattle.obligations.specs.outcome.declared.verdict.PairResult.{PairResult}
-use Rattle.obligations.specs.outcome.declared.verdict.ResetWitness.{ResetWitness}
-use Rattle.obligations.specs.outcome.declared.verdict.Verdict.{Verdict}
-use Rattle.obligations.specs.outcome.declared.verdict.Verdict.TheVariants as verdict
+use Rattle.obligations.specs.outcome.LimitAt.TheVariants as limit_at
+use Rattle.obligations.specs.outcome.Outcome.{Outcome}
+use Rattle.obligations.specs.outcome.PairResult.{PairResult}
+use Rattle.obligations.specs.outcome.ResetWitness.{ResetWitness}
+use Rattle.obligations.specs.outcome.Verdict.{Verdict}
+use Rattle.obligations.specs.outcome.Verdict.TheVariants as verdict
 use Rattle.reset_laws.specs.Reset.{AreBased, AreAlikeFromReset, TakesPower}
 use Rattle.sec_setup.specs.Pairs.{NamedPair, named_pairs}
 use Rattle.outcome_fits.specs.ResetOutcome.{Numbered, IsFirstLimit, greatest_size}

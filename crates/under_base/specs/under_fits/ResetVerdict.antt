@@ -3,9 +3,9 @@ use Rattle.std.specs.Prelude.{◌≡◌, ◌≢◌, ℕ, ◌<◌, ◌≤◌, Boo
 use Rattle.circuit_theory.specs.Fits.{IsPairDepth}
 use Rattle.sec_base.specs.declared.basics.PairAnswer.{PairAnswer}
 use Rattle.sec_base.specs.declared.basics.PairAnswer.TheVariants as answer
-use Rattle.obligations.specs.pair_decide.declared.query.Proof.{Proof}
-use Rattle.obligations.specs.outcome.declared.verdict.PairResult.{PairResult}
-use Rattle.obligations.specs.outcome.declared.verdict.ResetWitness.{ResetWitness}
+use Rattle.obligations.specs.pair_decide.Proof.{Proof}
+use Rattle.obligations.specs.outcome.PairResult.{PairResult}
+use Rattle.obligations.specs.outcome.ResetWitness.{ResetWitness}
 use Rattle.sec_setup.specs.Pairs.{NamedPair}
 use Rattle.assume_laws.specs.Assume.{Assumption, HaveEqualResetsUnder}
 use Rattle.assume_laws.specs.Sequences.{IsResetWitnessUnder}

@@ -5,10 +5,10 @@ use Rattle.circuit_theory.specs.Circuit.{Circuit}
 use Rattle.sec_base.specs.declared.basics.PairAnswer.{PairAnswer}
 use Rattle.sec_base.specs.declared.basics.PairAnswer.TheVariants as answer
 use Rattle.witness_report.specs.declared.witness.Witness.{Witness}
-use Rattle.obligations.specs.outcome.declared.verdict.PairResult.{PairResult}
-use Rattle.obligations.specs.outcome.declared.verdict.Verdict.{Verdict}
-use Rattle.obligations.specs.outcome.declared.verdict.Verdict.TheVariants as verdict
-use Rattle.obligations.specs.outcome.declared.verdict.Why.TheVariants as why
+use Rattle.obligations.specs.outcome.PairResult.{PairResult}
+use Rattle.obligations.specs.outcome.Verdict.{Verdict}
+use Rattle.obligations.specs.outcome.Verdict.TheVariants as verdict
+use Rattle.obligations.specs.outcome.Why.TheVariants as why
 use Rattle.sec_setup.specs.Pairs.{NamedPair}
 use Rattle.outcome_fits.specs.Outcome.{NoneIs, IsFirstLimit}
 use Rattle.assume_laws.specs.Assume.{Assumption}

@@ -3,7 +3,7 @@ use Rattle.std.proofs.Common.{◌<◌, ◌∙◌, List, [], ◌∷◌, ◌++◌,
 use Rattle.std.proofs.lemmas.List.{append-nil, take_all}
 use Rattle.std.proofs.lemmas.List.Elements.{All-contains}
 use Rattle.circuit_theory.proofs.Lists.{of_at}
-use Rattle.obligations.specs.pair_decide.declared.query.Query.{Query}
+use Rattle.obligations.specs.pair_decide.Query.{Query}
 use Rattle.obligations.proofs.Listed.{item-at, take-next}
 use Rattle.assume_places.specs.Gathered.{HasPlaces, AreGathered}
 use Rattle.assume_places.proofs.gathered.add_queries.Goals as goal

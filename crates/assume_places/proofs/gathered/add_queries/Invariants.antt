@@ -1,5 +1,5 @@
 use Rattle.std.proofs.Common.{List, ◌++◌, take}
-use Rattle.obligations.specs.pair_decide.declared.query.Query.{Query}
+use Rattle.obligations.specs.pair_decide.Query.{Query}
 use Rattle.assume_places.specs.Gathered.{AreGathered}
 use Rattle.assume_places.proofs.gathered.add_queries.Given as goal
 

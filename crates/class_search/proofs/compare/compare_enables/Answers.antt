@@ -1,6 +1,6 @@
 -- The query of two enables.
 use Rattle.std.proofs.Common.{ℕ, List, refl, sym, subst}
-use Rattle.event_variables.specs.aig.declared.node.Node.{Node}
+use Rattle.event_variables.specs.aig.Node.{Node}
 use Rattle.event_variables.specs.Variables.{AreInOrder, IsMergeOf}
 use Rattle.pair_decide.specs.declared.query.Query.{Query}
 use Rattle.pair_decide.specs.Queries.{IsQuery}

@@ -1,6 +1,6 @@
 -- What is asked of both functions.
 use Rattle.std.proofs.Common.{◌∙◌, [], ◌∷◌, ◌++◌, List, ap, arith}
-use Rattle.obligations.specs.pair_decide.declared.query.Query.{Query}
+use Rattle.obligations.specs.pair_decide.Query.{Query}
 use Rattle.event_form.proofs.Asking.{obligation_asked}
 use Rattle.event_form.proofs.questions.obligation_of.Goals as goal
 

@@ -1,7 +1,7 @@
 -- The others of the latch's cone are put at the child.
 use Rattle.std.proofs.Common.{◌≡◌, ◌∙◌, ◌<◌, ℕ, List, length, slice_get, refl, sym, ap, subst}
 use Rattle.std.specs.List.{All, Contains}
-use Rattle.event_nodes.specs.flat_net.declared.signals.Signal.{Signal}
+use Rattle.event_nodes.specs.flat_net.Signal.{Signal}
 use Rattle.std.proofs.lemmas.Option.{slice_get_within}
 use Rattle.event_nodes.specs.flat_net.View.{NetView}
 use Rattle.event_nodes.proofs.flat_net.Places.{one_at}

@@ -1,6 +1,6 @@
 use Rattle.std.proofs.Common.{◌≡◌, ◌≤◌, ℕ, length, take}
 use Rattle.std.specs.List.{All, Contains}
-use Rattle.event_nodes.specs.flat_net.declared.signals.Signal.{Signal}
+use Rattle.event_nodes.specs.flat_net.Signal.{Signal}
 use Rattle.event_nodes.specs.Adds.{Adds}
 use Rattle.event_reach.proofs.reached.put_all.Given as goal
 

@@ -1,8 +1,8 @@
 -- The other latches of the latch's cone are begun at the root.
 use Rattle.std.proofs.Common.{◌≡◌, ◌∙◌, ◌<◌, ℕ, List, length, slice_get, Some, sym, ap, subst, arith}
 use Rattle.std.specs.List.{All, Contains}
-use Rattle.event_nodes.specs.flat_net.declared.parts.LatchAt.{LatchAt}
-use Rattle.event_nodes.specs.flat_net.declared.signals.Signal.{Signal}
+use Rattle.event_nodes.specs.flat_net.LatchAt.{LatchAt}
+use Rattle.event_nodes.specs.flat_net.Signal.{Signal}
 use Rattle.event_nodes.specs.flat_net.View.{NetView}
 use Rattle.event_nodes.proofs.flat_net.Nets.{some_at}
 use Rattle.inner_cone.specs.latch_cone.Cones.{AreOthers}

@@ -2,7 +2,7 @@
 use Rattle.std.proofs.Common.{◌≡◌, ◌∙◌, ◌<◌, List, length, get_or, slice_get, Some, sym, ap, subst, arith}
 use Rattle.std.proofs.lemmas.Option.{same_Some, slice_get-get_or, slice_get_within}
 use Rattle.event_form.specs.Obligation.{Obligation}
-use Rattle.outcome.specs.pair_decide.declared.query.Query.{Query}
+use Rattle.outcome.specs.pair_decide.Query.{Query}
 use Rattle.event_witness.specs.Sequences.{IsWitnessOf}
 use Rattle.event_witness.specs.Shown.{IsWitnessAt}
 use Rattle.event_witness.proofs.Showing.{if_ok}

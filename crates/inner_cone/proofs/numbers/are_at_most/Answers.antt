@@ -3,7 +3,7 @@ use Rattle.std.proofs.Common.{◌≤◌, List, get_or, subst, arith}
 use Rattle.std.specs.List.{All}
 use Rattle.std.proofs.lemmas.List.{take_all}
 use Rattle.std.proofs.lemmas.List.Elements.{All-more}
-use Rattle.inner_cone.specs.latch_cone.flat_net.declared.signals.Signal.{Signal}
+use Rattle.inner_cone.specs.latch_cone.flat_net.Signal.{Signal}
 use Rattle.inner_cone.proofs.numbers.are_at_most.Goals as goal
 
 pub loop-read-preserved : goal.loop-read-preserved

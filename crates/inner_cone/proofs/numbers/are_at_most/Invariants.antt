@@ -1,6 +1,6 @@
 use Rattle.std.proofs.Common.{◌≤◌, get_or, take}
 use Rattle.std.specs.List.{All}
-use Rattle.inner_cone.specs.latch_cone.flat_net.declared.signals.Signal.{Signal}
+use Rattle.inner_cone.specs.latch_cone.flat_net.Signal.{Signal}
 use Rattle.inner_cone.proofs.numbers.are_at_most.Given as goal
 
 abbrev pub invariant-loop-read : goal.invariant-loop-read

@@ -2,8 +2,8 @@
 use Rattle.std.proofs.Common.{◌≡◌, ◌≤◌, ℕ, List, Some, length, get_or, slice_get, refl, ap, subst, arith}
 use Rattle.std.specs.List.{All}
 use Rattle.std.proofs.lemmas.Option.{slice_get_read, slice_get_within}
-use Rattle.inner_cone.specs.latch_cone.flat_net.declared.signals.Signal.{Signal}
-use Rattle.inner_cone.specs.latch_cone.flat_net.declared.parts.Gate.{Gate}
+use Rattle.inner_cone.specs.latch_cone.flat_net.Signal.{Signal}
+use Rattle.inner_cone.specs.latch_cone.flat_net.Gate.{Gate}
 use Rattle.inner_cone.proofs.Inner.{ranked_more, ranked_all}
 use Rattle.inner_cone.proofs.numbers.are_ranked.Goals as goal
 

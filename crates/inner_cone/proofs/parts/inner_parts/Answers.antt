@@ -2,7 +2,7 @@
 use Rattle.std.proofs.Common.{◌≡◌, ◌<◌, List, Some, slice_get, length, refl, subst, ap, arith}
 use Rattle.std.proofs.lemmas.Option.{slice_get_read}
 use Rattle.inner_cone.proofs.latch_cone.flat_net.Places.{one_at}
-use Rattle.inner_cone.specs.latch_cone.flat_net.declared.parts.LatchAt.{LatchAt}
+use Rattle.inner_cone.specs.latch_cone.flat_net.LatchAt.{LatchAt}
 use Rattle.inner_cone.specs.Sides.{AreSides}
 use Rattle.inner_cone.specs.Gates.{AreInnerGates}
 use Rattle.inner_cone.proofs.parts.inner_parts.Goals as goal

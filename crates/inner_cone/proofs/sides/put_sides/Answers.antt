@@ -3,9 +3,9 @@ use Rattle.std.proofs.Common.{◌≡◌, ◌<◌, ℕ, List, Some, get_or, slice
 use Rattle.std.specs.Prelude.{Contains}
 use Rattle.std.proofs.lemmas.Option.{slice_get_within, slice_get_read}
 use Rattle.inner_cone.specs.latch_cone.circuit_theory.Circuit.{Reads}
-use Rattle.inner_cone.specs.latch_cone.flat_net.declared.signals.Signal.{Signal}
-use Rattle.inner_cone.specs.latch_cone.flat_net.declared.parts.Gate.{Gate}
-use Rattle.inner_cone.specs.latch_cone.flat_net.declared.parts.Driver.TheVariants as driver
+use Rattle.inner_cone.specs.latch_cone.flat_net.Signal.{Signal}
+use Rattle.inner_cone.specs.latch_cone.flat_net.Gate.{Gate}
+use Rattle.inner_cone.specs.latch_cone.flat_net.Driver.TheVariants as driver
 use Rattle.inner_cone.specs.latch_cone.flat_net.View.{circuit_of}
 use Rattle.inner_cone.proofs.latch_cone.flat_net.Places.{one_at, All-at}
 use Rattle.inner_cone.proofs.latch_cone.Walks.{gate_reads, gate_fanins, reach_more}

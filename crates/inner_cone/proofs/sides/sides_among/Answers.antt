@@ -5,7 +5,7 @@ use Rattle.std.proofs.lemmas.Option.{slice_get_within, slice_get-get_or}
 use Rattle.inner_cone.specs.latch_cone.circuit_theory.Circuit.{Reaches}
 use Rattle.inner_cone.proofs.latch_cone.circuit_theory.Lists.{at_of}
 use Rattle.inner_cone.proofs.latch_cone.circuit_theory.Sums.{same_or_not}
-use Rattle.inner_cone.specs.latch_cone.flat_net.declared.signals.Signal.{Signal}
+use Rattle.inner_cone.specs.latch_cone.flat_net.Signal.{Signal}
 use Rattle.inner_cone.proofs.latch_cone.flat_net.Places.{one_at}
 use Rattle.inner_cone.specs.Sides.{IsLowPut}
 use Rattle.inner_cone.proofs.SideSignals.{IsDone, none_there, low_there, low_some, done_kept, all_sides}

@@ -1,5 +1,5 @@
 use Rattle.std.specs.Prelude.{◌≡◌, ◌<◌, ◌⊎◌, ℕ, slice_get, Some, Contains}
-use Rattle.inner_cone.specs.latch_cone.flat_net.declared.signals.Signal.{Signal}
+use Rattle.inner_cone.specs.latch_cone.flat_net.Signal.{Signal}
 use Rattle.inner_cone.specs.latch_cone.flat_net.View.{NetView}
 use Rattle.inner_cone.specs.latch_cone.Cones.{AreSome, AreRead, Stay}
 use Rattle.inner_cone.specs.Inner.{IsLow}

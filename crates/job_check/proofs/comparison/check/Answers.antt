@@ -1,8 +1,8 @@
 use Rattle.std.proofs.Common.{ℕ, List, ◌∷◌, sym, subst, Result}
 use Rattle.std.proofs.lemmas.List.Elements.{All-head, All-tail, All-weaker}
 use Rattle.std.specs.Prelude.{option_map}
-use Rattle.check_found.specs.job_base.declared.finding.Finding.{Finding}
-use Rattle.check_found.specs.job_base.declared.finding.Stop.{Stop}
+use Rattle.check_found.specs.job_base.Finding.{Finding}
+use Rattle.check_found.specs.job_base.Stop.{Stop}
 use Rattle.check_found.specs.Check.{Check, assumed_paths}
 use Rattle.check_found.specs.Ends.{FoundOf}
 use Rattle.check_found.proofs.Finds.{left_ends, beside_before, beside_end}

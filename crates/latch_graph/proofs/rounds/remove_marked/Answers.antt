@@ -1,6 +1,6 @@
 use Rattle.std.proofs.Common.{◌≡◌, length, refl, sym, ap, arith}
 use Rattle.std.proofs.lemmas.Option.{slice_get_read, slice_get_within}
-use Rattle.signal_graph.specs.flat_net.declared.parts.LatchAt.{LatchAt}
+use Rattle.signal_graph.specs.flat_net.LatchAt.{LatchAt}
 use Rattle.latch_graph.proofs.rounds.remove_marked.Goals as goal
 
 pub remove_if-requires : goal.remove_if-requires

@@ -1,6 +1,6 @@
 use Rattle.latch_graph.specs.Settling.{IsGreatest}
 use Rattle.std.proofs.Common.{subst, List, arith}
-use Rattle.signal_graph.specs.flat_net.declared.signals.Signal.{Signal}
+use Rattle.signal_graph.specs.flat_net.Signal.{Signal}
 use Rattle.latch_graph.proofs.states.depth_by.Goals as goal
 
 pub overflow_add-result : goal.overflow_add-result

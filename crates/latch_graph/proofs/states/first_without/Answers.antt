@@ -1,7 +1,7 @@
 use Rattle.std.proofs.Common.{◌≡◌, ◌≢◌, ℕ, ◌+◌, ◌<◌, get_or, slice_get, Some, sym, ◌∙◌, subst, arith, inl, inr}
 use Rattle.std.specs.Prelude.{◌⊎◌}
 use Rattle.std.proofs.lemmas.Option.{slice_get_within}
-use Rattle.signal_graph.specs.flat_net.declared.signals.Signal.{Signal}
+use Rattle.signal_graph.specs.flat_net.Signal.{Signal}
 use Rattle.signal_graph.proofs.flat_net.Places.{one_at}
 use Rattle.circuit_theory.proofs.Sums.{same_or_not}
 use Rattle.latch_graph.specs.Settling.{HasDepth}

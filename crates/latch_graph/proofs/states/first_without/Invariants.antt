@@ -1,5 +1,5 @@
 use Rattle.std.proofs.Common.{◌≡◌, ℕ, ◌<◌, slice_get, Some}
-use Rattle.signal_graph.specs.flat_net.declared.signals.Signal.{Signal}
+use Rattle.signal_graph.specs.flat_net.Signal.{Signal}
 use Rattle.latch_graph.specs.Settling.{HasDepth}
 use Rattle.latch_graph.proofs.states.first_without.Given as goal
 

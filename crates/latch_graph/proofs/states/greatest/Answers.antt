@@ -1,6 +1,6 @@
 use Rattle.std.proofs.Common.{◌+◌, get_or, subst, sym}
 use Rattle.std.proofs.lemmas.Option.{slice_get_within}
-use Rattle.signal_graph.specs.flat_net.declared.signals.Signal.{Signal}
+use Rattle.signal_graph.specs.flat_net.Signal.{Signal}
 use Rattle.latch_graph.specs.declared.states.State.TheVariants.{New}
 use Rattle.signal_graph.proofs.Lists.{read_at}
 use Rattle.latch_graph.proofs.Tables.{IsGreatestBefore, told_depth, greatest_none, greatest_same, greatest_more, greatest_all}

@@ -2,7 +2,7 @@
 use Rattle.std.proofs.Common.{◌≡◌, ◌+◌, ◌∙◌, length, get_or, refl, sym, ap, subst, arith}
 use Rattle.std.proofs.Math.ListN.{set}
 use Rattle.std.proofs.lemmas.Option.{slice_get-get_or, slice_get_read, get_or_from_slice_get}
-use Rattle.minimal_cut.specs.graph_components.flat_net.declared.parts.LatchAt.{LatchAt}
+use Rattle.minimal_cut.specs.graph_components.flat_net.LatchAt.{LatchAt}
 use Rattle.minimal_cut.specs.graph_components.flat_net.Cut.{no_latch}
 use Rattle.minimal_cut.specs.declared.marks.Mark.TheVariants.{Out}
 use Rattle.minimal_cut.specs.Marks.{AreFirst, signal_of}

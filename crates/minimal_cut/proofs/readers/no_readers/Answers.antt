@@ -1,7 +1,7 @@
 -- One signal more that nothing reads.
 use Rattle.std.proofs.Common.{◌≡◌, ◌∙◌, ◌∷◌, ◌++◌, [], ℕ, List, None, Some, length, slice_get, sym, ap, subst, arith, inl, inr}
 use Rattle.std.specs.Prelude.{◌⊎◌}
-use Rattle.minimal_cut.specs.graph_components.flat_net.declared.signals.Signal.{Signal}
+use Rattle.minimal_cut.specs.graph_components.flat_net.Signal.{Signal}
 use Rattle.minimal_cut.specs.graph_components.Node.{Node}
 use Rattle.minimal_cut.proofs.graph_components.flat_net.Growth.{length-push, slice_get-push_cases}
 use Rattle.minimal_cut.proofs.readers.no_readers.Goals as goal

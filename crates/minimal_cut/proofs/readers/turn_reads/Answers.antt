@@ -2,7 +2,7 @@
 use Rattle.std.proofs.Common.{◌≡◌, ◌≤◌, List, Some, length, get_or, refl, subst, arith}
 use Rattle.std.specs.Prelude.{slice_get}
 use Rattle.std.proofs.lemmas.Option.{slice_get-get_or, slice_get_read}
-use Rattle.minimal_cut.specs.graph_components.flat_net.declared.signals.Signal.{Signal}
+use Rattle.minimal_cut.specs.graph_components.flat_net.Signal.{Signal}
 use Rattle.minimal_cut.proofs.Turned.{up_to_more, up_to_next}
 use Rattle.minimal_cut.proofs.readers.turn_reads.Goals as goal
 

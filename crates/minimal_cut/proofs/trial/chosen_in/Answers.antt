@@ -1,6 +1,6 @@
 -- Before the first turn, and after the last.
 use Rattle.std.proofs.Common.{◌<◌, length, List, [], subst, sym, ap, ◌∙◌}
-use Rattle.minimal_cut.specs.graph_components.flat_net.declared.parts.LatchAt.{LatchAt}
+use Rattle.minimal_cut.specs.graph_components.flat_net.LatchAt.{LatchAt}
 use Rattle.std.specs.List.{All}
 use Rattle.minimal_cut.specs.graph_components.Node.{Node}
 use Rattle.minimal_cut.specs.graph_components.Graph.{AreNodes}

@@ -2,7 +2,7 @@
 use Rattle.std.proofs.Common.{◌≡◌, List, Bool, length, get_or, Some, refl, sym, subst, arith}
 use Rattle.std.specs.Prelude.{slice_get}
 use Rattle.std.proofs.lemmas.Option.{slice_get-get_or, slice_get_read}
-use Rattle.minimal_cut.specs.graph_components.flat_net.declared.signals.Signal.{Signal}
+use Rattle.minimal_cut.specs.graph_components.flat_net.Signal.{Signal}
 use Rattle.minimal_cut.specs.Readers.{NodeReads}
 use Rattle.minimal_cut.specs.declared.marks.Mark.{Mark}
 use Rattle.minimal_cut.specs.Walk.{IsLater, Meets}

@@ -1,6 +1,6 @@
 use Rattle.std.proofs.Common.{◌≡◌, ℕ, List, sym, subst}
-use Rattle.lane_eval.specs.root_classes.aig.declared.node.Lit.{Lit}
-use Rattle.lane_eval.specs.root_classes.aig.declared.node.Node.{Node}
+use Rattle.lane_eval.specs.root_classes.aig.Lit.{Lit}
+use Rattle.lane_eval.specs.root_classes.aig.Node.{Node}
 use Rattle.node_agreement.specs.Standing.{AreLocal}
 use Rattle.pair_decide.proofs.Read.{IfOk-then}
 use Rattle.node_agreement.proofs.Told.{answer-told}

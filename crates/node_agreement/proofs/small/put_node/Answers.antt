@@ -1,5 +1,5 @@
 use Rattle.std.proofs.Common.{◌*◌}
-use Rattle.lane_eval.specs.root_classes.aig.declared.node.Lit.{Lit}
+use Rattle.lane_eval.specs.root_classes.aig.Lit.{Lit}
 use Rattle.node_agreement.specs.Standing.{by_nodes}
 use Rattle.node_agreement.proofs.Stood.{stands-and, IfOk-both}
 use Rattle.node_agreement.proofs.small.put_node.Goals as goal

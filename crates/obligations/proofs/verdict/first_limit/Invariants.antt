@@ -1,6 +1,6 @@
 use Rattle.std.proofs.Common.{◌≡◌, ◌<◌, ℕ, slice_get, Some}
 use Rattle.std.specs.Prelude.{◌≢◌}
-use Rattle.outcome.specs.sec_base.declared.basics.PairAnswer.TheVariants as answer
+use Rattle.outcome.specs.sec_base.PairAnswer.TheVariants as answer
 use Rattle.outcome.specs.declared.verdict.PairResult.{PairResult}
 use Rattle.obligations.proofs.verdict.first_limit.Given as goal
 

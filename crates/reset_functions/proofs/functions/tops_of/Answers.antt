@@ -2,7 +2,7 @@
 use Rattle.std.proofs.Common.{◌≡◌, ◌≤◌, List, length, slice_get, Some, subst}
 use Rattle.std.proofs.lemmas.List.{take_all}
 use Rattle.circuit_theory.proofs.Lists.{of_at}
-use Rattle.sec_setup.specs.interface.declared.pairs.SignalPair.{SignalPair}
+use Rattle.sec_setup.specs.interface.SignalPair.{SignalPair}
 use Rattle.shift_variables.proofs.Reading.{item_at}
 use Rattle.reset_functions.specs.Pairs.{AreTops}
 use Rattle.reset_functions.proofs.OwnPairs.{own_pairs, output_within}

@@ -2,7 +2,7 @@
 use Rattle.std.proofs.Common.{◌≡◌, ◌<◌, ℕ, List, length, Err, sym, subst, rules}
 use Rattle.std.specs.List.{All, AllZip}
 use Rattle.circuit_theory.specs.declared.Side.TheVariants.{A, B}
-use Rattle.sec_setup.specs.interface.declared.pairs.SignalPair.{SignalPair}
+use Rattle.sec_setup.specs.interface.SignalPair.{SignalPair}
 use Rattle.reset_functions.specs.Pairs.{AreCyclesOf, IsAmong, IsLeftSide, IsRightSide, IsLight, IsRefusalOf, Unfolds}
 use Rattle.reset_functions.proofs.OwnPairs.{own_pairs, output_within}
 use Rattle.reset_functions.proofs.Growing.{all_later, among_is_side, side_is_among, light_as, tops_within}

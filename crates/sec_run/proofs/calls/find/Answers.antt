@@ -3,7 +3,7 @@ use Rattle.std.specs.List.{All}
 use Rattle.command_line.specs.declared.task.Task.{Task}
 use Rattle.job_base.specs.Ends.{EndsBy}
 use Rattle.job_base.specs.Reading.{ReadFailedAfter}
-use Rattle.job_cert.specs.sec_files.job_files.Reading.{ReadFailed}
+use Rattle.job_cert.specs.sec_files.Reading.{ReadFailed}
 use Rattle.job_check.specs.Check.{all_paths}
 use Rattle.job_gen.proofs.gen_meaning.Means.{gen_ends}
 use Rattle.sec_run.specs.Answer.{IsFoundOfJob}

@@ -9,7 +9,7 @@ use Rattle.circuit_theory.specs.Circuit.{Circuit, Latch as latch_equation, IsLat
 use Rattle.circuit_theory.specs.Depth.{LatchReads, LatchPath, HasCycle, IsCycle, after_in_round, without}
 use Rattle.circuit_theory.specs.Agree.{EnabledIn, IsMinimalCut}
 use Rattle.circuit_theory.proofs.Lists.{map_same, map-map, Contains-map, Contains-map_from, map_at, length-map}
-use Rattle.latch_graph.specs.flat_net.declared.parts.LatchAt.{LatchAt}
+use Rattle.latch_graph.specs.flat_net.LatchAt.{LatchAt}
 use Rattle.latch_graph.specs.flat_net.View.{NetView, circuit_of, equation_of_gate, equation_of_latch}
 use Rattle.latch_graph.specs.flat_net.Cut.{no_latch}
 use Rattle.latch_graph.proofs.flat_net.Places.{one_at, All-at}

@@ -6,7 +6,7 @@ use Rattle.std.proofs.lemmas.Option.{slice_get_within, slice_get-get_or, get_or_
 use Rattle.circuit_theory.specs.Circuit.{Circuit}
 use Rattle.circuit_theory.specs.Depth.{LatchReads, LatchPath, HasCycle, IsCycle, BeginsWithLeast}
 use Rattle.circuit_theory.proofs.Lists.{Contains-map, Contains-map_from, at_of}
-use Rattle.latch_graph.specs.flat_net.declared.parts.LatchAt.{LatchAt}
+use Rattle.latch_graph.specs.flat_net.LatchAt.{LatchAt}
 use Rattle.latch_graph.specs.flat_net.View.{NetView, circuit_of}
 use Rattle.latch_graph.specs.flat_net.Cut.{no_latch}
 use Rattle.latch_graph.specs.Graph.{GraphView, IsGraphOf, SkippedBy, marked_names, signals_at}

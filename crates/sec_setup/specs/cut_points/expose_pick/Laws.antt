@@ -2,7 +2,7 @@
 use Rattle.std.specs.Prelude.{◌≡◌, ℕ, ◌<◌, List, length, slice_get, slice_index_or, Some, All, Contains}
 use Rattle.circuit_theory.specs.declared.Mode.{Mode}
 use Rattle.circuit_theory.specs.Agree.{IsMinimalCut}
-use Rattle.latch_graph.specs.flat_net.declared.parts.LatchAt.{LatchAt}
+use Rattle.latch_graph.specs.flat_net.LatchAt.{LatchAt}
 use Rattle.latch_graph.specs.flat_net.View.{NetView, circuit_of}
 use Rattle.latch_graph.specs.flat_net.Cut.{no_latch}
 use Rattle.latch_graph.specs.Graph.{GraphView, IsGraphIn}

@@ -1,7 +1,7 @@
 use Rattle.std.proofs.Common.{◌≡◌, ◌∙◌, ◌∷◌, ◌++◌, [], List, Some, slice_get, length, take, refl, ap}
 use Rattle.std.proofs.lemmas.List.{take_all}
 use Rattle.std.proofs.lemmas.Option.{slice_get_read}
-use Rattle.inner_cone.specs.flat_net.declared.parts.LatchAt.{LatchAt}
+use Rattle.inner_cone.specs.flat_net.LatchAt.{LatchAt}
 use Rattle.inner_cone.proofs.flat_net.TableLemmas.{take-push}
 use Rattle.signal_graph.proofs.nodes.copy_latches.Goals as goal
 

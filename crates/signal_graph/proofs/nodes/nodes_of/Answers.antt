@@ -2,7 +2,7 @@ use Rattle.std.proofs.Common.{◌≡◌, ◌≢◌, ◌<◌, ◌+◌, ℕ, List,
 use Rattle.std.specs.Prelude.{◌⊎◌}
 use Rattle.std.proofs.lemmas.Option.{slice_get_within}
 use Rattle.inner_cone.proofs.flat_net.Growth.{slice_get-append, slice_get-push, length-push}
-use Rattle.inner_cone.specs.flat_net.declared.parts.Driver.{Driver}
+use Rattle.inner_cone.specs.flat_net.Driver.{Driver}
 use Rattle.inner_cone.proofs.circuit_theory.Sums.{same_or_not}
 use Rattle.inner_cone.specs.Inner.{AreRanked}
 use Rattle.signal_graph.specs.declared.nodes.Node.{Node}

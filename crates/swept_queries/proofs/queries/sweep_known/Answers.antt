@@ -2,7 +2,7 @@
 use Rattle.std.proofs.Common.{◌*◌, ◌<◌, ◌∙◌, List, length, refl, sym, ap, subst}
 use Rattle.std.specs.List.{All}
 use Rattle.std.proofs.lemmas.Option.{slice_get_within}
-use Rattle.swept_queries.specs.sweep.aig.declared.node.Lit.{Lit}
+use Rattle.swept_queries.specs.sweep.aig.Lit.{Lit}
 use Rattle.swept_queries.specs.Roots.{AreMade}
 use Rattle.swept_queries.proofs.Listed.{roots_for-within, roots_for-length}
 use Rattle.swept_queries.proofs.Stand.{moved_to}

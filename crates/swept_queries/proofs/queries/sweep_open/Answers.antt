@@ -1,7 +1,7 @@
 -- What is tried and kept are literals of the graph.
 use Rattle.std.proofs.Common.{◌*◌, ◌<◌, length, sym, subst}
 use Rattle.std.specs.List.{All}
-use Rattle.swept_queries.specs.sweep.aig.declared.node.Lit.{Lit}
+use Rattle.swept_queries.specs.sweep.aig.Lit.{Lit}
 use Rattle.swept_queries.proofs.queries.sweep_open.Goals as goal
 
 pub sweep_across-requires-clause-tried : goal.sweep_across-requires-clause-tried

@@ -1,7 +1,7 @@
 use Rattle.std.proofs.Common.{◌≡◌, ℕ, slice_get, Some, sym, subst, arith}
 use Rattle.std.proofs.lemmas.Option.{slice_get_within, get_or_from_slice_get}
 use Rattle.circuit_theory.proofs.Lists.{at_of}
-use Rattle.swept_queries.specs.sweep.aig.declared.node.Node.TheVariants.{Input}
+use Rattle.swept_queries.specs.sweep.aig.Node.TheVariants.{Input}
 use Rattle.swept_queries.proofs.query.has_all.Goals as goal
 
 pub returns : goal.returns

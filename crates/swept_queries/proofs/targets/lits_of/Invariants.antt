@@ -1,7 +1,7 @@
 use Rattle.std.proofs.Common.{◌*◌, ◌<◌, List, length}
 use Rattle.std.specs.List.{All}
-use Rattle.swept_queries.specs.sweep.aig.declared.node.Lit.{Lit}
-use Rattle.swept_queries.specs.sweep.aig.declared.node.Node.{Node}
+use Rattle.swept_queries.specs.sweep.aig.Lit.{Lit}
+use Rattle.swept_queries.specs.sweep.aig.Node.{Node}
 use Rattle.swept_queries.specs.InStead.{AreKnownWithin}
 use Rattle.swept_queries.proofs.targets.lits_of.Given as goal
 

@@ -1,6 +1,6 @@
 use Rattle.std.proofs.Common.{take}
 use Rattle.std.specs.List.{AllZip, Contains}
-use Rattle.event_nodes.specs.flat_net.declared.signals.Signal.{Signal}
+use Rattle.event_nodes.specs.flat_net.Signal.{Signal}
 use Rattle.event_nodes.specs.Lit.{Lit}
 use Rattle.event_literals.proofs.builder.EventBuilder.fanin_literals.Given as goal
 

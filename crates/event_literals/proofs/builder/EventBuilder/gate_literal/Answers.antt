@@ -3,8 +3,8 @@ use Rattle.std.proofs.Common.{◌≡◌, ◌∙◌, ◌*◌, ◌<◌, length, sy
 use Rattle.std.specs.Prelude.{IfSome}
 use Rattle.std.specs.List.{All, Contains}
 use Rattle.circuit_theory.proofs.Lists.{zip_length}
-use Rattle.event_nodes.specs.flat_net.declared.signals.Signal.{Signal}
-use Rattle.event_nodes.specs.flat_net.declared.parts.Gate.{Gate}
+use Rattle.event_nodes.specs.flat_net.Signal.{Signal}
+use Rattle.event_nodes.specs.flat_net.Gate.{Gate}
 use Rattle.event_nodes.specs.flat_net.View.{NetView}
 use Rattle.event_nodes.specs.flat_net.Sound.{IsSound}
 use Rattle.event_nodes.proofs.flat_net.Places.{cover_of-is, cover_within, cover_fits}

@@ -1,6 +1,6 @@
 use Rattle.std.proofs.Common.{ℕ, Bool, List, subst}
 use Rattle.std.specs.Prelude.{IfSome, IfNone}
-use Rattle.signal_graph.specs.flat_net.declared.parts.LatchAt.{LatchAt}
+use Rattle.signal_graph.specs.flat_net.LatchAt.{LatchAt}
 use Rattle.signal_graph.specs.flat_net.View.{NetView, circuit_of}
 use Rattle.circuit_theory.specs.Depth.{HasCycle, IsCycle, BeginsWithLeast}
 use Rattle.signal_graph.specs.declared.nodes.Node.{Node}

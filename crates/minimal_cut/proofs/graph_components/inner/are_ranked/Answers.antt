@@ -2,7 +2,7 @@
 use Rattle.std.proofs.Common.{◌≤◌, ℕ, List, length, get_or, refl, subst, arith}
 use Rattle.std.specs.List.{All}
 use Rattle.std.proofs.lemmas.Option.{slice_get_read}
-use Rattle.signal_graph.specs.flat_net.declared.signals.Signal.{Signal}
+use Rattle.signal_graph.specs.flat_net.Signal.{Signal}
 use Rattle.minimal_cut.proofs.graph_components.Ranks.{ranked_more, ranked_all}
 use Rattle.minimal_cut.proofs.graph_components.inner.are_ranked.Goals as goal
 

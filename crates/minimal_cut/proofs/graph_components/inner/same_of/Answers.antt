@@ -2,7 +2,7 @@
 use Rattle.std.proofs.Common.{◌≡◌, ◌∙◌, ◌+◌, ◌++◌, ◌==◌, [], ◌∷◌, ◌<◌, ℕ, Bool, true, false, cond, List, length, take, filter, get_or, sym, ap, arith, append-nil}
 use Rattle.std.proofs.lemmas.List.{take_all}
 use Rattle.std.proofs.lemmas.List.Elements.{filter_more}
-use Rattle.signal_graph.specs.flat_net.declared.signals.Signal.{Signal}
+use Rattle.signal_graph.specs.flat_net.Signal.{Signal}
 use Rattle.minimal_cut.proofs.graph_components.inner.same_of.Goals as goal
 
 more : (labels : List ℕ) (label : ℕ) (reads : List Signal) (i : ℕ) (b : Bool) → i < length reads → (get_or labels (get_or reads i (record { 0 = 0 })).0 0 == label) ≡ b →

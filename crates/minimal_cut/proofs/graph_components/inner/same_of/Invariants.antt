@@ -1,5 +1,5 @@
 use Rattle.std.proofs.Common.{◌≡◌, ◌==◌, filter, get_or, take}
-use Rattle.signal_graph.specs.flat_net.declared.signals.Signal.{Signal}
+use Rattle.signal_graph.specs.flat_net.Signal.{Signal}
 use Rattle.minimal_cut.proofs.graph_components.inner.same_of.Given as goal
 
 abbrev pub invariant-loop-read : goal.invariant-loop-read

@@ -2,7 +2,7 @@
 use Rattle.std.proofs.Common.{◌∙◌, ◌==◌, ℕ, [], ◌∷◌, None, filter, length, get_or, refl, ap, subst, arith}
 use Rattle.std.proofs.lemmas.List.{length-append}
 use Rattle.std.proofs.lemmas.Option.{slice_get_read, slice_get_within}
-use Rattle.signal_graph.specs.flat_net.declared.signals.Signal.{Signal}
+use Rattle.signal_graph.specs.flat_net.Signal.{Signal}
 use Rattle.signal_graph.specs.declared.nodes.Node.{Node}
 use Rattle.minimal_cut.specs.graph_components.Inner.{IsInnerOf}
 use Rattle.minimal_cut.proofs.graph_components.Ranks.{made_more}

@@ -1,6 +1,6 @@
 use Rattle.std.proofs.Common.{◌≡◌, ◌≢◌, ◌<◌, ◌+◌, ◌∙◌, ℕ, List, length, sym, ap, subst, arith}
 use Rattle.std.specs.List.{All}
-use Rattle.latch_graph.specs.flat_net.declared.parts.LatchAt.{LatchAt}
+use Rattle.latch_graph.specs.flat_net.LatchAt.{LatchAt}
 use Rattle.sec_setup.specs.cut_points.Common.{AreCommonUpTo}
 use Rattle.sec_setup.proofs.cut_points.Pairs.{common_same, common_more, common_all, own_name, some_named}
 use Rattle.sec_setup.proofs.cut_points.common_latches.common_pairs.Goals as goal

@@ -3,7 +3,7 @@ use Rattle.std.specs.Prelude.{◌⊎◌}
 use Rattle.std.proofs.lemmas.Option.{slice_get_within}
 use Rattle.inner_cone.proofs.flat_net.Nets.{some_at}
 use Rattle.inner_cone.proofs.flat_net.Places.{one_at}
-use Rattle.inner_cone.specs.flat_net.declared.signals.Signal.{Signal}
+use Rattle.inner_cone.specs.flat_net.Signal.{Signal}
 use Rattle.inner_cone.specs.flat_net.View.{circuit_of}
 use Rattle.inner_cone.proofs.circuit_theory.Lists.{at_of}
 use Rattle.inner_cone.proofs.circuit_theory.Sums.{same_or_not}

@@ -1,7 +1,7 @@
 -- The answer is that of the query in the stead of this one.
 use Rattle.std.proofs.Common.{◌≡◌, List, Option, Some, IfSome, subst, rules}
-use Rattle.swept_queries.specs.sweep.aig.declared.node.Node.{Node}
-use Rattle.swept_queries.specs.sweep.pair_decide.declared.query.Query.{Query}
+use Rattle.swept_queries.specs.sweep.aig.Node.{Node}
+use Rattle.swept_queries.specs.sweep.pair_decide.Query.{Query}
 use Rattle.swept_queries.specs.sweep.pair_decide.Queries.{IsQuery}
 use Rattle.swept_queries.proofs.sweep.pair_decide.Read.{IfOk-then}
 use Rattle.swept_queries.specs.InStead.{sides_of, StandFor, IsInStead}

@@ -1,7 +1,7 @@
 -- A latch that is put takes over nothing. Another one takes over its data in the frames in which it goes on, at its child.
 use Rattle.std.proofs.Common.{◌≡◌, ◌∙◌, ◌+◌, ◌^◌, ◌<◌, ℕ, length, slice_get, Some, sym, ap, subst, rules}
 use Rattle.std.proofs.lemmas.Option.{slice_get_within}
-use Rattle.event_nodes.specs.flat_net.declared.parts.Driver.TheVariants as driver
+use Rattle.event_nodes.specs.flat_net.Driver.TheVariants as driver
 use Rattle.event_nodes.specs.flat_net.Sound.{IsSound}
 use Rattle.event_nodes.specs.Adds.{Adds}
 use Rattle.event_nodes.specs.Nodes.{IsChild}

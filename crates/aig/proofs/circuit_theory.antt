@@ -1,0 +1,1 @@
+pub use Rattle.sec_base.proofs.circuit_theory.Lists

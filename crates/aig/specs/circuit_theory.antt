@@ -1,0 +1,1 @@
+pub use Rattle.sec_base.specs.circuit_theory.Query

@@ -1,0 +1,1 @@
+pub use Rattle.sec_base.specs.declared.basics.PairAnswer

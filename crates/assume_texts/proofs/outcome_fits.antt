@@ -1,0 +1,1 @@
+pub use Rattle.outcome_fits.proofs.plain_meaning.Fitted

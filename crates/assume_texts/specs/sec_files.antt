@@ -1,0 +1,1 @@
+pub use Rattle.text_circuits.specs.sec_files.Loading

@@ -1,0 +1,1 @@
+pub use Rattle.latch_graph.proofs.signal_graph.Lists

@@ -1,0 +1,3 @@
+pub use Rattle.check_texts.proofs.Comparing
+pub use Rattle.check_texts.proofs.Latchless
+pub use Rattle.check_texts.proofs.Uncut

@@ -1,0 +1,1 @@
+pub use Rattle.check_texts.specs.Texts

@@ -1,0 +1,1 @@
+pub use Rattle.event_texts_under.specs.event_meaning.Heavy

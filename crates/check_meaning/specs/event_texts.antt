@@ -1,0 +1,2 @@
+pub use Rattle.event_texts.specs.Compared
+pub use Rattle.event_texts.specs.Texts

@@ -1,0 +1,1 @@
+pub use Rattle.edbf_unfold.proofs.CareMeaning

@@ -1,0 +1,1 @@
+pub use Rattle.proof_check.proofs.OneVerdict

@@ -1,0 +1,1 @@
+pub use Rattle.flatten.specs.DesignFaults

@@ -1,0 +1,1 @@
+pub use Rattle.event_setup.specs.Choosing

@@ -1,0 +1,1 @@
+pub use Rattle.event_meaning.specs.event_meaning_under.Heavy

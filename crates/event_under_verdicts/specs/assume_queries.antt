@@ -1,0 +1,1 @@
+pub use Rattle.event_asked_under.specs.assume_queries.UnderError

@@ -1,0 +1,1 @@
+pub use Rattle.event_shown_under.specs.event_under_fits.Findings

@@ -1,0 +1,10 @@
+pub use Rattle.circuit_theory.specs.Agree
+pub use Rattle.circuit_theory.specs.Circuit
+pub use Rattle.circuit_theory.specs.Cover
+pub use Rattle.circuit_theory.specs.EventSizes
+pub use Rattle.circuit_theory.specs.EventTotals
+pub use Rattle.circuit_theory.specs.Frame
+pub use Rattle.circuit_theory.specs.Net
+pub use Rattle.circuit_theory.specs.Run
+pub use Rattle.circuit_theory.specs.Sizes
+pub use Rattle.circuit_theory.specs.declared.Mode

@@ -1,0 +1,4 @@
+pub use Rattle.sec_base.specs.declared.basics.Init
+pub use Rattle.sec_base.specs.declared.basics.Orders
+pub use Rattle.sec_base.specs.declared.basics.PairAnswer
+pub use Rattle.sec_base.specs.declared.limits.TheConstants

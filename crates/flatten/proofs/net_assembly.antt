@@ -1,0 +1,1 @@
+pub use Rattle.net_assembly.proofs.ReadBy

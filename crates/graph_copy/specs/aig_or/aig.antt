@@ -1,0 +1,2 @@
+pub use Rattle.aig.specs.Rules
+pub use Rattle.aig.specs.Values

@@ -1,0 +1,2 @@
+pub use Rattle.block_refine.specs.Refining
+pub use Rattle.block_refine.specs.declared.refinement.SplitLimit

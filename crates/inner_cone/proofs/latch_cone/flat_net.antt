@@ -1,0 +1,3 @@
+pub use Rattle.flat_net.proofs.Nets
+pub use Rattle.flat_net.proofs.Places
+pub use Rattle.flat_net.proofs.TableLemmas

@@ -1,0 +1,2 @@
+pub use Rattle.signal_graph.proofs.flat_net.Nets
+pub use Rattle.signal_graph.proofs.flat_net.Places

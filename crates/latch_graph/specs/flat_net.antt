@@ -1,0 +1,6 @@
+pub use Rattle.signal_graph.specs.flat_net.Cut
+pub use Rattle.signal_graph.specs.flat_net.Sound
+pub use Rattle.signal_graph.specs.flat_net.View
+pub use Rattle.signal_graph.specs.flat_net.Driver
+pub use Rattle.signal_graph.specs.flat_net.Gate
+pub use Rattle.signal_graph.specs.flat_net.LatchAt

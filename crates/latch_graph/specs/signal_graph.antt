@@ -1,0 +1,1 @@
+pub use Rattle.signal_graph.specs.Graph

@@ -1,0 +1,1 @@
+pub use Rattle.lane_eval.proofs.Numbered

@@ -1,0 +1,2 @@
+pub use Rattle.pair_decide.proofs.Reached
+pub use Rattle.pair_decide.proofs.Read

@@ -1,0 +1,2 @@
+pub use Rattle.lane_eval.specs.Blocks
+pub use Rattle.lane_eval.specs.Signatures

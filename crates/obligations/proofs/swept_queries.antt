@@ -1,0 +1,1 @@
+pub use Rattle.swept_queries.proofs.Listed

@@ -1,0 +1,4 @@
+pub use Rattle.outcome.specs.aig.Cone
+pub use Rattle.outcome.specs.aig.Graph
+pub use Rattle.outcome.specs.aig.Values
+pub use Rattle.outcome.specs.aig.Node

@@ -1,0 +1,1 @@
+pub use Rattle.outcome.specs.cnf_encode.Encoding

@@ -1,0 +1,1 @@
+pub use Rattle.outcome.specs.sat_search.Found

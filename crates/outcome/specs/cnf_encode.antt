@@ -1,0 +1,1 @@
+pub use Rattle.pair_decide.specs.cnf_encode.Encoding

@@ -1,0 +1,1 @@
+pub use Rattle.pair_decide.specs.sat_search.Found

@@ -1,0 +1,1 @@
+pub use Rattle.witness_report.specs.sec_base.PairAnswer

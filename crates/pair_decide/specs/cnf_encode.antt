@@ -1,0 +1,1 @@
+pub use Rattle.cnf_encode.specs.Encoding

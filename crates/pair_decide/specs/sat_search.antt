@@ -1,0 +1,1 @@
+pub use Rattle.sat_search.specs.Found

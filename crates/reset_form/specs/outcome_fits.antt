@@ -1,0 +1,3 @@
+pub use Rattle.outcome_fits.specs.Fitting
+pub use Rattle.outcome_fits.specs.ResetLimits
+pub use Rattle.outcome_fits.specs.ResetOutcome

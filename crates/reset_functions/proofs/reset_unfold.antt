@@ -1,0 +1,2 @@
+pub use Rattle.reset_unfold.proofs.CoveredCones
+pub use Rattle.reset_unfold.proofs.TreeLeaves

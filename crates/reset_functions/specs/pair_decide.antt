@@ -1,0 +1,1 @@
+pub use Rattle.shift_variables.specs.pair_decide.Proof

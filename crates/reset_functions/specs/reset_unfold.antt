@@ -1,0 +1,2 @@
+pub use Rattle.reset_unfold.specs.Places
+pub use Rattle.reset_unfold.specs.Unfolded

@@ -1,0 +1,2 @@
+pub use Rattle.circuit_theory.proofs.Lists
+pub use Rattle.circuit_theory.proofs.Sums

@@ -1,0 +1,1 @@
+pub use Rattle.interface.proofs.flat_net.Nets

@@ -1,0 +1,1 @@
+pub use Rattle.interface.specs.declared.pairs.SignalPair

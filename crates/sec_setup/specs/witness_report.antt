@@ -1,0 +1,4 @@
+pub use Rattle.interface.specs.witness_report.Shown
+pub use Rattle.interface.specs.witness_report.Stimulus
+pub use Rattle.interface.specs.witness_report.PairName
+pub use Rattle.interface.specs.witness_report.Witness

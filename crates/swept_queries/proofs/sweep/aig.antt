@@ -1,0 +1,3 @@
+pub use Rattle.aig.proofs.Insert
+pub use Rattle.aig.proofs.Literals
+pub use Rattle.aig.proofs.Meaning

@@ -1,0 +1,1 @@
+pub use Rattle.node_agreement.proofs.lane_eval.Numbered

@@ -1,0 +1,2 @@
+pub use Rattle.node_agreement.proofs.pair_decide.Reached
+pub use Rattle.node_agreement.proofs.pair_decide.Read

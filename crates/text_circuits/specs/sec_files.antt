@@ -1,0 +1,1 @@
+pub use Rattle.sec_files.specs.Loading

@@ -1,0 +1,2 @@
+pub use Rattle.circuit_theory.specs.declared.Mode
+pub use Rattle.circuit_theory.specs.declared.Side

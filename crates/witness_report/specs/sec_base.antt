@@ -1,0 +1,3 @@
+pub use Rattle.sec_base.specs.Texts
+pub use Rattle.sec_base.specs.declared.basics.PairAnswer
+pub use Rattle.sec_base.specs.declared.settings.Settings
