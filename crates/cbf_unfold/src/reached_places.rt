@@ -7,13 +7,13 @@ ghost use Rattle.unfold_places.specs.Reach.{AreUnmet, IsReach};
 ghost use Rattle.unfold_places.specs.declared.error.UnfoldError.TheVariants as unfold_error;
 
 use base_tables::PlaceTable;
-use flat_net::{Net, Signal};
+use flat_net::{Net, Signal, weigh};
 use sec_base::MAX_WEIGHT;
 use std::alloc::Global;
 use unfold_places::UnfoldError;
 use unfold_places::listing::listed;
 use unfold_places::memo::{Memo, Place};
-use unfold_places::reads::{add, add_read, weigh};
+use unfold_places::reads::{add, add_read};
 
 /// The places that the unfolding of the signal visits and that haven't been met, in an order of evaluation. It doesn't look
 /// behind a place that has been met. The signal stands in the cycle `cap`. `TooLarge` comes only where they weigh more than

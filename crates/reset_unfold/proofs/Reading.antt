@@ -9,7 +9,8 @@ use Rattle.flat_net.proofs.Places.{one_at}
 use Rattle.unfold_places.specs.Places.{Steps}
 use Rattle.unfold_places.specs.Reach.{Adds}
 use Rattle.unfold_places.proofs.Lists.{adds_weaker}
-use Rattle.unfold_places.proofs.Drivers.{gate_of_equation, no_port, latch_equation_stands, latch_steps_from}
+use Rattle.flat_net.proofs.Drivers.{gate_of_equation, no_port, latch_equation_stands}
+use Rattle.unfold_places.proofs.Steps.{latch_steps_from}
 
 no_gate_latch : {i j : ℕ} → driver.Gate i ≡ driver.Latch j → ⊥
 no_gate_latch e = cc

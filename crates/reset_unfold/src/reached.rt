@@ -4,20 +4,20 @@ ghost use Rattle.std.specs.Prelude.{◌≡◌, ℕ, ◌+◌, ◌^◌, ◌<◌, �
 ghost use Rattle.flat_net.specs.declared.signals.Signal.{Signal};
 ghost use Rattle.reset_laws.specs.Weight.{IsResetOver};
 ghost use Rattle.flat_net.specs.View.{circuit_of};
-ghost use Rattle.unfold_places.specs.Places.{Steps, weight_at};
+ghost use Rattle.unfold_places.specs.Places.{Steps};
+ghost use Rattle.flat_net.specs.Weights.{weight_at};
 ghost use Rattle.unfold_places.specs.Reach.{Adds, IsThere};
 ghost use Rattle.unfold_places.specs.declared.error.UnfoldError.TheVariants as unfold_error;
 ghost use Rattle.reset_unfold.specs.Places.{starts_of};
 ghost use Rattle.reset_unfold.specs.Reach.{AreUnmet, IsReach};
 
 use base_tables::PlaceTable;
-use flat_net::{Driver, Net, Signal};
+use flat_net::{Driver, Net, Signal, gate_of, latch_of, weigh};
 use sec_base::{MAX_WEIGHT, NoMemory};
 use std::alloc::Global;
 use unfold_places::UnfoldError;
 use unfold_places::listing::listed;
 use unfold_places::memo::{Memo, Place};
-use unfold_places::reads::{gate_of, latch_of, weigh};
 
 /// The places that the unfolding of a signal in its cycle visits and that haven't been met, in an order of evaluation. It doesn't
 /// look behind a place that has been met. `TooLarge` comes only where they weigh more than the cap.

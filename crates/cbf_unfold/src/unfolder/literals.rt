@@ -4,18 +4,17 @@ ghost use Rattle.std.specs.Prelude.{◌≡◌, ℕ, ◌+◌, ◌-◌, ◌*◌, �
 ghost use Rattle.std.specs.List.{AllZip};
 ghost use Rattle.aig.specs.declared.node.Lit.{Lit};
 ghost use Rattle.aig.specs.Graph.{Grows};
-ghost use Rattle.unfold_places.specs.Places.{gate_weight, weight_at};
+ghost use Rattle.flat_net.specs.Weights.{gate_weight, weight_at};
 ghost use Rattle.cbf_unfold.specs.Unfolded.{IsKnown};
 ghost use Rattle.cbf_unfold.specs.Building.{AreKnown, IsMet, IsReady, HasGrown, IsInputLit, IsGateLit};
 
 use super::Unfolder;
 use aig::{Aig, Lit};
 use base_tables::PlaceTable;
-use flat_net::{Driver, Signal};
+use flat_net::{Driver, Signal, gate_of, latch_of};
 use sec_base::NoMemory;
 use std::alloc::Global;
 use unfold_places::memo::Place;
-use unfold_places::reads::{gate_of, latch_of};
 
 impl<'a> Unfolder<'a> {
     /// The literal of a place that can be unfolded.

@@ -5,7 +5,7 @@ ghost use Rattle.std.specs.List.{AllZip};
 ghost use Rattle.flat_net.specs.declared.parts.Driver.TheVariants as driver;
 ghost use Rattle.aig.specs.declared.node.Lit.{Lit};
 ghost use Rattle.aig.specs.Graph.{Grows};
-ghost use Rattle.unfold_places.specs.Places.{gate_weight, weight_at};
+ghost use Rattle.flat_net.specs.Weights.{gate_weight, weight_at};
 ghost use Rattle.unfold_places.specs.Reach.{IsMet};
 ghost use Rattle.unfold_places.specs.Growing.{HasGrown};
 ghost use Rattle.reset_unfold.specs.Unfolded.{IsKnown};
@@ -15,11 +15,10 @@ use super::ResetUnfolder;
 use crate::leaves::initial;
 use aig::{Aig, Lit};
 use base_tables::PlaceTable;
-use flat_net::{Driver, Signal};
+use flat_net::{Driver, Signal, gate_of, latch_of};
 use sec_base::NoMemory;
 use std::alloc::Global;
 use unfold_places::memo::Place;
-use unfold_places::reads::{gate_of, latch_of};
 
 impl<'a> ResetUnfolder<'a> {
     /// The literal of a place that can be unfolded.

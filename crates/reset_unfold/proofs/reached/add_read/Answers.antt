@@ -2,7 +2,8 @@
 use Rattle.std.proofs.Common.{◌∙◌, ap, Some}
 use Rattle.std.proofs.lemmas.Option.{slice_get_within}
 use Rattle.unfold_places.specs.Reach.{IsThere}
-use Rattle.unfold_places.proofs.Drivers.{input_steps, driven_gate, driven_latch}
+use Rattle.flat_net.proofs.Drivers.{driven_gate, driven_latch}
+use Rattle.unfold_places.proofs.Steps.{input_steps}
 use Rattle.unfold_places.proofs.ReadPlaces.{gate_adds, gate_all_ok}
 use Rattle.reset_unfold.proofs.Reading.{before_adds, before_all}
 use Rattle.reset_unfold.proofs.reached.add_read.Goals as goal
@@ -30,8 +31,8 @@ returns-in-Gate-clause-all c =
 
 pub returns-in-Latch-clause-adds : goal.returns-in-Latch-clause-adds
 returns-in-Latch-clause-adds c =
-    before_adds _ c.keeps.ensures.sound _ _ (c.driver.ensures ∙ ap Some c.in-Latch.is) _ c.latch_of.ensures c.args.cycle _ _ c.add_before.ensures.adds
+    before_adds _ c.keeps.ensures.sound _ _ (c.driver.ensures ∙ ap Some c.in-Latch.is) _ c.latch_of.ensures.there c.args.cycle _ _ c.add_before.ensures.adds
 
 pub returns-in-Latch-clause-all : goal.returns-in-Latch-clause-all
 returns-in-Latch-clause-all c =
-    before_all _ c.keeps.ensures.sound _ _ (c.driver.ensures ∙ ap Some c.in-Latch.is) _ c.latch_of.ensures c.args.cycle (IsThere c.args.memo.now c.add_before.new.table) _ c.add_before.ensures.all
+    before_all _ c.keeps.ensures.sound _ _ (c.driver.ensures ∙ ap Some c.in-Latch.is) _ c.latch_of.ensures.there c.args.cycle (IsThere c.args.memo.now c.add_before.new.table) _ c.add_before.ensures.all

@@ -2,7 +2,8 @@
 use Rattle.std.proofs.Common.{◌∙◌, ap, Some}
 use Rattle.std.proofs.lemmas.Option.{slice_get_within}
 use Rattle.unfold_places.specs.Reach.{IsThere}
-use Rattle.unfold_places.proofs.Drivers.{input_steps, driven_gate, driven_latch}
+use Rattle.flat_net.proofs.Drivers.{driven_gate, driven_latch}
+use Rattle.unfold_places.proofs.Steps.{input_steps}
 use Rattle.unfold_places.proofs.ReadPlaces.{gate_adds, gate_all_ok, latch_adds, latch_all_ok}
 use Rattle.unfold_places.proofs.reads.add_read.Goals as goal
 
@@ -29,8 +30,8 @@ returns-in-Gate-clause-all c =
 
 pub returns-in-Latch-clause-adds : goal.returns-in-Latch-clause-adds
 returns-in-Latch-clause-adds c =
-    latch_adds _ c.keeps.ensures.sound _ _ _ _ _ (c.driver.ensures ∙ ap Some c.in-Latch.is) _ c.latch_of.ensures c.requires.early c.add.ensures.adds
+    latch_adds _ c.keeps.ensures.sound _ _ _ _ _ (c.driver.ensures ∙ ap Some c.in-Latch.is) _ c.latch_of.ensures.there c.requires.early c.add.ensures.adds
 
 pub returns-in-Latch-clause-all : goal.returns-in-Latch-clause-all
 returns-in-Latch-clause-all c =
-    latch_all_ok _ c.keeps.ensures.sound _ _ _ c.args.table.now c.args.table.now (c.driver.ensures ∙ ap Some c.in-Latch.is) _ c.latch_of.ensures (IsThere c.args.memo.now c.add.new.table) _ c.add.ensures.here
+    latch_all_ok _ c.keeps.ensures.sound _ _ _ c.args.table.now c.args.table.now (c.driver.ensures ∙ ap Some c.in-Latch.is) _ c.latch_of.ensures.there (IsThere c.args.memo.now c.add.new.table) _ c.add.ensures.here

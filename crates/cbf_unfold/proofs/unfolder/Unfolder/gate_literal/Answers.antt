@@ -8,7 +8,7 @@ use Rattle.flat_net.specs.declared.parts.Gate.{Gate}
 use Rattle.flat_net.specs.View.{NetView}
 use Rattle.flat_net.proofs.Places.{cover_of-is, cover_within, cover_fits}
 use Rattle.aig.specs.declared.node.Lit.{Lit}
-use Rattle.unfold_places.specs.Places.{gate_weight}
+use Rattle.flat_net.specs.Weights.{gate_weight}
 use Rattle.cbf_unfold.specs.Building.{IsMet}
 use Rattle.cbf_unfold.proofs.PlaceLits.{zip_all, cover_within_weight, gate_lit_from}
 use Rattle.cbf_unfold.proofs.unfolder.Unfolder.gate_literal.Goals as goal

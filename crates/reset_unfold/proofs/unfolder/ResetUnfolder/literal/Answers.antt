@@ -4,8 +4,8 @@ use Rattle.std.proofs.lemmas.Option.{slice_get_within}
 use Rattle.flat_net.specs.declared.parts.Driver.TheVariants as driver
 use Rattle.flat_net.specs.View.{NetView}
 use Rattle.flat_net.specs.Sound.{IsSound}
-use Rattle.unfold_places.specs.Places.{driver_weight, weight_at}
-use Rattle.unfold_places.proofs.Drivers.{driven_gate}
+use Rattle.flat_net.specs.Weights.{driver_weight, weight_at}
+use Rattle.flat_net.proofs.Drivers.{driven_gate}
 use Rattle.unfold_places.proofs.Growing.{gate_grown, grown_as}
 use Rattle.reset_unfold.proofs.PlaceLits.{input_is, gate_is, gate_met, gate_counts}
 use Rattle.reset_unfold.proofs.unfolder.ResetUnfolder.literal.Goals as goal

@@ -1,12 +1,12 @@
 -- What drives a signal says what it reads and what it counts.
-use Rattle.std.proofs.Common.{◌≡◌, ◌∙◌, ◌+◌, ◌*◌, ◌<◌, ◌≤◌, ℕ, suc, max, List, [], ◌∷◌, length, map, slice_get, Option, Some, None, refl, sym, ap, subst, arith, inl, inr}
+use Rattle.std.proofs.Common.{◌≡◌, ◌∙◌, ◌+◌, ◌*◌, ◌<◌, ◌≤◌, max, ℕ, suc, List, [], ◌∷◌, length, map, slice_get, Option, Some, None, refl, sym, ap, subst, arith, inl, inr}
 use Rattle.std.specs.Prelude.{◌⊎◌}
 use Rattle.std.specs.List.{Contains}
 use Rattle.std.proofs.lemmas.List.Elements.{All-contains}
 use Rattle.circuit_theory.specs.Cover.{Cover}
 use Rattle.circuit_theory.specs.Circuit.{Gate as gate_equation, Latch as latch_equation, Port, IsInput, IsLatch, IsSource, Reads}
-use Rattle.circuit_theory.specs.Net.{IsAbove}
 use Rattle.circuit_theory.specs.Sizes.{WeighsAt}
+use Rattle.circuit_theory.specs.Net.{IsAbove, IsWithin}
 use Rattle.circuit_theory.proofs.Lists.{Contains-map, Contains-map_from}
 use Rattle.flat_net.specs.declared.signals.Signal.{Signal}
 use Rattle.flat_net.specs.declared.parts.Port.{Port as InputPort}
@@ -16,15 +16,15 @@ use Rattle.flat_net.specs.declared.parts.Driver.{Driver}
 use Rattle.flat_net.specs.declared.parts.Driver.TheVariants as driver
 use Rattle.flat_net.specs.View.{NetView, circuit_of, cover_of, equation_of_gate, equation_of_latch}
 use Rattle.flat_net.specs.Sound.{IsSound}
-use Rattle.flat_net.proofs.Nets.{OfGate, OfLatch, equation_from, input_from, gate_stands, latch_stands, input_stands, sound_is_net, some_at}
+use Rattle.flat_net.proofs.Nets.{OfGate, OfLatch, some_at, equation_from, input_from, input_stands, gate_stands, latch_stands, sound_is_net}
 use Rattle.flat_net.proofs.Places.{one_at}
-use Rattle.latch_kinds.specs.unate_enable.Weighing.{weight_at, driver_weight, gate_weight}
+use Rattle.flat_net.specs.Weights.{weight_at, driver_weight, gate_weight}
 
 -- which driver it is
 same_gate : {i j : ℕ} → driver.Gate i ≡ driver.Gate j → i ≡ j
 same_gate e = cc
 
-same_latch : {i j : ℕ} → driver.Latch i ≡ driver.Latch j → i ≡ j
+pub same_latch : {i j : ℕ} → driver.Latch i ≡ driver.Latch j → i ≡ j
 same_latch e = cc
 
 same_input : {i j : ℕ} → driver.Input i ≡ driver.Input j → i ≡ j
@@ -95,7 +95,7 @@ module _ (n : NetView) (sound : IsSound n) where
           let p = parts l.latch l.is in
           record { j = l.j; latch = l.latch; at = l.at; owner = subst (λ o. slice_get n.drivers o ≡ Some (driver.Latch l.j)) p.0 (sound.latches l.j l.latch l.at).owner; next_is = p.1 }
 
-  no_port : (s from : ℕ) → Contains (circuit_of n).equations (Port s from) → ⊥
+  pub no_port : (s from : ℕ) → Contains (circuit_of n).equations (Port s from) → ⊥
   no_port s from h = All-contains IsAbove (circuit_of n).equations (Port s from) (sound_is_net n sound).above h
 
   -- the input of an input's place
@@ -104,6 +104,14 @@ module _ (n : NetView) (sound : IsSound n) where
       let i = input_from n _ h.1 in
       let place : i.port.signal.0 ≡ s = ap (λ k. k.place) i.is in
       (i.j, i.port, i.at, place, subst (λ o. slice_get n.drivers o ≡ Some (driver.Input i.j)) place (sound.inputs i.j i.port i.at).owner)
+
+  -- an input reads nothing, and is no latch
+  pub input_reads : (s i q : ℕ) → slice_get n.drivers s ≡ Some (driver.Input i) → Reads (circuit_of n) s q → ⊥
+  input_reads s i q drives (Reads.by_gate {fanins = fanins} {cover = cover} eq k) = no_input_gate (one_at n.drivers s _ _ drives (gate_of_equation s fanins cover eq).owner)
+  input_reads s i q drives (Reads.by_port {from = from} eq) = no_port s from eq
+
+  pub input_latch : (s i next : ℕ) (name : List ℕ) → slice_get n.drivers s ≡ Some (driver.Input i) → IsLatch (circuit_of n) name s next → ⊥
+  input_latch s i next name drives h = no_input_latch (one_at n.drivers s _ _ drives (latch_of_equation name s next h).owner)
 
   -- what no gate drives reads nothing
   pub no_gate_reads : (s q : ℕ) (d : Driver) → slice_get n.drivers s ≡ Some d → ((j : ℕ) → d ≡ driver.Gate j → ⊥) → Reads (circuit_of n) s q → ⊥
@@ -126,7 +134,7 @@ module _ (n : NetView) (sound : IsSound n) where
           let one : other.j ≡ j = same_gate (one_at n.drivers s _ _ other.owner drives) in
           one_at n.gates j other.gate g (ap (slice_get n.gates) (sym one) ∙ other.at) at
 
-      -- a gate reads its fan-ins
+      -- a gate reads its fan-ins, and is no latch
       pub gate_reads_to : (f : Signal) → Contains g.fanins f → Reads (circuit_of n) s f.0
       gate_reads_to f h = Reads.by_gate gate_equation_stands (Contains-map (λ (k : Signal). k.0) g.fanins f h)
 
@@ -136,6 +144,9 @@ module _ (n : NetView) (sound : IsSound n) where
           let mine : map (λ (f : Signal). f.0) g.fanins ≡ fanins = ap (λ (z : Gate). map (λ (f : Signal). f.0) z.fanins) (sym (same_as fanins cover other)) ∙ other.fanins_are in
           Contains-map_from (λ (f : Signal). f.0) g.fanins q (subst (λ l. Contains l q) (sym mine) k)
       gate_reads_from q (Reads.by_port {from = from} eq) = absurd (no_port s from eq)
+
+      pub gate_latch : (name : List ℕ) (next : ℕ) → IsLatch (circuit_of n) name s next → ⊥
+      gate_latch name next h = no_gate_latch (one_at n.drivers s _ _ drives (latch_of_equation name s next h).owner)
 
       pub gate_weight_is : weight_at n s ≡ gate_weight n.covers (Some g)
       gate_weight_is = ap (driver_weight n) drives ∙ ap (gate_weight n.covers) at
@@ -150,6 +161,18 @@ module _ (n : NetView) (sound : IsSound n) where
 
       pub latch_equation_stands : IsLatch (circuit_of n) l.name s l.next.0
       latch_equation_stands = subst (λ o. IsLatch (circuit_of n) l.name o l.next.0) latch_out (latch_stands n j l at)
+
+      -- a latch reads nothing in its own cycle, and takes over one signal
+      pub latch_reads : (q : ℕ) → Reads (circuit_of n) s q → ⊥
+      latch_reads q (Reads.by_gate {fanins = fanins} {cover = cover} eq k) = no_gate_latch (one_at n.drivers s _ _ (gate_of_equation s fanins cover eq).owner drives)
+      latch_reads q (Reads.by_port {from = from} eq) = no_port s from eq
+
+      pub latch_next : (name : List ℕ) (next : ℕ) → IsLatch (circuit_of n) name s next → l.next.0 ≡ next
+      latch_next name next h =
+          let other = latch_of_equation name s next h in
+          let one : other.j ≡ j = same_latch (one_at n.drivers s _ _ other.owner drives) in
+          let latch : other.latch ≡ l = one_at n.latches j other.latch l (ap (slice_get n.latches) (sym one) ∙ other.at) at in
+          ap (λ (m : LatchAt). m.next.0) (sym latch) ∙ other.next_is
 
   -- a signal's weight is what it counts
   pub weighs : (s : ℕ) → s < length n.drivers → WeighsAt (circuit_of n) s (weight_at n s)
@@ -183,11 +206,14 @@ module _ (n : NetView) (sound : IsSound n) where
       by (Some (driver.Gate j)) = gate (slice_get n.gates j)
       by (Some (driver.Latch j)) = omega arith
 
-  -- what is read stands before
-  pub read_lower : (s q : ℕ) → Reads (circuit_of n) s q → q < s
-  read_lower s q (Reads.by_gate {fanins = fanins} {cover = cover} eq k) =
-      All-contains (λ f. f < s) fanins q (All-contains IsAbove (circuit_of n).equations (gate_equation s fanins cover) (sound_is_net n sound).above eq) k
-  read_lower s q (Reads.by_port {from = from} eq) = absurd (no_port s from eq)
+  -- what is read is a signal of the net, and is lower
+  pub reads_lower : (p q : ℕ) → Reads (circuit_of n) p q → q < p
+  reads_lower p q (Reads.by_gate {fanins = fanins} {cover = cover} eq k) =
+      All-contains (λ f. f < p) fanins q (All-contains IsAbove (circuit_of n).equations (gate_equation p fanins cover) (sound_is_net n sound).above eq) k
+  reads_lower p q (Reads.by_port {from = from} eq) = absurd (no_port p from eq)
+
+  pub latch_within : (name : List ℕ) (p next : ℕ) → IsLatch (circuit_of n) name p next → next < length n.drivers
+  latch_within name p next h = (All-contains (IsWithin (length n.drivers)) (circuit_of n).equations (latch_equation name p next) (sound_is_net n sound).within h).1
 
   -- inputs and latches are what gates don't drive
   pub input_source : (s i : ℕ) → slice_get n.drivers s ≡ Some (driver.Input i) → IsSource (circuit_of n) s
