@@ -5,3 +5,5 @@ pub mod Flat
 pub mod Nets
 pub mod LoadExamples
 pub mod PlainExamples
+pub mod Counting
+pub mod Shallow
