@@ -5,5 +5,3 @@ pub mod Flat
 pub mod Nets
 pub mod LoadExamples
 pub mod PlainExamples
-pub mod Counting
-pub mod Shallow
