@@ -6,7 +6,7 @@ ghost use Rattle.clap.specs.Words.{fault_of, first_of, found_of, rows_of, subcom
 ghost use Rattle.clap.specs.ValueTests.{accepts};
 ghost use Rattle.clap.specs.declared.builder.value_parser.ValueParser.TheVariants as parser;
 ghost use Rattle.command_line.specs.command_words.Command.{sec_app};
-ghost use Rattle.command_line.specs.Jobs.{job_of, task_in, check_in, graph_in, sim_in, replay_in, gen_in, lrat_in, cert_in, induct_in, form_of, form_in, mode_of, mode_in, refuses_reset, is_set, number_of, conflicts_in, settings_in};
+ghost use Rattle.command_line.specs.Jobs.{job_of, task_in, check_in, graph_in, sim_in, replay_in, gen_in, lrat_in, cert_in, induct_in, form_in, mode_of, mode_in, refuses_reset, is_set, number_of, conflicts_in, settings_in};
 
 use crate::command_words::sec_command;
 use crate::task::Task;
@@ -57,12 +57,10 @@ impl From<NoMemory> for WordsError {
 fn mode_of(word: &str) -> Option<Mode>
     ensures { result ≡ mode_of word.now }
 {
-    if word == "plain" {
-        Some(Mode::Plain)
-    } else if word == "event" {
-        Some(Mode::Event)
-    } else {
-        None
+    match word {
+        "plain" => Some(Mode::Plain),
+        "event" => Some(Mode::Event),
+        _ => None,
     }
 }
 
@@ -140,6 +138,16 @@ fn settings_in(matches: &ArgMatches<'_>) -> Option<Settings>
     })
 }
 
+/// Both words as paths of files.
+fn paths_of(alloc: Global, first: &str, second: &str) -> Result<(FilePath, FilePath), NoMemory>
+    ensures { IfOk result (λ paths. (paths.0 ≡ first.now) × (paths.1 ≡ second.now)) }
+{
+    Ok((
+        FilePath::from_str(alloc, first)?,
+        FilePath::from_str(alloc, second)?,
+    ))
+}
+
 /// The word, where there is one, as the path of a file.
 fn path_of(alloc: Global, word: Option<&str>) -> Result<Option<FilePath>, NoMemory>
     ensures { IfOk result (λ path. path ≡ option_map (λ w. w.now) word.entry) }
@@ -162,11 +170,13 @@ fn check_in(alloc: Global, matches: &ArgMatches<'_>) -> Result<Option<Task>, NoM
     let Some(settings) = settings_in(matches) else {
         return Ok(None);
     };
+    let assumed = path_of(alloc, word(matches, "assume"))?;
+    let (a, b) = paths_of(alloc, a, b)?;
     Ok(Some(Task::Check {
-        a: FilePath::from_str(alloc, a)?,
-        b: FilePath::from_str(alloc, b)?,
+        a,
+        b,
         settings,
-        assumed: path_of(alloc, word(matches, "assume"))?,
+        assumed,
     }))
 }
 
@@ -207,12 +217,15 @@ fn sim_in(alloc: Global, matches: &ArgMatches<'_>) -> Result<Option<Task>, NoMem
     let Some(mode) = mode_in(matches) else {
         return Ok(None);
     };
+    let reset = is_set(matches, "reset");
+    let power = copied(alloc, word(matches, "power"))?;
+    let (a, s) = paths_of(alloc, a, s)?;
     Ok(Some(Task::Sim {
-        a: FilePath::from_str(alloc, a)?,
-        s: FilePath::from_str(alloc, s)?,
+        a,
+        s,
         mode,
-        power: copied(alloc, word(matches, "power"))?,
-        reset: is_set(matches, "reset"),
+        power,
+        reset,
     }))
 }
 
@@ -231,12 +244,9 @@ fn replay_in(alloc: Global, matches: &ArgMatches<'_>) -> Result<Option<Task>, No
     let Some(mode) = mode_in(matches) else {
         return Ok(None);
     };
-    Ok(Some(Task::Replay {
-        a: FilePath::from_str(alloc, a)?,
-        b: FilePath::from_str(alloc, b)?,
-        s: FilePath::from_str(alloc, s)?,
-        mode,
-    }))
+    let s = FilePath::from_str(alloc, s)?;
+    let (a, b) = paths_of(alloc, a, b)?;
+    Ok(Some(Task::Replay { a, b, s, mode }))
 }
 
 fn gen_in(matches: &ArgMatches<'_>) -> Option<Task>
@@ -260,30 +270,19 @@ fn lrat_in(alloc: Global, matches: &ArgMatches<'_>) -> Result<Option<Task>, NoMe
     let Some(l) = word(matches, "l") else {
         return Ok(None);
     };
-    Ok(Some(Task::Lrat {
-        f: FilePath::from_str(alloc, f)?,
-        l: FilePath::from_str(alloc, l)?,
-    }))
+    let (f, l) = paths_of(alloc, f, l)?;
+    Ok(Some(Task::Lrat { f, l }))
 }
 
-/// Whether the word names the form of a refutation, and not that of the clauses.
-fn form_of(word: &str) -> Option<bool>
-    ensures { result ≡ form_of word.now }
-{
-    if word == "lrat" {
-        Some(true)
-    } else if word == "cnf" {
-        Some(false)
-    } else {
-        None
-    }
-}
-
-/// The form that the words name.
+/// Whether the words name the form of a refutation, and not that of the clauses.
 fn form_in(matches: &ArgMatches<'_>) -> Option<bool>
     ensures { result ≡ form_in (rows_of (found_of matches.now)) }
 {
-    form_of(word(matches, "form")?)
+    match word(matches, "form")? {
+        "lrat" => Some(true),
+        "cnf" => Some(false),
+        _ => None,
+    }
 }
 
 fn cert_in(alloc: Global, matches: &ArgMatches<'_>) -> Result<Option<Task>, NoMemory>
@@ -304,10 +303,12 @@ fn cert_in(alloc: Global, matches: &ArgMatches<'_>) -> Result<Option<Task>, NoMe
     let Some(conflicts) = conflicts_in(matches) else {
         return Ok(None);
     };
+    let pair = Seq::from_vec(pair.as_bytes().to_vec(alloc)?);
+    let (a, b) = paths_of(alloc, a, b)?;
     Ok(Some(Task::Cert {
-        a: FilePath::from_str(alloc, a)?,
-        b: FilePath::from_str(alloc, b)?,
-        pair: Seq::from_vec(pair.as_bytes().to_vec(alloc)?),
+        a,
+        b,
+        pair,
         lrat,
         conflicts,
     }))
@@ -325,45 +326,38 @@ fn induct_in(alloc: Global, matches: &ArgMatches<'_>) -> Result<Option<Task>, No
     let Some(conflicts) = conflicts_in(matches) else {
         return Ok(None);
     };
-    Ok(Some(Task::Induct {
-        a: FilePath::from_str(alloc, a)?,
-        b: FilePath::from_str(alloc, b)?,
-        conflicts,
-    }))
+    let (a, b) = paths_of(alloc, a, b)?;
+    Ok(Some(Task::Induct { a, b, conflicts }))
 }
 
 /// The task of a subcommand's matches.
 fn task_in(alloc: Global, name: &str, matches: &ArgMatches<'_>) -> Result<Option<Task>, NoMemory>
     ensures { IfOk result (λ task. task ≡ task_in name.now (rows_of (found_of matches.now))) }
 {
-    if name == "check" {
-        check_in(alloc, matches)
-    } else if name == "graph" {
-        graph_in(alloc, matches)
-    } else if name == "sim" {
-        sim_in(alloc, matches)
-    } else if name == "replay" {
-        replay_in(alloc, matches)
-    } else if name == "gen" {
-        Ok(gen_in(matches))
-    } else if name == "lrat" {
-        lrat_in(alloc, matches)
-    } else if name == "cert" {
-        cert_in(alloc, matches)
-    } else if name == "induct" {
-        induct_in(alloc, matches)
-    } else {
-        Ok(None)
+    match name {
+        "check" => check_in(alloc, matches),
+        "graph" => graph_in(alloc, matches),
+        "sim" => sim_in(alloc, matches),
+        "replay" => replay_in(alloc, matches),
+        "gen" => Ok(gen_in(matches)),
+        "lrat" => lrat_in(alloc, matches),
+        "cert" => cert_in(alloc, matches),
+        "induct" => induct_in(alloc, matches),
+        _ => Ok(None),
     }
 }
 
 /// The task of the subcommand that was met.
-fn task_of(alloc: Global, matches: &ArgMatches<'_>) -> Result<Option<Task>, NoMemory>
-    ensures { IfOk result (λ task. task ≡ option_and_then (λ met. task_in met.0 met.1) (subcommand_rows_of matches.now)) }
+fn task_of(alloc: Global, matches: &ArgMatches<'_>) -> Result<Task, WordsError>
+    ensures task { IfOk result (λ task. option_and_then (λ met. task_in met.0 met.1) (subcommand_rows_of matches.now) ≡ Some task) }
+    ensures refused { IsErrOf result WordsError.Refused → option_and_then (λ met. task_in met.0 met.1) (subcommand_rows_of matches.now) ≡ None }
 {
-    match matches.subcommand() {
-        Some((name, inner)) => task_in(alloc, name, inner),
-        None => Ok(None),
+    let Some((name, inner)) = matches.subcommand() else {
+        return Err(WordsError::Refused);
+    };
+    match task_in(alloc, name, inner)? {
+        Some(task) => Ok(task),
+        None => Err(WordsError::Refused),
     }
 }
 
@@ -390,8 +384,5 @@ pub fn job(alloc: Global, words: &[String]) -> Result<Task, WordsError>
     ensures refused { IsErrOf result WordsError.Refused → job_of (map (λ w. string_bytes w) words.now) ≡ None }
 {
     let matches = matches_of(alloc, words)?;
-    match task_of(alloc, &matches)? {
-        Some(task) => Ok(task),
-        None => Err(WordsError::Refused),
-    }
+    task_of(alloc, &matches)
 }

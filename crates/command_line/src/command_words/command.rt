@@ -3,7 +3,7 @@
 ghost use Rattle.std.specs.Prelude.{◌≡◌, false, IfOk};
 ghost use Rattle.clap.specs.Words.{rule_of, app_of, new_app, with_rule, with_subcommand};
 ghost use Rattle.clap.specs.declared.builder.command.Command.TheViews.{out-Command};
-ghost use Rattle.command_line.specs.command_words.Command.{option_with, conflicts, number, top_app, sec_app};
+ghost use Rattle.command_line.specs.command_words.Command.{top_app, sec_app};
 ghost use Rattle.command_line.specs.command_words.Words.{word_rule, with_words, app_of_subcommand};
 
 use clap::builder::ValueParser;
@@ -109,29 +109,7 @@ fn words_of<'a>(which: Subcommand) -> (&'a str, &'a [Word<'a>])
     }
 }
 
-fn option_with<'a>(alloc: Global, id: &'a str, value: &'a str) -> Arg<'a>
-    ensures rule { rule_of result ≡ option_with id.entry.now value.entry.now }
-    ensures local { result.global ≡ false }
-{
-    Arg::new(alloc, id).long(id).default_value(value)
-}
-
-fn conflicts<'a>(alloc: Global) -> Arg<'a>
-    ensures rule { rule_of result ≡ conflicts }
-    ensures local { result.global ≡ false }
-{
-    option_with(alloc, "conflicts", "20000").value_parser(ValueParser::Unsigned(0, 200_000))
-}
-
-fn number<'a>(alloc: Global) -> Arg<'a>
-    ensures rule { rule_of result ≡ number }
-    ensures local { result.global ≡ false }
-{
-    Arg::new(alloc, "n")
-        .required(true)
-        .value_parser(ValueParser::Unsigned(0, u64::MAX))
-}
-
+/// What the word is to the parser.
 fn argument<'a>(alloc: Global, word: Word<'a>) -> Arg<'a>
     ensures rule { rule_of result ≡ word_rule word.entry }
     ensures local { result.global ≡ false }
@@ -139,10 +117,15 @@ fn argument<'a>(alloc: Global, word: Word<'a>) -> Arg<'a>
     match word {
         Word::Place(id) => Arg::new(alloc, id).required(true),
         Word::Option(id) => Arg::new(alloc, id).long(id),
-        Word::OptionWith(id, value) => option_with(alloc, id, value),
+        Word::OptionWith(id, value) => Arg::new(alloc, id).long(id).default_value(value),
         Word::Flag(id) => Arg::new(alloc, id).long(id).action(ArgAction::SetTrue),
-        Word::Conflicts => conflicts(alloc),
-        Word::Number => number(alloc),
+        Word::Conflicts => Arg::new(alloc, "conflicts")
+            .long("conflicts")
+            .default_value("20000")
+            .value_parser(ValueParser::Unsigned(0, 200_000)),
+        Word::Number => Arg::new(alloc, "n")
+            .required(true)
+            .value_parser(ValueParser::Unsigned(0, u64::MAX)),
     }
 }
 
