@@ -143,6 +143,15 @@ module _ (n : NetView) (sound : IsSound n) where
     pub driven_latch : (l : LatchAt) × (slice_get n.latches j ≡ Some l) × (l.out.0 ≡ s)
     driven_latch = sound.drivers s (driver.Latch j) drives
 
+    -- what a latch's place reads lies in the cycle before
+    pub latch_back : (t : ℕ) (q : ℕ × ℕ) → Steps (circuit_of n) (t, s) q → q.0 + 1 ≡ t
+    latch_back t q (inl h) = go h.1
+      where
+        go : Reads (circuit_of n) s q.1 → q.0 + 1 ≡ t
+        go (Reads.by_gate {fanins = fanins} {cover = cover} eq k) = absurd (no_gate_latch (one_at n.drivers s _ _ (gate_of_equation s fanins cover eq).owner drives))
+        go (Reads.by_port {from = from} eq) = absurd (no_port s from eq)
+    latch_back t q (inr h) = h.0
+
     module _ (l : LatchAt) (at : slice_get n.latches j ≡ Some l) where
       pub latch_out : l.out.0 ≡ s
       latch_out = ap (λ (m : LatchAt). m.out.0) (one_at n.latches j l driven_latch.0 at driven_latch.1) ∙ driven_latch.2

@@ -4,6 +4,7 @@ pub mod Drivers
 pub mod Weighing
 pub mod ReadPlaces
 pub mod Over
+pub mod Walk
 pub mod PairTest
 pub mod Order
 pub mod InputLists
@@ -12,4 +13,5 @@ pub mod Words
 pub mod Passing
 pub mod Candidates
 pub mod Growing
+pub mod PlaceLits
 pub mod Cone
