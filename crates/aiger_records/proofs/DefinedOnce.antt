@@ -1,13 +1,15 @@
--- Records that define each literal once.
-use Rattle.std.proofs.Common.{◌≡◌, ℕ, zero, suc, ◌*◌, ◌≤◌, Bool, true, false, true≢false, List, [], ◌∷◌, ◌++◌, length, slice_get, Some, refl, sym, ◌∙◌, ap, subst, arith, inl, inr}
+-- Records that define each literal once, and marks before there are any.
+use Rattle.std.proofs.Common.{◌≡◌, ℕ, zero, suc, ◌+◌, ◌*◌, ◌≤◌, Bool, true, false, true≢false, List, [], ◌∷◌, ◌++◌, length, replicate, slice_get, slice_index_or, Some, refl, sym, ◌∙◌, ap, subst, arith, inl, inr}
 use Rattle.std.specs.Prelude.{◌⊎◌, ◌||◌, ◌==◌}
 use Rattle.std.proofs.lemmas.Bool.Decides.{Decides-eqb}
+use Rattle.std.proofs.lemmas.List.{get_or-replicate, length-replicate}
 use Rattle.std.proofs.lemmas.List.Folds.{list_any_at, list_any-append}
 use Rattle.std.proofs.lemmas.Option.{none-some, same_Some, slice_get_within, get_or_from_slice_get}
 use Rattle.aiger_records.specs.declared.record.Record.{Record}
 use Rattle.aiger_records.specs.declared.record.Record.TheVariants.{Input}
 use Rattle.aiger_records.specs.Records.{inputs_to}
-use Rattle.aiger_records.specs.Faults.{defined_by, is_literal, is_defined, is_defined_again, DefinesOnce}
+use Rattle.aiger_records.specs.declared.header.Header.{Header}
+use Rattle.aiger_records.specs.Faults.{defined_by, is_literal, is_defined, is_defined_again, DefinesOnce, AreMarks}
 
 -- the old items, and the new one
 push_cases : {X : Type 0} (xs : List X) (y : X) (i : ℕ) (x : X) → slice_get (xs ++ y ∷ []) i ≡ Some x → (slice_get xs i ≡ Some x) ⊎ ((i ≡ length xs) × (y ≡ x))
@@ -54,3 +56,10 @@ not_later (suc n) k l =
 pub input_is_new : (records : List Record) (n literal : ℕ) → records ≡ inputs_to n → literal ≡ 2 * suc n → is_defined records literal ≡ false
 input_is_new records n literal is same =
     subst (λ (rs : List Record). is_defined rs literal ≡ false) (sym is) (subst (λ (l : ℕ). is_defined (inputs_to n) l ≡ false) (sym same) (not_later n n (omega arith)))
+
+-- no records, and no marks
+pub none_marked : (h : Header) (records : List Record) (marks : List Bool) → records ≡ [] → marks ≡ replicate (h.greatest + 1) false → AreMarks h records marks
+none_marked h records marks none all = record {
+  size = ap length all ∙ length-replicate (h.greatest + 1) false;
+  each = λ v within. ap (λ (ms : List Bool). slice_index_or ms v false) all ∙ (get_or-replicate (h.greatest + 1) v false false (omega (arith, within)) ∙ ap (λ (rs : List Record). is_defined rs (2 * v)) (sym none));
+}

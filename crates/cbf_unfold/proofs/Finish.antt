@@ -16,7 +16,8 @@ use Rattle.flat_net.specs.declared.signals.Signal.{Signal}
 use Rattle.aig.specs.declared.node.Lit.{Lit}
 use Rattle.aig.specs.declared.node.Node.{Node}
 use Rattle.aig.specs.Builds.{Builds}
-use Rattle.unfold_places.specs.Places.{Steps, weight_at}
+use Rattle.unfold_places.specs.Places.{Steps}
+use Rattle.flat_net.specs.Weights.{weight_at}
 use Rattle.unfold_places.specs.Reach.{IsThere, AreUnmet, IsReach}
 use Rattle.unfold_places.specs.Walk.{IsWalk, IsTooLong}
 use Rattle.cbf_unfold.specs.View.{UnfolderView}

@@ -17,7 +17,8 @@ use Rattle.base_tables.proofs.TableLemmas.{slice_get-take}
 use Rattle.latch_graph.proofs.Trails.{slice_get-drop}
 use Rattle.aig.specs.declared.node.Lit.{Lit}
 use Rattle.aig.specs.declared.node.Node.{Node}
-use Rattle.unfold_places.specs.Places.{PlaceBefore, weight_at}
+use Rattle.unfold_places.specs.Places.{PlaceBefore}
+use Rattle.flat_net.specs.Weights.{weight_at}
 use Rattle.unfold_places.specs.Reach.{AreInputsOf}
 use Rattle.cbf_unfold.specs.View.{UnfolderView}
 use Rattle.cbf_unfold.specs.Unfolded.{Holds, Fits}
@@ -28,7 +29,7 @@ use Rattle.unfold_places.specs.declared.signal_function.Unfolded.{Unfolded}
 use Rattle.cbf_unfold.proofs.PlaceLits.{zip_more_left}
 use Rattle.unfold_places.proofs.Zips.{zip_back}
 use Rattle.unfold_places.proofs.Candidates.{IsAt, places_differ, inputs_at}
-use Rattle.unfold_places.proofs.Drivers.{weight_positive}
+use Rattle.flat_net.proofs.Drivers.{weight_positive}
 use Rattle.cbf_unfold.proofs.Going.{entries_within}
 use Rattle.cbf_unfold.proofs.Finish.{input_known}
 

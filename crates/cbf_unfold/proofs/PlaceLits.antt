@@ -19,7 +19,7 @@ use Rattle.aig.specs.Graph.{Grows, IsLitOf}
 use Rattle.aig.specs.declared.node.Node.TheVariants.{Input}
 use Rattle.aig.specs.Rules.{IsCoverOf, cover_room}
 use Rattle.aig.proofs.Growth.{Grows-refl}
-use Rattle.unfold_places.specs.Places.{weight_at, driver_weight, gate_weight}
+use Rattle.flat_net.specs.Weights.{weight_at, driver_weight, gate_weight}
 use Rattle.cbf_unfold.specs.View.{UnfolderView, IsOrderOf}
 use Rattle.cbf_unfold.specs.Unfolded.{IsKnown}
 use Rattle.unfold_places.specs.Literals.{IsVariableLit, IsGateLit}
@@ -28,7 +28,8 @@ use Rattle.unfold_places.proofs.Lists.{adds_none, adds_weaker}
 use Rattle.unfold_places.proofs.Table.{interned}
 pub use Rattle.unfold_places.proofs.Zips.{zip_more_left}
 pub use Rattle.unfold_places.proofs.Growing.{zip_all, grown_none, cover_within_weight, input_grown, gate_grown, grown_as}
-use Rattle.unfold_places.proofs.Drivers.{driven_gate, gate_equation_stands, gate_steps_to, latch_equation_stands, latch_steps_to}
+use Rattle.flat_net.proofs.Drivers.{driven_gate, gate_equation_stands, latch_equation_stands}
+use Rattle.unfold_places.proofs.Steps.{gate_steps_to, latch_steps_to}
 use Rattle.cbf_unfold.proofs.Known.{Any, known_later, known_input, known_latch, known_gate}
 
 module _ (u : UnfolderView) (sound : IsSound u.net) (order : IsOrderOf u.net u.order) (p : ℕ × ℕ) where

@@ -10,7 +10,8 @@ use Rattle.flat_net.specs.View.{NetView, circuit_of}
 use Rattle.aig.specs.declared.node.Lit.{Lit}
 use Rattle.aig.specs.declared.node.Node.{Node}
 use Rattle.aig.specs.Builds.{Builds}
-use Rattle.unfold_places.specs.Places.{IsVisited, weight_at}
+use Rattle.unfold_places.specs.Places.{IsVisited}
+use Rattle.flat_net.specs.Weights.{weight_at}
 use Rattle.cbf_unfold.specs.View.{UnfolderView}
 use Rattle.unfold_places.specs.Planned.{IsPlanned}
 pub use Rattle.unfold_places.specs.Growing.{IsNumberOf}

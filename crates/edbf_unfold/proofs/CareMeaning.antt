@@ -21,7 +21,7 @@ use Rattle.event_nodes.specs.Reach.{IsBegun}
 use Rattle.edbf_unfold.specs.Care.{IsEnableOnward, IsAndOfAll, IsCareLit}
 use Rattle.edbf_unfold.specs.Laws.{TakesFrame, CareLiteralIsCare}
 use Rattle.event_nodes.proofs.Bits.{kind_of}
-use Rattle.event_nodes.proofs.Drivers.{latch_next, latch_equation_stands}
+use Rattle.event_nodes.proofs.flat_net.Drivers.{latch_next, latch_equation_stands}
 use Rattle.edbf_unfold.proofs.EventLiterals.{enable_value}
 
 both_true : (b c : Bool) → b && c ≡ true → (b ≡ true) × (c ≡ true)

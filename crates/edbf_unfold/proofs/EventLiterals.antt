@@ -15,7 +15,7 @@ use Rattle.event_nodes.proofs.CoverMeaning.{value-tree}
 use Rattle.event_nodes.specs.Nodes.{path_of, EventGraphView, named_places, IsEventGraph}
 use Rattle.edbf_unfold.specs.Laws.{EqualEventTreesOneLiteral, EqualEnablesOneLiteral, LiteralIsTree, EnableLiteralIsEnable, KnownLater}
 use Rattle.event_nodes.proofs.OnePath.{one_node}
-use Rattle.event_nodes.proofs.Drivers.{latch_equation_stands}
+use Rattle.event_nodes.proofs.flat_net.Drivers.{latch_equation_stands}
 use Rattle.event_literals.proofs.Known.{known_at_later}
 use Rattle.event_literals.proofs.OrStaying.{IsShortOr-one}
 use Rattle.event_literals.proofs.OrValues.{value-short_or}

@@ -5,6 +5,7 @@ pub mod Scoped
 pub mod Items
 pub mod Names
 pub mod Numbered
+pub mod Passed
 pub mod Renamed
 pub mod Checked
 pub mod Composed

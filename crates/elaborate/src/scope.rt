@@ -1,6 +1,6 @@
 //! Where the walk stands in the hierarchy.
 
-ghost use Rattle.std.specs.Prelude.{◌≡◌, ◌==◌, ◌||◌, ◌++◌, [], ◌∷◌, IfOk};
+ghost use Rattle.std.specs.Prelude.{◌≡◌, ◌==◌, ◌||◌, ◌++◌, [], ◌∷◌, IfOk, OnOk};
 ghost use Rattle.std.specs.List.{list_any};
 ghost use Rattle.std.specs.Fmt.{decimal};
 
@@ -66,12 +66,14 @@ impl Scope {
         ensures model { IfOk result (λ inner. inner.model ≡ model) }
         ensures prefix { IfOk result (λ inner. inner.prefix ≡ self.now.prefix ++ (name.now ++ 35 ∷ (decimal instance ++ 35 ∷ []))) }
     {
+        let mut prefix = self.prefix.as_slice().to_vec(alloc)?;
+        put_step(alloc, &mut prefix, name, instance)?;
         let mut steps = self.steps.to_vec(alloc)?;
         steps.push(Step { model, instance })?;
         Ok(Scope {
             steps,
             model,
-            prefix: inner_prefix(alloc, self.prefix.as_slice(), name, instance)?,
+            prefix: Seq::from_vec(prefix),
         })
     }
 }
@@ -87,19 +89,17 @@ fn has_step(steps: &[Step], model: u32) -> bool
     false
 }
 
-/// What stands before the names of the signals inside an instance.
-fn inner_prefix(
+/// Puts what an instance adds to what stands before the names of its signals.
+fn put_step(
     alloc: Global,
-    outer: &[u8],
+    prefix: &mut Vec<u8>,
     model: &[u8],
     instance: usize,
-) -> Result<Word, NoMemory>
-    ensures { IfOk result (λ inner. inner ≡ outer.now ++ (model.now ++ 35 ∷ (decimal instance ++ 35 ∷ []))) }
+) -> Result<(), NoMemory>
+    ensures { OnOk result (prefix.new.items ≡ prefix.old.items ++ (model.now ++ 35 ∷ (decimal instance ++ 35 ∷ []))) }
 {
-    let mut inner = outer.to_vec(alloc)?;
-    put(&mut inner, model)?;
-    put(&mut inner, b"#")?;
-    put_number(alloc, &mut inner, instance as u64)?;
-    put(&mut inner, b"#")?;
-    Ok(Seq::from_vec(inner))
+    put(prefix, model)?;
+    put(prefix, b"#")?;
+    put_number(alloc, prefix, instance as u64)?;
+    put(prefix, b"#")
 }

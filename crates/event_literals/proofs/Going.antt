@@ -13,7 +13,7 @@ use Rattle.event_nodes.specs.Nodes.{EventGraphView, IsEventGraph, GrowsEvents}
 use Rattle.event_nodes.specs.View.{EventCircuitView}
 use Rattle.event_literals.specs.Known.{EventUnfolderView, IsKnownIn, AreKnown, IsMet, IsReady, IsLater, HasGrown}
 use Rattle.event_literals.specs.event_walk.Ready.{IsReadyBy, StandsBefore, IsPlan}
-use Rattle.event_nodes.specs.Weights.{weight_at}
+use Rattle.event_nodes.specs.flat_net.Weights.{weight_at}
 use Rattle.event_literals.proofs.Known.{known_later}
 use Rattle.event_nodes.proofs.Growing.{grows_trans}
 use Rattle.event_nodes.proofs.Lists.{adds_none, adds_trans, adds_push, adds_contains}

@@ -29,8 +29,8 @@ use Rattle.event_nodes.specs.Nodes.{EventGraphView, IsEventGraph, GrowsEvents}
 use Rattle.event_nodes.specs.View.{EventCircuitView}
 use Rattle.event_literals.specs.Known.{EventUnfolderView, IsKnownIn, AreKnown, IsMet, IsReady, HasGrown, IsInputLit, IsGateLit}
 use Rattle.event_literals.specs.event_walk.Ready.{put_of}
-use Rattle.event_nodes.specs.Weights.{gate_weight}
-use Rattle.event_nodes.proofs.Drivers.{driven_gate, gate_equation_stands, gate_reads_to, latch_equation_stands}
+use Rattle.event_nodes.specs.flat_net.Weights.{gate_weight}
+use Rattle.event_nodes.proofs.flat_net.Drivers.{driven_gate, gate_equation_stands, gate_reads_to, latch_equation_stands}
 use Rattle.event_literals.proofs.Known.{known_later, known_input, known_low, known_high, known_onward, known_gate}
 use Rattle.event_nodes.proofs.Growing.{grows_refl}
 

@@ -4,7 +4,7 @@ ghost use Rattle.std.specs.Prelude.{◌≡◌, ℕ, ◌+◌, ◌*◌, ◌^◌, �
 ghost use Rattle.std.specs.List.{AllZip, sum_by};
 ghost use Rattle.circuit_theory.specs.EventSizes.{Start};
 ghost use Rattle.event_nodes.specs.Lit.{Lit};
-ghost use Rattle.event_nodes.specs.Weights.{gate_weight, weight_at};
+ghost use Rattle.event_nodes.specs.flat_net.Weights.{gate_weight, weight_at};
 ghost use Rattle.event_nodes.specs.Nodes.{EventGraphView, GrowsEvents};
 ghost use Rattle.event_literals.specs.declared.event_walk.frames.Frame.{Frame};
 ghost use Rattle.event_literals.specs.declared.event_walk.frames.Step.{Step};

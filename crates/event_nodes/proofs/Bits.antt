@@ -9,7 +9,7 @@ use Rattle.flat_net.specs.Sound.{IsSound}
 use Rattle.flat_net.specs.View.{circuit_of}
 use Rattle.flat_net.proofs.Nets.{some_at}
 use Rattle.event_nodes.specs.View.{EventCircuitView, IsEventCircuit, Enabled}
-use Rattle.event_nodes.proofs.Drivers.{latch_of_equation, latch_out}
+use Rattle.flat_net.proofs.Drivers.{latch_of_equation, latch_out}
 
 pub bit_off : (e v : EventCircuitView) → v ≡ e → IsEventCircuit v → (bits : List Bool) → bits ≡ v.enabled → (j : ℕ) (l : LatchAt) → slice_get e.net.latches j ≡ Some l → get_or bits j false ≡ false → Enabled e l.out.0 → ⊥
 bit_off e v same is bits are j l at off on =

@@ -9,8 +9,8 @@ use Rattle.flat_net.proofs.Growth.{length-push}
 use Rattle.event_nodes.specs.declared.error.EventUnfoldError.{EventUnfoldError}
 use Rattle.event_nodes.specs.declared.error.EventUnfoldError.TheVariants as unfold_error
 use Rattle.event_nodes.specs.Visited.{CounterView, IsWeighed, places_weight}
-use Rattle.event_nodes.specs.Weights.{weight_at}
-use Rattle.event_nodes.proofs.Drivers.{weight_positive}
+use Rattle.flat_net.specs.Weights.{weight_at}
+use Rattle.flat_net.proofs.Drivers.{weight_positive}
 use Rattle.event_nodes.proofs.Table.{there_or_not}
 
 -- it was there, or it goes last

@@ -16,7 +16,7 @@ use Rattle.aig.proofs.Growth.{Grows-refl, Grows-trans}
 use Rattle.event_nodes.specs.Nodes.{EventGraphView, GrowsEvents, IsEventGraph}
 use Rattle.event_nodes.specs.View.{class_at}
 use Rattle.event_nodes.proofs.Table.{interned}
-use Rattle.event_nodes.proofs.Drivers.{same_latch}
+use Rattle.flat_net.proofs.Drivers.{same_latch}
 use Rattle.event_nodes.proofs.Lists.{adds_trans}
 
 pub grows_refl : (w : EventGraphView) → GrowsEvents w w

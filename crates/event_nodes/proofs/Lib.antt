@@ -1,11 +1,9 @@
-pub mod Drivers
 pub mod Growing
 mod Kept
 pub mod Lists
 pub mod Paths
 pub mod ReadPlaces
 pub mod Table
-pub mod Weighing
 pub mod Visits
 pub mod Bits
 pub mod OnePath

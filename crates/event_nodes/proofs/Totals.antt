@@ -14,8 +14,8 @@ use Rattle.event_nodes.specs.Nodes.{EventGraphView, IsEventGraph, path_of}
 use Rattle.event_nodes.specs.Reach.{IsListedAt}
 use Rattle.event_nodes.specs.View.{EventCircuitView, side_of, Enabled}
 use Rattle.event_nodes.specs.Visited.{IsVisitedPair, places_weight}
-use Rattle.event_nodes.specs.Weights.{weight_at}
-use Rattle.event_nodes.proofs.Drivers.{weighs}
+use Rattle.flat_net.specs.Weights.{weight_at}
+use Rattle.flat_net.proofs.Drivers.{weighs}
 use Rattle.event_nodes.proofs.Lists.{pairs_map, sum_by-map}
 use Rattle.event_nodes.proofs.OnePath.{one_node}
 use Rattle.event_nodes.proofs.Visits.{visits_one}

@@ -8,7 +8,7 @@ use Rattle.flat_net.specs.View.{NetView}
 use Rattle.event_nodes.specs.Nodes.{path_of}
 use Rattle.event_nodes.specs.Reach.{IsListedAt}
 use Rattle.event_nodes.specs.View.{EventCircuitView, side_of, Enabled}
-use Rattle.event_nodes.specs.Weights.{weight_at}
+use Rattle.flat_net.specs.Weights.{weight_at}
 
 -- what is counted: pairs of an event node and a signal, and what they weigh
 pub record CounterView : Type 0 where

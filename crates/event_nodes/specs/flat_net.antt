@@ -1,5 +1,6 @@
 pub use Rattle.flat_net.specs.Sound
 pub use Rattle.flat_net.specs.View
+pub use Rattle.flat_net.specs.Weights
 pub use Rattle.flat_net.specs.declared.parts.Driver
 pub use Rattle.flat_net.specs.declared.parts.Gate
 pub use Rattle.flat_net.specs.declared.parts.LatchAt

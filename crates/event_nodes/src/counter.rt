@@ -8,8 +8,7 @@ ghost use Rattle.event_nodes.specs.Adds.{Adds};
 ghost use Rattle.event_nodes.specs.Visited.{IsWeighed, places_weight};
 
 use crate::error::EventUnfoldError;
-use crate::net_parts::weigh;
-use flat_net::{Net, PlaceTable, Signal};
+use flat_net::{Net, PlaceTable, Signal, weigh};
 use std::alloc::Global;
 use std::marker::Model;
 

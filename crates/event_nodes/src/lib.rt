@@ -15,6 +15,7 @@ pub use counter::Counter;
 pub use error::EventUnfoldError;
 pub use events::EventGraph;
 pub use flat_net::{
-    Bits, Driver, Ids, MAX_CONFLICTS, Net, NoMemory, PlaceTable, Seq, Side, Signal, Tag,
+    Bits, Driver, Ids, MAX_CONFLICTS, Net, NoMemory, PlaceTable, Seq, Side, Signal, Tag, gate_of,
+    latch_of, weigh,
 };
-pub use net_parts::{Place, add, add_fanins, gate_of, latch_of, weigh};
+pub use net_parts::{Place, add, add_fanins};

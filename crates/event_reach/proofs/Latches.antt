@@ -11,7 +11,7 @@ use Rattle.event_nodes.specs.flat_net.Sound.{IsSound}
 use Rattle.event_nodes.specs.flat_net.View.{NetView, circuit_of}
 use Rattle.event_nodes.proofs.flat_net.Places.{one_at}
 use Rattle.event_nodes.specs.Adds.{Adds}
-use Rattle.event_nodes.proofs.Drivers.{driven_latch, latch_equation_stands, input_latch, driven_gate, gate_latch}
+use Rattle.event_nodes.proofs.flat_net.Drivers.{driven_latch, latch_equation_stands, input_latch, driven_gate, gate_latch}
 use Rattle.event_nodes.proofs.Lists.{adds_trans, adds_weaker, adds_contains}
 
 -- a latch among the signals, at the root

@@ -21,7 +21,7 @@ use Rattle.inner_cone.specs.latch_cone.Cones.{IsOther, AreOthers}
 use Rattle.event_nodes.specs.Nodes.{IsChild, IsTree}
 use Rattle.event_nodes.specs.Reach.{IsBegun, IsReachedPlace, IsPassedOn}
 use Rattle.event_nodes.specs.View.{EventCircuitView, side_of, Enabled}
-use Rattle.event_nodes.proofs.Drivers.{driven_latch, latch_of_equation, latch_out, latch_next, latch_equation_stands}
+use Rattle.event_nodes.proofs.flat_net.Drivers.{driven_latch, latch_of_equation, latch_out, latch_next, latch_equation_stands}
 use Rattle.event_nodes.proofs.Paths.{child_path}
 
 -- what holds in each case, and what follows where all went well

@@ -21,7 +21,7 @@ use Rattle.event_nodes.specs.Adds.{Adds}
 use Rattle.event_nodes.specs.Nodes.{EventGraphView, IsChild, IsTree, path_of, GrowsEvents}
 use Rattle.event_nodes.specs.Reach.{IsBegun, IsReachedPlace, IsPassedOn, IsListedAt}
 use Rattle.event_nodes.specs.View.{EventCircuitView, side_of, Enabled}
-use Rattle.event_nodes.proofs.Drivers.{latch_of_equation, latch_out}
+use Rattle.event_nodes.proofs.flat_net.Drivers.{latch_of_equation, latch_out}
 use Rattle.event_reach.proofs.Latches.{IsRootLatch}
 use Rattle.event_nodes.proofs.Lists.{adds_contains, adds_at}
 use Rattle.event_nodes.proofs.Growing.{children_more}

@@ -20,7 +20,7 @@ use Rattle.event_nodes.specs.Nodes.{EventGraphView, path_of}
 use Rattle.event_nodes.specs.View.{EventCircuitView, IsEventCircuit, side_of, Enabled}
 use Rattle.event_nodes.specs.Visited.{IsVisitedPair}
 use Rattle.event_nodes.proofs.Bits.{kind_of}
-use Rattle.event_nodes.proofs.Drivers.{latch_next}
+use Rattle.flat_net.proofs.Drivers.{latch_next}
 use Rattle.event_nodes.proofs.Visits.{reached_visited}
 use Rattle.event_variables.specs.Variables.{variable_of, variables_of, GoesBefore}
 use Rattle.event_variables.proofs.NodePaths.{variable_is}

@@ -16,7 +16,7 @@ use Rattle.flat_net.specs.View.{NetView, circuit_of, named}
 use Rattle.flat_net.proofs.Places.{one_at}
 use Rattle.event_nodes.specs.Nodes.{EventGraphView, GrowsEvents}
 use Rattle.event_nodes.specs.View.{EventCircuitView, IsEventCircuit}
-use Rattle.event_nodes.proofs.Drivers.{input_owner}
+use Rattle.flat_net.proofs.Drivers.{input_owner}
 use Rattle.event_nodes.proofs.Lists.{adds_at}
 use Rattle.event_variables.specs.Inputs.{IsVariableAt, IsVariablePut}
 

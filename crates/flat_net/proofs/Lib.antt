@@ -2,6 +2,8 @@ pub mod Places
 pub mod Growth
 pub mod NextSet
 pub mod Nets
+pub mod Drivers
+pub mod Weighing
 pub mod LatchNames
 pub mod PlaceLists
 pub mod Exposed

@@ -3,6 +3,7 @@ pub mod View
 pub mod Sound
 pub mod Makes
 pub mod Cut
+pub mod Weights
 pub mod circuit_theory
 pub mod sec_base
 pub use Rattle.base_tables.specs.Table

@@ -5,6 +5,7 @@ mod maker;
 mod net;
 mod parts;
 mod signals;
+mod weight;
 
 pub use base_tables::{NameTable, PlaceTable, UniqueTable};
 pub use maker::NetMaker;
@@ -15,3 +16,4 @@ pub use sec_base::{
     Words, unset_bits,
 };
 pub use signals::{Signal, Signals};
+pub use weight::{gate_of, latch_of, weigh};

@@ -4,6 +4,7 @@ pub mod OneLatch
 pub mod OneReport
 pub mod Refutations
 pub mod Replays
+pub mod Ring
 pub mod Started
 pub mod Stimuli
 pub mod Unate

@@ -9,6 +9,7 @@ ghost use Rattle.job_rows.specs.Stimuli.{TwoCanBeRun};
 ghost use Rattle.job_rows.specs.Started.{StartedPowersUp};
 ghost use Rattle.job_rows.specs.Enables.{EnablesMeetPremises};
 ghost use Rattle.job_rows.specs.Replays.{ReplaysMeetPremises};
+ghost use Rattle.job_rows.specs.Ring.{RingIsCutOnce};
 ghost use Rattle.job_rows.specs.Refutations.{UnitsAreRefuted, PairsAreRefuted};
 
 /// Two latches in a row can be run over a stimulus, from a power word and without one.
@@ -29,6 +30,11 @@ pub fn enables_meet_premises()
 /// Two circuits can be replayed on a stimulus, in both modes, as they are and with a latch cut open.
 pub fn replays_meet_premises()
     ensures { ReplaysMeetPremises }
+{}
+
+/// Of two latches that take over each other at most one is cut open.
+pub fn ring_is_cut_once()
+    ensures { RingIsCutOnce }
 {}
 
 /// A variable and its negation, and all clauses of two variables, are refuted by texts.

@@ -18,8 +18,8 @@ use Rattle.aig.specs.declared.node.Node.TheVariants.{Input}
 use Rattle.aig.specs.Graph.{IsGraph, Grows, IsLitOf}
 use Rattle.aig.specs.Values.{value}
 use Rattle.aig.specs.Rules.{IsCoverOf, cover_room}
-use Rattle.unfold_places.specs.Places.{gate_weight}
-use Rattle.unfold_places.proofs.Drivers.{gate_equation_stands, gate_out}
+use Rattle.flat_net.specs.Weights.{gate_weight}
+use Rattle.flat_net.proofs.Drivers.{gate_equation_stands, gate_out}
 use Rattle.latch_blocks.specs.declared.variables.Variables.{Variables}
 use Rattle.latch_blocks.specs.Signals.{variable_at, IsLeaf, IsSignalLit, AreSignalLits, lit_at, IsGateLit}
 use Rattle.latch_blocks.proofs.Supports.{From, from_one, to_from, AllSupport, supports_input, supports_cover}

@@ -13,7 +13,7 @@ use Rattle.circuit_laws.proofs.JoinedParts.{right_equation}
 use Rattle.flat_net.specs.declared.parts.Driver.TheVariants as driver
 use Rattle.flat_net.specs.View.{NetView, circuit_of, named}
 use Rattle.flat_net.specs.Sound.{IsSound}
-use Rattle.unfold_places.proofs.Drivers.{driven_latch, latch_equation_stands}
+use Rattle.flat_net.proofs.Drivers.{driven_latch, latch_equation_stands}
 
 at_left : {X : Type 0} (xs ys : List X) (i : ℕ) (x : X) → slice_get xs i ≡ Some x → slice_get (xs ++ ys) i ≡ Some x
 at_left xs ys i x at =

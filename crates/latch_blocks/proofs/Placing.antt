@@ -15,7 +15,7 @@ use Rattle.flat_net.specs.declared.parts.Driver.TheVariants as driver
 use Rattle.flat_net.specs.View.{NetView, circuit_of}
 use Rattle.flat_net.specs.Sound.{IsSound}
 use Rattle.flat_net.proofs.Places.{one_at}
-use Rattle.unfold_places.proofs.Drivers.{latch_of_equation, latch_out}
+use Rattle.flat_net.proofs.Drivers.{latch_of_equation, latch_out}
 use Rattle.latch_blocks.specs.Blocks.{block_at, start_at}
 use Rattle.latch_blocks.specs.Partitions.{block_of, block_of_driver, starts_of, nexts_of}
 

@@ -6,7 +6,7 @@ use Rattle.std.proofs.lemmas.List.Sums.{sum_by_more, sum_by_more_le}
 use Rattle.std.proofs.lemmas.Option.{slice_get-get_or}
 use Rattle.flat_net.specs.declared.parts.Driver.TheVariants as driver
 use Rattle.flat_net.specs.View.{NetView}
-use Rattle.unfold_places.specs.Places.{driver_weight, weight_at}
+use Rattle.flat_net.specs.Weights.{driver_weight, weight_at}
 use Rattle.latch_blocks.specs.Signals.{net_weight}
 
 -- what the signals below a number count together

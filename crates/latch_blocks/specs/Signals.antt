@@ -14,7 +14,7 @@ use Rattle.aig.specs.declared.node.Node.TheVariants.{Input}
 use Rattle.aig.specs.Values.{value}
 use Rattle.aig.specs.Rules.{IsCoverOf}
 use Rattle.aig.specs.Cone.{IsReached}
-use Rattle.unfold_places.specs.Places.{driver_weight}
+use Rattle.flat_net.specs.Weights.{driver_weight}
 use Rattle.latch_blocks.specs.declared.variables.Variables.{Variables}
 
 -- what all inputs, latches and gates count together, each once

@@ -2,14 +2,13 @@
 
 ghost use Rattle.std.specs.Prelude.{◌≡◌, ◌+◌, ◌*◌, ◌^◌, ◌<◌, ◌≤◌, length, map, slice_get, All, IfOk, IfSome};
 ghost use Rattle.aig.specs.Graph.{Grows};
-ghost use Rattle.unfold_places.specs.Places.{gate_weight};
+ghost use Rattle.flat_net.specs.Weights.{gate_weight};
 ghost use Rattle.latch_blocks.specs.Signals.{lit_at, IsGateLit};
 
 use aig::{Aig, Lit};
-use flat_net::{Net, Signal};
+use flat_net::{Net, Signal, gate_of};
 use sec_base::NoMemory;
 use std::alloc::Global;
-use unfold_places::reads::gate_of;
 
 /// The cover of the gate with this number, of the literals of its fan-ins.
 pub(crate) fn gate_literal(

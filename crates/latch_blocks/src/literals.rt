@@ -3,7 +3,7 @@
 ghost use Rattle.std.specs.Prelude.{◌≡◌, ℕ, ◌+◌, ◌^◌, ◌<◌, ◌≤◌, List, length, Some, IfOk, OnOk};
 ghost use Rattle.flat_net.specs.View.{NetView};
 ghost use Rattle.aig.specs.Graph.{Grows};
-ghost use Rattle.unfold_places.specs.Places.{weight_at};
+ghost use Rattle.flat_net.specs.Weights.{weight_at};
 ghost use Rattle.latch_blocks.specs.Signals.{AreVariables, AreSignalLits, IsSignalLit, net_weight, variable_at};
 
 use crate::gates::gate_literal;

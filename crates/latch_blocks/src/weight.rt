@@ -3,9 +3,8 @@
 ghost use Rattle.std.specs.Prelude.{◌≤◌, ◌↔◌, IsTrue};
 ghost use Rattle.latch_blocks.specs.Signals.{net_weight};
 
-use flat_net::{Net, Signal};
+use flat_net::{Net, Signal, weigh};
 use sec_base::MAX_WEIGHT;
-use unfold_places::reads::weigh;
 
 /// Whether all inputs, latches and gates of the net count no more than the limit together.
 pub fn is_light(net: &Net) -> bool

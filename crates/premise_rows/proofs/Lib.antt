@@ -2,5 +2,4 @@ pub mod AndFile
 pub mod FileNets
 pub mod Examples
 pub mod NoLimit
-pub mod Ring
 pub mod Certificates

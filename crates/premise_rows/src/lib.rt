@@ -4,7 +4,7 @@
 pub mod block_premises;
 
 ghost use Rattle.premise_rows.specs.AndFile.{FileIsComparable};
-ghost use Rattle.premise_rows.specs.Premises.{AndsAreComparable, RetimedAreComparable, HierarchyIsComparable, CyclicAreComparable, TextsAreAccepted, RingIsCutOnce};
+ghost use Rattle.premise_rows.specs.Premises.{AndsAreComparable, RetimedAreComparable, HierarchyIsComparable, CyclicAreComparable, TextsAreAccepted};
 ghost use Rattle.premise_rows.specs.RuledOut.{AndsMeetNoLimit};
 ghost use Rattle.premise_rows.specs.Certificates.{CertificatesMeetPremises};
 
@@ -36,11 +36,6 @@ pub fn cyclic_are_comparable()
 /// All of these texts are accepted.
 pub fn texts_are_accepted()
     ensures { TextsAreAccepted }
-{}
-
-/// Of two latches that take over each other at most one is cut open.
-pub fn ring_is_cut_once()
-    ensures { RingIsCutOnce }
 {}
 
 /// No limit is told of two `and`s.

@@ -17,7 +17,8 @@ use Rattle.reset_laws.proofs.reset_nets.Starts.{nets_have_starts}
 use Rattle.aig.specs.declared.node.Lit.{Lit}
 use Rattle.aig.specs.declared.node.Node.{Node}
 use Rattle.aig.specs.Builds.{Builds}
-use Rattle.unfold_places.specs.Places.{Steps, PlaceBefore, weight_at}
+use Rattle.unfold_places.specs.Places.{Steps, PlaceBefore}
+use Rattle.flat_net.specs.Weights.{weight_at}
 use Rattle.unfold_places.specs.Reach.{IsThere, IsMet}
 use Rattle.unfold_places.specs.Growing.{IsNumberOf}
 use Rattle.unfold_places.specs.InputOrder.{IsOrderOf}

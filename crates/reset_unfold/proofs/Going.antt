@@ -14,11 +14,12 @@ use Rattle.reset_laws.specs.Weight.{ResetVisits, IsResetWeight, IsResetOver}
 use Rattle.aig.specs.declared.node.Lit.{Lit}
 use Rattle.aig.specs.declared.node.Node.{Node}
 use Rattle.aig.proofs.Growth.{Grows-refl, Grows-trans}
-use Rattle.unfold_places.specs.Places.{Steps, PlaceBefore, weight_at}
+use Rattle.unfold_places.specs.Places.{Steps, PlaceBefore}
+use Rattle.flat_net.specs.Weights.{weight_at}
 use Rattle.unfold_places.specs.Reach.{IsThere, IsMet}
 use Rattle.unfold_places.specs.Growing.{HasGrown}
 use Rattle.unfold_places.proofs.Lists.{adds_none, adds_trans, adds_push, adds_contains, pairs_at, sum_by-map}
-use Rattle.unfold_places.proofs.Drivers.{step_lower, step_within}
+use Rattle.unfold_places.proofs.Steps.{step_lower, step_within}
 use Rattle.unfold_places.proofs.InputLists.{place_apart, pairs_push}
 use Rattle.unfold_places.proofs.Growing.{Any}
 use Rattle.reset_unfold.specs.Places.{IsVisited, starts_of}

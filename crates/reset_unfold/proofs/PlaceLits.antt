@@ -14,10 +14,11 @@ use Rattle.aig.specs.declared.node.Node.{Node}
 use Rattle.aig.specs.declared.node.Node.TheVariants.{Input}
 use Rattle.aig.specs.Graph.{Grows, IsLitOf}
 use Rattle.aig.specs.Rules.{IsCoverOf}
-use Rattle.unfold_places.specs.Places.{weight_at, driver_weight, gate_weight}
+use Rattle.flat_net.specs.Weights.{weight_at, driver_weight, gate_weight}
 use Rattle.unfold_places.specs.Reach.{IsMet}
 use Rattle.unfold_places.proofs.Lists.{adds_none}
-use Rattle.unfold_places.proofs.Drivers.{driven_gate, gate_equation_stands, gate_steps_to, latch_equation_stands, latch_steps_to}
+use Rattle.flat_net.proofs.Drivers.{driven_gate, gate_equation_stands, latch_equation_stands}
+use Rattle.unfold_places.proofs.Steps.{gate_steps_to, latch_steps_to}
 use Rattle.unfold_places.proofs.Growing.{Any}
 use Rattle.reset_unfold.specs.View.{ResetView}
 use Rattle.reset_unfold.specs.Unfolded.{IsKnown}

@@ -6,9 +6,9 @@ use Rattle.circuit_theory.proofs.Lists.{Contains-map, Contains-map_from}
 use Rattle.flat_net.specs.View.{NetView, circuit_of}
 use Rattle.flat_net.specs.Sound.{IsSound}
 use Rattle.reset_laws.specs.Weight.{PlaceInCycle, WeighedInCycle, ResetVisits, IsResetWeight, IsResetOver}
-use Rattle.unfold_places.specs.Places.{weight_at}
+use Rattle.flat_net.specs.Weights.{weight_at}
 use Rattle.unfold_places.proofs.Lists.{pairs_map, sum_by-map}
-use Rattle.unfold_places.proofs.Drivers.{weighs}
+use Rattle.flat_net.proofs.Drivers.{weighs}
 use Rattle.reset_unfold.specs.Places.{IsVisited, in_cycle, starts_of}
 
 module _ (n : NetView) (sound : IsSound n) (done : List (ℕ × ℕ)) where

@@ -11,7 +11,7 @@ use Rattle.flat_net.specs.View.{NetView, circuit_of}
 use Rattle.aig.specs.declared.node.Lit.{Lit}
 use Rattle.aig.specs.declared.node.Node.{Node}
 use Rattle.aig.specs.Builds.{Builds}
-use Rattle.unfold_places.specs.Places.{weight_at}
+use Rattle.flat_net.specs.Weights.{weight_at}
 use Rattle.unfold_places.specs.Growing.{IsNumberOf}
 use Rattle.reset_unfold.specs.Places.{IsVisited, starts_of}
 use Rattle.reset_unfold.specs.View.{ResetView}

@@ -10,11 +10,10 @@ ghost use Rattle.reset_unfold.specs.Places.{IsLeafAt, IsFreeAt};
 ghost use Rattle.reset_unfold.specs.Reach.{AreLeavesOf};
 
 use base_tables::PlaceTable;
-use flat_net::{Driver, LatchAt, Net, Signal};
+use flat_net::{Driver, LatchAt, Net, Signal, latch_of};
 use sec_base::{Ids, Init, NoMemory, Seq};
 use std::alloc::Global;
 use unfold_places::memo::Place;
-use unfold_places::reads::latch_of;
 
 /// The latch's initial value, where it is 0 or 1.
 pub(crate) fn initial(latch: &LatchAt) -> Option<bool>

@@ -12,7 +12,7 @@ use Rattle.aig.specs.Graph.{Grows}
 use Rattle.aig.specs.Rules.{cover_room}
 use Rattle.aig.specs.Builds.{Builds}
 use Rattle.aig.proofs.Growth.{Grows-refl, Builds-grows}
-use Rattle.unfold_places.specs.Places.{gate_weight}
+use Rattle.flat_net.specs.Weights.{gate_weight}
 use Rattle.unfold_places.specs.Reach.{Adds}
 use Rattle.unfold_places.specs.Growing.{HasGrown}
 use Rattle.unfold_places.proofs.Lists.{adds_none, adds_weaker}

@@ -1,7 +1,6 @@
 pub mod Lists
 pub mod Table
-pub mod Drivers
-pub mod Weighing
+pub mod Steps
 pub mod ReadPlaces
 pub mod Over
 pub mod Walk

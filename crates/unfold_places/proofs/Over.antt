@@ -8,9 +8,10 @@ use Rattle.flat_net.specs.Table.{AreDistinct}
 use Rattle.flat_net.proofs.TableLemmas.{slice_get-take}
 use Rattle.flat_net.specs.View.{NetView, circuit_of}
 use Rattle.flat_net.specs.Sound.{IsSound}
-use Rattle.unfold_places.specs.Places.{IsVisited, weight_at}
+use Rattle.unfold_places.specs.Places.{IsVisited}
+use Rattle.flat_net.specs.Weights.{weight_at}
 use Rattle.unfold_places.proofs.Lists.{pairs_map, sum_by-map}
-use Rattle.unfold_places.proofs.Drivers.{weighs}
+use Rattle.flat_net.proofs.Drivers.{weighs}
 
 -- distinct elements differ in pairs
 pub pairs_differ : {X : Type 0} (xs : List X) → AreDistinct xs → AllPairs (λ x y. x ≢ y) xs

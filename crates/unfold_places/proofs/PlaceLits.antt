@@ -13,10 +13,12 @@ use Rattle.aig.specs.declared.node.Node.{Node}
 use Rattle.aig.specs.declared.node.Node.TheVariants.{Input}
 use Rattle.aig.specs.Graph.{IsLitOf}
 use Rattle.aig.specs.Rules.{IsCoverOf}
-use Rattle.unfold_places.specs.Places.{Steps, weight_at, driver_weight, gate_weight}
+use Rattle.flat_net.specs.Weights.{weight_at, driver_weight, gate_weight}
+use Rattle.unfold_places.specs.Places.{Steps}
 use Rattle.unfold_places.specs.Reach.{IsMet}
 use Rattle.unfold_places.specs.Literals.{IsVariableLit, IsGateLit}
-use Rattle.unfold_places.proofs.Drivers.{driven_gate, gate_steps_to}
+use Rattle.flat_net.proofs.Drivers.{driven_gate}
+use Rattle.unfold_places.proofs.Steps.{gate_steps_to}
 
 -- the variable from what the calls gave
 pub variable_lit : {E : Type 0} (number at v : ℕ) (h : List Node) (places : List (ℕ × ℕ)) (r : Result Lit E) → slice_get places v ≡ Some (number, at) → IfOk r (λ x. IsLitOf h (Input v) x.0) → IfOk r (λ x. x.0 < 2 * length h) →

@@ -12,7 +12,7 @@ use Rattle.unfold_places.specs.Places.{Steps}
 use Rattle.aig.specs.declared.node.Lit.{Lit}
 use Rattle.unfold_places.specs.Reach.{Adds, IsThere}
 use Rattle.unfold_places.proofs.Lists.{adds_trans, adds_weaker, there_later}
-use Rattle.unfold_places.proofs.Drivers.{gate_steps_to, gate_steps_from, latch_steps_to, latch_steps_from}
+use Rattle.unfold_places.proofs.Steps.{gate_steps_to, gate_steps_from, latch_steps_to, latch_steps_from}
 
 -- the place of one of these fan-ins
 abbrev pub IsFaninPlace : List Signal → ℕ → ℕ × ℕ → Type 0

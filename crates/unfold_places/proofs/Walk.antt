@@ -12,12 +12,14 @@ use Rattle.flat_net.proofs.TableLemmas.{slice_get-take}
 use Rattle.flat_net.specs.View.{NetView, circuit_of}
 use Rattle.flat_net.specs.Sound.{IsSound}
 use Rattle.flat_net.proofs.Places.{All-at, one_at}
-use Rattle.unfold_places.specs.Places.{Steps, weight_at}
+use Rattle.flat_net.specs.Weights.{weight_at}
+use Rattle.unfold_places.specs.Places.{Steps}
 use Rattle.aig.specs.declared.node.Lit.{Lit}
 use Rattle.unfold_places.specs.Reach.{Adds, IsThere}
 use Rattle.unfold_places.specs.Walk.{Comes, AreWalked, IsTooLong}
 use Rattle.unfold_places.proofs.Lists.{adds_at, adds_cases, adds_length, adds_take, there_later}
-use Rattle.unfold_places.proofs.Drivers.{weight_positive, step_within}
+use Rattle.flat_net.proofs.Drivers.{weight_positive}
+use Rattle.unfold_places.proofs.Steps.{step_within}
 use Rattle.unfold_places.proofs.Over.{pairs_differ, distinct_front}
 
 -- the walk comes to the place, and its signal is one of the net

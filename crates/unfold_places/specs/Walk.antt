@@ -4,7 +4,8 @@ use Rattle.std.specs.List.{AllPairs, sum_by}
 use Rattle.circuit_theory.specs.Circuit.{Circuit}
 use Rattle.flat_net.specs.View.{NetView, circuit_of}
 use Rattle.aig.specs.declared.node.Lit.{Lit}
-use Rattle.unfold_places.specs.Places.{Steps, PlaceBefore, weight_at}
+use Rattle.flat_net.specs.Weights.{weight_at}
+use Rattle.unfold_places.specs.Places.{Steps, PlaceBefore}
 use Rattle.unfold_places.specs.Reach.{IsThere}
 
 -- from the start on to what each place reads

@@ -4,15 +4,14 @@ ghost use Rattle.std.specs.Prelude.{◌≡◌, ℕ, ◌+◌, ◌*◌, ◌^◌, �
 ghost use Rattle.std.specs.List.{AllZip};
 ghost use Rattle.aig.specs.declared.node.Lit.{Lit};
 ghost use Rattle.aig.specs.Graph.{Grows};
-ghost use Rattle.unfold_places.specs.Places.{gate_weight};
+ghost use Rattle.flat_net.specs.Weights.{gate_weight};
 ghost use Rattle.unfold_places.specs.Reach.{IsMet};
 ghost use Rattle.unfold_places.specs.Growing.{HasGrown};
 ghost use Rattle.unfold_places.specs.Literals.{IsVariableLit, IsGateLit};
 
 use crate::memo::Memo;
-use crate::reads::gate_of;
 use aig::{Aig, Lit};
-use flat_net::{Net, NoMemory, PlaceTable, Signal};
+use flat_net::{Net, NoMemory, PlaceTable, Signal, gate_of};
 use std::alloc::Global;
 
 /// The variable with this number at this shift, or in this cycle.

@@ -7,8 +7,8 @@ ghost use Rattle.unfold_places.specs.declared.error.UnfoldError.TheVariants as u
 use crate::error::UnfoldError;
 use crate::listing::listed;
 use crate::memo::{Memo, Place};
-use crate::reads::{add, add_read, weigh};
-use flat_net::{Net, PlaceTable, Signal};
+use crate::reads::{add, add_read};
+use flat_net::{Net, PlaceTable, Signal, weigh};
 use std::alloc::Global;
 
 /// The places that the unfolding of a signal in a cycle visits and that haven't been met, in an order of evaluation. It doesn't

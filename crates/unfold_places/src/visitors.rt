@@ -12,9 +12,8 @@ ghost use Rattle.unfold_places.specs.Planned.{IsPlanned};
 ghost use Rattle.unfold_places.specs.Visitors.{AreMet, AreReads, AreLinks, Gives, AreMarked, ArePassed, AreVisitors, AreInputNumbers, ArePlacesAt, with_bits, has_bit};
 
 use crate::memo::{Memo, Place};
-use crate::reads::{gate_of, latch_of};
 use crate::variables::input_number;
-use flat_net::{Driver, Ids, Net, NoMemory, Signal};
+use flat_net::{Driver, Ids, Net, NoMemory, Signal, gate_of, latch_of};
 use std::alloc::Global;
 
 /// For each place that was met the numbers of the places that it reads.

@@ -7,7 +7,7 @@ use Rattle.circuit_theory.proofs.Lists.{All-from_each, at_of, length-map, map_at
 use Rattle.flat_net.specs.View.{NetView}
 use Rattle.flat_net.specs.Sound.{IsSound}
 use Rattle.flat_net.proofs.Places.{All-at}
-use Rattle.unfold_places.proofs.Drivers.{weight_positive}
+use Rattle.flat_net.proofs.Drivers.{weight_positive}
 use Rattle.latch_blocks.specs.declared.variables.Variables.{Variables}
 use Rattle.latch_blocks.specs.Blocks.{block_at, AreInOrder}
 use Rattle.latch_blocks.specs.Signals.{AreVariables, net_weight}

@@ -1,19 +1,18 @@
 //! The literal of one place.
 
 ghost use Rattle.std.specs.Prelude.{◌+◌, ◌^◌, ◌<◌, length, IfOk};
-ghost use Rattle.unfold_places.specs.Places.{weight_at};
+ghost use Rattle.flat_net.specs.Weights.{weight_at};
 ghost use Rattle.cbf_unfold.specs.Unfolded.{IsKnown};
 ghost use Rattle.cbf_unfold.specs.Building.{AreKnown, IsReady, HasGrown};
 
 use super::Unfolder;
 use aig::{Aig, Lit};
 use base_tables::PlaceTable;
-use flat_net::{Driver, Signal};
+use flat_net::{Driver, Signal, latch_of};
 use sec_base::NoMemory;
 use std::alloc::Global;
 use unfold_places::literals::{gate_literal, variable};
 use unfold_places::memo::Place;
-use unfold_places::reads::latch_of;
 
 impl<'a> Unfolder<'a> {
     /// The literal of a place that can be unfolded.

@@ -11,11 +11,10 @@ ghost use Rattle.unfold_places.specs.declared.error.UnfoldError.TheVariants as u
 use super::Unfolder;
 use aig::Aig;
 use base_tables::PlaceTable;
-use flat_net::Signal;
+use flat_net::{Signal, weigh};
 use std::alloc::Global;
 use unfold_places::UnfoldError;
 use unfold_places::memo::Place;
-use unfold_places::reads::weigh;
 
 impl<'a> Unfolder<'a> {
     /// Unfolds all places of one of the signals that are to be unfolded.

@@ -24,7 +24,7 @@ use Rattle.event_nodes.specs.Nodes.{IsChild, path_of}
 use Rattle.event_nodes.specs.View.{EventCircuitView, side_of, Enabled}
 use Rattle.event_literals.specs.event_walk.Ready.{put_of, IsOwnPut}
 use Rattle.event_literals.specs.event_walk.Walk.{IsSeen, IsExpanded, IsVisitedPlace, IsHeldPut, IsEntry, AreWays, out_of}
-use Rattle.event_nodes.proofs.Drivers.{input_reads, input_latch, gate_reads_from, gate_latch, latch_reads, latch_next, latch_out, latch_equation_stands}
+use Rattle.event_nodes.proofs.flat_net.Drivers.{input_reads, input_latch, gate_reads_from, gate_latch, latch_reads, latch_next, latch_out, latch_equation_stands}
 use Rattle.event_nodes.proofs.Lists.{adds_weaker}
 use Rattle.event_nodes.proofs.Visits.{visited_reached}
 

@@ -17,7 +17,7 @@ use Rattle.event_literals.specs.declared.event_walk.frames.Step.{Step}
 use Rattle.event_nodes.specs.Nodes.{EventGraphView, GrowsEvents, IsChild}
 use Rattle.event_nodes.specs.View.{EventCircuitView, side_of}
 use Rattle.event_literals.specs.event_walk.Ready.{EventWalkerView, IsReadyBy}
-use Rattle.event_nodes.specs.Weights.{weight_at}
+use Rattle.event_nodes.specs.flat_net.Weights.{weight_at}
 use Rattle.event_literals.specs.declared.event_walk.frames.Ways.{Ways}
 use Rattle.event_literals.specs.event_walk.Walk.{IsSeen, IsExpanded, IsEntry, IsOpened, IsWalk}
 use Rattle.event_nodes.proofs.Lists.{adds_none, adds_trans, adds_weaker, adds_contains, adds_at, adds_length, adds_take}

@@ -22,10 +22,10 @@ use Rattle.event_literals.specs.declared.event_walk.frames.Ways.{Ways}
 use Rattle.event_nodes.specs.Nodes.{IsTree, IsChild}
 use Rattle.event_nodes.specs.View.{EventCircuitView, side_of}
 use Rattle.event_literals.specs.event_walk.Ready.{IsReadyBy, StandsBefore}
-use Rattle.event_nodes.specs.Weights.{weight_at}
+use Rattle.event_nodes.specs.flat_net.Weights.{weight_at}
 use Rattle.event_literals.specs.event_walk.Walk.{IsExpanded}
 use Rattle.event_literals.specs.event_walk.Plan.{IsStepOf, AreSteps, AreExpanded, IsPlanOf, place_of}
-use Rattle.event_nodes.proofs.Drivers.{reads_lower}
+use Rattle.event_nodes.proofs.flat_net.Drivers.{reads_lower}
 use Rattle.event_nodes.proofs.Lists.{sum_by-map}
 
 -- the first places have their steps

@@ -19,7 +19,7 @@ use Rattle.event_nodes.specs.Adds.{Adds}
 use Rattle.event_nodes.specs.Nodes.{EventGraphView, IsTree, IsChild, GrowsEvents, path_of}
 use Rattle.event_nodes.specs.View.{EventCircuitView, side_of, Enabled}
 use Rattle.event_nodes.specs.Visited.{AreNodesFrom, places_weight}
-use Rattle.event_nodes.proofs.Drivers.{latch_out, latch_equation_stands, latch_within, reads_lower}
+use Rattle.event_nodes.proofs.flat_net.Drivers.{latch_out, latch_equation_stands, latch_within, reads_lower}
 use Rattle.event_nodes.proofs.Lists.{adds_none, adds_weaker, adds_cases}
 use Rattle.event_nodes.proofs.Paths.{child_path, path_grows}
 use Rattle.event_literals.specs.declared.event_walk.frames.Frame.{Frame}

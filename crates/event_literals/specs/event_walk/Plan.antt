@@ -6,7 +6,7 @@ use Rattle.event_literals.specs.declared.event_walk.frames.Step.{Step}
 use Rattle.event_literals.specs.declared.event_walk.frames.Ways.{Ways}
 use Rattle.event_nodes.specs.View.{EventCircuitView}
 use Rattle.event_literals.specs.event_walk.Ready.{IsPlan}
-use Rattle.event_nodes.specs.Weights.{weight_at}
+use Rattle.event_nodes.specs.flat_net.Weights.{weight_at}
 use Rattle.event_literals.specs.event_walk.Walk.{IsSeen, IsExpanded}
 
 -- the step of a place: the later its event node was made, the lower the rank

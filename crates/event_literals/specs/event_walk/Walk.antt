@@ -10,7 +10,7 @@ use Rattle.event_nodes.specs.Adds.{Adds}
 use Rattle.event_nodes.specs.Nodes.{EventGraphView, GrowsEvents, path_of}
 use Rattle.event_nodes.specs.View.{EventCircuitView, side_of, Enabled}
 use Rattle.event_nodes.specs.Visited.{CounterView, IsWeighed, IsVisitedPair, AreNodesFrom, HoldsVisits, HoldsNodes, places_weight}
-use Rattle.event_nodes.specs.Weights.{weight_at}
+use Rattle.event_nodes.specs.flat_net.Weights.{weight_at}
 use Rattle.event_literals.specs.declared.event_walk.frames.Frame.{Frame}
 use Rattle.event_literals.specs.declared.event_walk.frames.Put.{Put}
 use Rattle.event_literals.specs.declared.event_walk.frames.Put.TheVariants.{Free, Low, High}

@@ -10,7 +10,7 @@ ghost use Rattle.event_nodes.specs.Nodes.{GrowsEvents, IsTree};
 ghost use Rattle.event_nodes.specs.View.{EventCircuitView};
 ghost use Rattle.event_literals.specs.event_walk.Plan.{AreExpanded, IsPlanOf};
 ghost use Rattle.event_nodes.specs.Visited.{IsWeighed, places_weight};
-ghost use Rattle.event_nodes.specs.Weights.{weight_at};
+ghost use Rattle.event_nodes.specs.flat_net.Weights.{weight_at};
 ghost use Rattle.event_literals.specs.declared.event_walk.frames.Frame.{Frame};
 ghost use Rattle.event_literals.specs.event_walk.Walk.{IsSeen, IsExpanded, IsVisitedPlace, IsWalk, IsCounting, IsExact, IsStep, IsRefused};
 

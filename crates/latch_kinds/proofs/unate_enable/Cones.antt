@@ -18,13 +18,13 @@ use Rattle.flat_net.specs.Sound.{IsSound}
 use Rattle.flat_net.proofs.Places.{one_at}
 use Rattle.flat_net.proofs.Exposed.{latch_there}
 use Rattle.latch_kinds.specs.declared.unate_enable.support.LatchCone.{LatchCone}
-use Rattle.latch_kinds.specs.unate_enable.Weighing.{weight_at}
+use Rattle.flat_net.specs.Weights.{weight_at}
 use Rattle.latch_kinds.specs.unate_enable.Walks.{AreReached}
 use Rattle.latch_kinds.specs.unate_enable.Among.{AreNumbersAmong, IsInputAt, IsOtherLatchAt}
 use Rattle.latch_kinds.specs.unate_enable.Cones.{out_of_latch, data_of_latch, IsInLatchCone, IsConeOfLatch, input_at, no_port, places_of}
 use Rattle.latch_kinds.specs.unate_enable.Building.{AreClosed}
 use Rattle.latch_kinds.proofs.unate_enable.Lists.{pairs_map, pairs_append, sum_by-map, length_within, fewer}
-use Rattle.latch_kinds.proofs.unate_enable.Drivers.{input_source, latch_source, source_drives, weighs, weight_positive, no_input_latch, one_input, one_latch}
+use Rattle.flat_net.proofs.Drivers.{input_source, latch_source, source_drives, weighs, weight_positive, no_input_latch, one_input, one_latch}
 use Rattle.latch_kinds.proofs.unate_enable.Walks.{reaches_on}
 
 -- signals of the cone's other members: f0 and f1 are functions of these

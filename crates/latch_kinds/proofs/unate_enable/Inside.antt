@@ -9,7 +9,7 @@ use Rattle.flat_net.proofs.Exposed.{latch_there}
 use Rattle.inner_cone.specs.Inner.{AreInside, LeadsAside}
 use Rattle.latch_kinds.specs.unate_enable.Walks.{AreReached}
 use Rattle.latch_kinds.specs.unate_enable.Cones.{out_of_latch, data_of_latch}
-use Rattle.latch_kinds.proofs.unate_enable.Drivers.{latch_source}
+use Rattle.flat_net.proofs.Drivers.{latch_source}
 use Rattle.latch_kinds.proofs.unate_enable.Walks.{reaches_on}
 
 module _ (n : NetView) (from own : ℕ) (signals : List ℕ) where

@@ -18,11 +18,11 @@ use Rattle.flat_net.specs.Sound.{IsSound}
 use Rattle.flat_net.proofs.Nets.{some_at}
 use Rattle.flat_net.proofs.Exposed.{latch_there}
 use Rattle.inner_cone.proofs.latch_cone.Walks.{nothing_at}
-use Rattle.latch_kinds.specs.unate_enable.Weighing.{weight_at}
+use Rattle.flat_net.specs.Weights.{weight_at}
 use Rattle.latch_kinds.specs.unate_enable.Cones.{data_of_latch}
 use Rattle.latch_kinds.specs.unate_enable.Recovery.{AreConesLight}
 use Rattle.latch_kinds.proofs.unate_enable.Lists.{pairs_map, sum_by-map}
-use Rattle.latch_kinds.proofs.unate_enable.Drivers.{driven_gate, gate_reads_to, gate_reads_from, no_gate_reads, no_input_gate, read_lower, weighs}
+use Rattle.flat_net.proofs.Drivers.{driven_gate, gate_reads_to, gate_reads_from, no_gate_reads, no_input_gate, reads_lower, weighs}
 
 -- the sum over the first so many numbers
 abbrev pub sum_to : (ℕ → ℕ) → ℕ → ℕ
@@ -80,7 +80,7 @@ module _ (n : NetView) (sound : IsSound n) where
           way_none (inr x) = no_gate_reads n sound p x.0 d drives no_gate x.1
 
       gate : p ≢ u → (j : ℕ) → slice_get n.drivers p ≡ Some (driver.Gate j) → IsTold u p
-      gate other j drives = of_fanins (told_all u g.0.fanins (λ f h. before f.0 (read_lower n sound p f.0 (gate_reads_to n sound p j drives g.0 g.1 f h))))
+      gate other j drives = of_fanins (told_all u g.0.fanins (λ f h. before f.0 (reads_lower n sound p f.0 (gate_reads_to n sound p j drives g.0 g.1 f h))))
         where
           g : (k : Gate) × (slice_get n.gates j ≡ Some k) × (k.out.0 ≡ p)
           g = driven_gate n sound p j drives
@@ -151,7 +151,7 @@ module _ (n : NetView) (sound : IsSound n) where
 
   reached_below : {p q : ℕ} → Reaches (circuit_of n) p q → q ≤ p
   reached_below Reaches.here = omega arith
-  reached_below {p} (Reaches.there {q = r} reads rest) = omega (arith, read_lower n sound p r reads, reached_below rest)
+  reached_below {p} (Reaches.there {q = r} reads rest) = omega (arith, reads_lower n sound p r reads, reached_below rest)
 
   abbrev weighed : ℕ → Weighed ℕ
   weighed s = record { place = s; shift = 0; weight = weight_at n s }

@@ -25,9 +25,9 @@ use Rattle.aig.specs.Rules.{cover_room}
 use Rattle.aig.proofs.Growth.{Grows-refl, Grows-trans, Grows-length}
 use Rattle.aig.proofs.Meaning.{value-grows, value-flip, value-node}
 use Rattle.std.proofs.Math.Nat.{mul-le-mul_right}
-use Rattle.latch_kinds.specs.unate_enable.Weighing.{gate_weight}
+use Rattle.flat_net.specs.Weights.{gate_weight}
 use Rattle.latch_kinds.specs.unate_enable.Building.{IsPut, IsKnown, AreWithin, HasValue, HaveValues, Learns, HasGrown, IsGateLit}
-use Rattle.latch_kinds.proofs.unate_enable.Drivers.{gate_equation_stands}
+use Rattle.flat_net.proofs.Drivers.{gate_equation_stands}
 
 flip_zero : flip 0 ≡ 1
 unfolding flip

@@ -22,7 +22,7 @@ use Rattle.flat_net.proofs.Places.{one_at}
 use Rattle.flat_net.proofs.Nets.{sound_is_net}
 use Rattle.circuit_laws.proofs.NetLaws.{net_determined}
 use Rattle.circuit_laws.proofs.SameMarks.{values_by_cone}
-use Rattle.latch_kinds.proofs.unate_enable.Drivers.{gate_equation_stands, gate_reads_to, read_lower, source_drives, no_input_gate}
+use Rattle.flat_net.proofs.Drivers.{gate_equation_stands, gate_reads_to, reads_lower, source_drives, no_input_gate}
 use Rattle.latch_kinds.proofs.unate_enable.Literals.{stands_before}
 
 -- what stays may go any way
@@ -258,7 +258,7 @@ module _ (n : NetView) (sound : IsSound n) where
     reads_go q reads = by (closed s q here reads)
       where
         lower : q < s
-        lower = read_lower n sound s q reads
+        lower = reads_lower n sound s q reads
 
         by : Contains signals q ⊎ (Reaches (circuit_of n) q u → ⊥) → MayGo (old q) (low q) (high q)
         by (inl h) = let k = at_of signals q h in before k.0 q (stands_before signals increasing i k.0 s q at k.1 lower) k.1

@@ -7,12 +7,11 @@ ghost use Rattle.circuit_theory.specs.Circuit.{Circuit, Reads, IsSource};
 ghost use Rattle.indexmap.specs.IndexMap.{get};
 ghost use Rattle.flat_net.specs.View.{circuit_of};
 ghost use Rattle.aig.specs.Graph.{Grows};
-ghost use Rattle.latch_kinds.specs.unate_enable.Weighing.{gate_weight, weight_at};
+ghost use Rattle.flat_net.specs.Weights.{gate_weight, weight_at};
 ghost use Rattle.latch_kinds.specs.unate_enable.Building.{IsPut, IsKnown, AreWithin, HasValue, Learns, HasGrown, IsGateLit, AreClosed};
 
-use crate::unate_enable::reads::gate_of;
 use aig::{Aig, Lit};
-use flat_net::{Driver, Net, Signal};
+use flat_net::{Driver, Net, Signal, gate_of};
 use indexmap::IndexMap;
 use sec_base::NoMemory;
 use std::alloc::Global;

@@ -4,7 +4,7 @@ ghost use Rattle.std.specs.Prelude.{◌≡◌, ℕ, true, false, ◌+◌, ◌*�
 ghost use Rattle.std.specs.List.{sum_by};
 ghost use Rattle.flat_net.specs.View.{circuit_of};
 ghost use Rattle.aig.specs.Graph.{vars_of};
-ghost use Rattle.latch_kinds.specs.unate_enable.Weighing.{weight_at};
+ghost use Rattle.flat_net.specs.Weights.{weight_at};
 ghost use Rattle.latch_kinds.specs.unate_enable.Walks.{AreReached};
 ghost use Rattle.latch_kinds.specs.declared.unate_enable.support.LatchCone.{LatchCone};
 ghost use Rattle.latch_kinds.specs.unate_enable.Cones.{data_of_latch, out_of_latch, IsConeOfLatch, places_of};
@@ -16,11 +16,11 @@ ghost use Rattle.latch_kinds.specs.declared.unate_enable.recovery.RecoverError.T
 use crate::unate_enable::cone_literals::lit_with;
 use crate::unate_enable::facts::NetFacts;
 use crate::unate_enable::reached_signals::reached;
-use crate::unate_enable::reads::{are_light, latch_of};
+use crate::unate_enable::reads::are_light;
 use crate::unate_enable::sources::{cone_among, places};
 use crate::unate_enable::ways::never_falls;
 use aig::Aig;
-use flat_net::{Net, Signal};
+use flat_net::{Net, Signal, latch_of};
 use inner_cone::inside;
 use pair_decide::{Decision, Proof, Query, decide};
 use sec_base::{Bits, Ids, MAX_CONFLICTS, MAX_WEIGHT, NoMemory};

@@ -7,9 +7,8 @@ ghost use Rattle.latch_kinds.specs.unate_enable.Walks.{AreReached};
 ghost use Rattle.latch_kinds.specs.unate_enable.Cones.{IsConeOfLatch, data_of_latch, input_at, places_of};
 ghost use Rattle.latch_kinds.specs.unate_enable.Among.{AreNumbersAmong, IsInputAt, IsOtherLatchAt};
 
-use crate::unate_enable::reads::latch_of;
 use crate::unate_enable::support::LatchCone;
-use flat_net::{Driver, Net, Port, Signal};
+use flat_net::{Driver, Net, Port, Signal, latch_of};
 use sec_base::{Ids, NoMemory};
 use std::alloc::Global;
 

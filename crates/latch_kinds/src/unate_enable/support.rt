@@ -4,9 +4,8 @@ ghost use Rattle.std.specs.Prelude.{◌<◌, length, IfOk};
 ghost use Rattle.latch_kinds.specs.unate_enable.Cones.{IsConeOfLatch};
 
 use crate::unate_enable::reached_signals::reached;
-use crate::unate_enable::reads::latch_of;
 use crate::unate_enable::sources::cone_among;
-use flat_net::Net;
+use flat_net::{Net, latch_of};
 use sec_base::{Ids, NoMemory};
 use std::alloc::Global;
 

@@ -10,8 +10,7 @@ ghost use Rattle.flat_net.specs.declared.parts.Gate.{Gate};
 ghost use Rattle.flat_net.specs.View.{circuit_of, cover_of};
 ghost use Rattle.latch_kinds.specs.unate_enable.Raises.{IsRaise, AreClosedTo, MayGo, GoOn, IsWayPut, PutsWay, still, both_ways, turned, at_place, way_in};
 
-use crate::unate_enable::reads::gate_of;
-use flat_net::{Driver, Net, Signal};
+use flat_net::{Driver, Net, Signal, gate_of};
 use indexmap::IndexMap;
 use sec_base::{Cover, NoMemory, Word};
 use std::alloc::Global;

@@ -14,8 +14,8 @@ use Rattle.circuit_theory.proofs.Sums.{sum_within}
 use Rattle.flat_net.specs.Sound.{IsSound}
 use Rattle.flat_net.specs.View.{NetView, circuit_of}
 use Rattle.net_alike.specs.FlatCircuit.{IsFlatCircuit}
-use Rattle.unfold_places.specs.Places.{weight_at}
-use Rattle.unfold_places.proofs.Drivers.{weighs}
+use Rattle.flat_net.specs.Weights.{weight_at}
+use Rattle.flat_net.proofs.Drivers.{weighs}
 use Rattle.unfold_places.proofs.Lists.{sum_by-map}
 use Rattle.latch_blocks.specs.Signals.{net_weight}
 use Rattle.latch_blocks.proofs.Weights.{weight_below, weight_step, weight_all}

@@ -2,7 +2,7 @@
 
 ghost use Rattle.std.specs.Prelude.{◌≡◌, ◌+◌, ◌^◌, ◌<◌, length, slice_get, Some, IfOk, if◌then◌else◌};
 ghost use Rattle.flat_net.specs.declared.parts.Driver.TheVariants as driver;
-ghost use Rattle.unfold_places.specs.Places.{weight_at};
+ghost use Rattle.flat_net.specs.Weights.{weight_at};
 ghost use Rattle.unfold_places.specs.Growing.{HasGrown};
 ghost use Rattle.reset_unfold.specs.Unfolded.{IsKnown};
 ghost use Rattle.reset_unfold.specs.Building.{AreKnown, IsReady};
@@ -11,12 +11,11 @@ use super::ResetUnfolder;
 use crate::leaves::initial;
 use aig::{Aig, Lit};
 use base_tables::PlaceTable;
-use flat_net::{Driver, Signal};
+use flat_net::{Driver, Signal, latch_of};
 use sec_base::NoMemory;
 use std::alloc::Global;
 use unfold_places::literals::{gate_literal, variable};
 use unfold_places::memo::Place;
-use unfold_places::reads::latch_of;
 
 impl<'a> ResetUnfolder<'a> {
     /// The literal of a place that can be unfolded.

@@ -13,11 +13,10 @@ ghost use Rattle.reset_unfold.specs.Building.{IsReady, HasRoom, IsLaterReset};
 use super::ResetUnfolder;
 use aig::Aig;
 use base_tables::PlaceTable;
-use flat_net::Signal;
+use flat_net::{Signal, weigh};
 use std::alloc::Global;
 use unfold_places::UnfoldError;
 use unfold_places::memo::Place;
-use unfold_places::reads::weigh;
 
 impl<'a> ResetUnfolder<'a> {
     /// Unfolds all places of one of the signals that are to be unfolded.

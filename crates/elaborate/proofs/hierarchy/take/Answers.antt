@@ -1,4 +1,4 @@
-use Rattle.std.proofs.Common.{◌+◌, ℕ, List, [], ◌∷◌, ◌++◌, map, option_map, length, Some, sym, ◌∙◌, ap, ap₂, subst, subst₂, refl}
+use Rattle.std.proofs.Common.{◌+◌, ℕ, List, [], ◌∷◌, ◌++◌, map, option_map, length, Some, None, sym, ◌∙◌, ap, ap₂, subst, subst₂, refl}
 use Rattle.std.specs.List.{list_any}
 use Rattle.std.proofs.lemmas.Result.{err_from_is_err_and}
 use Rattle.blif_read.specs.declared.design.BlifModel.{BlifModel}
@@ -95,3 +95,18 @@ returns-in_ok-take_instance-in-Subckt-clause-ok c =
     ap (λ (s : Statement). visits (main_name c.args.models.now) (state c.args.models.now c.args.walked.now) (heads c.args.models.now path c.args.instance s)) c.in-Subckt.is
     ∙ sym (ap₂ (λ (n : List ℕ) (ps : List Pair). visits (main_name c.args.models.now) (state c.args.models.now c.args.walked.now) (instance_at c.args.models.now c.args.scope.now c.args.instance n ps ∷ pairs_at c.args.models.now c.args.scope.now c.args.instance n ps)) c.as_slice-in-Subckt.ensures c.as_slice-in-Subckt-2.ensures)
     ∙ c.in_ok-take_instance-in-Subckt.ensures.ok
+
+pub returns-in_ok-take_gate-in-Names-clause-kept : goal.returns-in_ok-take_gate-in-Names-clause-kept
+returns-in_ok-take_gate-in-Names-clause-kept c = c.in_ok-take_gate-in-Names.ensures.kept
+
+pub returns-in_ok-take_latch-in-Latch-clause-kept : goal.returns-in_ok-take_latch-in-Latch-clause-kept
+returns-in_ok-take_latch-in-Latch-clause-kept c = c.in_ok-take_latch-in-Latch.ensures.kept
+
+pub returns-in_ok-take_instance-in-Subckt-clause-kept : goal.returns-in_ok-take_instance-in-Subckt-clause-kept
+returns-in_ok-take_instance-in-Subckt-clause-kept c = c.in_ok-take_instance-in-Subckt.ensures.kept
+
+pub returns-in_ok-take_gate-in-Names-clause-inside : goal.returns-in_ok-take_gate-in-Names-clause-inside
+returns-in_ok-take_gate-in-Names-clause-inside c = subst (λ (s : Statement). GoesInside c.args.models.now c.args.scope.now c.args.instance s None) (sym c.in-Names.is) refl
+
+pub returns-in_ok-take_latch-in-Latch-clause-inside : goal.returns-in_ok-take_latch-in-Latch-clause-inside
+returns-in_ok-take_latch-in-Latch-clause-inside c = subst (λ (s : Statement). GoesInside c.args.models.now c.args.scope.now c.args.instance s None) (sym c.in-Latch.is) refl

@@ -35,3 +35,9 @@ returns-clause-ok c =
     instance_taken c.args.models.now (main_name c.args.models.now) c.args.walked.now c.count.new.self c.add_pairs.new.self c.args.outer.now c.in_ok-inner.inner m.0 f c.args.instance c.args.name.now c.args.pairs.now
     (c.args.walked.now.count + (length c.args.pairs.now + 1)) (c.args.walked.now.places + length c.args.pairs.now * 2) (omega arith) (omega arith) c.in_ok-count.ensures.ok.0 c.in_ok-count.ensures.ok.2
     c.in_ok-inner.ensures.ok c.requires.scope c.in_ok-inner.ensures.inside m.1 (c.requires.tables.each c.in_ok-inner.inner.model m.0 f m.1 formals) adds
+
+pub returns-clause-kept : goal.returns-clause-kept
+returns-clause-kept c = c.in_ok-add_pairs.ensures.kept
+
+pub returns-clause-inside : goal.returns-clause-inside
+returns-clause-inside c = c.in_ok-inner.ensures.inside

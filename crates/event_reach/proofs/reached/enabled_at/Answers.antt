@@ -4,7 +4,7 @@ use Rattle.std.proofs.lemmas.Option.{slice_get_within}
 use Rattle.event_nodes.specs.flat_net.View.{NetView}
 use Rattle.event_nodes.proofs.flat_net.Places.{one_at}
 use Rattle.event_nodes.specs.View.{Enabled}
-use Rattle.event_nodes.proofs.Drivers.{latch_of_equation}
+use Rattle.event_nodes.proofs.flat_net.Drivers.{latch_of_equation}
 use Rattle.event_reach.proofs.Passing.{latch_at}
 use Rattle.event_reach.proofs.reached.enabled_at.Goals as goal
 

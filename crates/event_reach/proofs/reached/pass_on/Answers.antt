@@ -10,7 +10,7 @@ use Rattle.event_nodes.specs.Nodes.{EventGraphView, IsChild}
 use Rattle.event_nodes.specs.Reach.{IsReachedPlace}
 use Rattle.event_nodes.specs.View.{side_of}
 use Rattle.event_nodes.specs.Visited.{AreNodesFrom}
-use Rattle.event_nodes.proofs.Drivers.{latch_of_equation}
+use Rattle.event_nodes.proofs.flat_net.Drivers.{latch_of_equation}
 use Rattle.event_nodes.proofs.Growing.{grows_refl}
 use Rattle.event_nodes.proofs.Lists.{adds_none, adds_weaker}
 use Rattle.event_reach.proofs.Making.{no_nodes, child_made}

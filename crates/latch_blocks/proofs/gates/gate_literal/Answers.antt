@@ -8,7 +8,7 @@ use Rattle.flat_net.specs.declared.parts.Gate.{Gate}
 use Rattle.flat_net.proofs.Places.{cover_of-is, cover_within, cover_fits}
 use Rattle.aig.specs.declared.node.Lit.{Lit}
 use Rattle.aig.proofs.Growth.{Grows-refl}
-use Rattle.unfold_places.specs.Places.{gate_weight}
+use Rattle.flat_net.specs.Weights.{gate_weight}
 use Rattle.latch_blocks.specs.Signals.{lit_at}
 use Rattle.latch_blocks.proofs.GateLits.{cover_within_weight, fanins_within, gate_lit_from}
 use Rattle.latch_blocks.proofs.gates.gate_literal.Goals as goal

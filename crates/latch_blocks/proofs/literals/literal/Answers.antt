@@ -11,8 +11,8 @@ use Rattle.flat_net.specs.declared.parts.Driver.TheVariants as driver
 use Rattle.flat_net.specs.View.{NetView}
 use Rattle.aig.specs.declared.node.Lit.{Lit}
 use Rattle.aig.specs.declared.node.Node.{Node}
-use Rattle.unfold_places.specs.Places.{gate_weight, driver_weight, weight_at}
-use Rattle.unfold_places.proofs.Drivers.{driven_gate}
+use Rattle.flat_net.specs.Weights.{gate_weight, driver_weight, weight_at}
+use Rattle.flat_net.proofs.Drivers.{driven_gate}
 use Rattle.latch_blocks.specs.declared.variables.Variables.{Variables}
 use Rattle.latch_blocks.specs.Signals.{AreSignalLits, IsSignalLit, variable_at}
 use Rattle.latch_blocks.proofs.GateLits.{gate_lit}

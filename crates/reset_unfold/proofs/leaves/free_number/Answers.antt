@@ -1,7 +1,7 @@
 -- The latch is free in cycle 0 where it has no initial value.
 use Rattle.std.proofs.Common.{[], arith}
 use Rattle.std.proofs.lemmas.Option.{slice_get_within}
-use Rattle.unfold_places.proofs.Drivers.{driven_latch}
+use Rattle.flat_net.proofs.Drivers.{driven_latch}
 use Rattle.reset_unfold.proofs.Numbers.{free_here, started_none}
 use Rattle.reset_unfold.proofs.leaves.free_number.Goals as goal
 
@@ -14,7 +14,7 @@ pub returns-then-place-gt0-clause-none : goal.returns-then-place-gt0-clause-none
 returns-then-place-gt0-clause-none c = λ number free. omega (arith, free.0)
 
 pub returns-in-Some-clause-none : goal.returns-in-Some-clause-none
-returns-in-Some-clause-none c = started_none c.args.net.now c.keeps.ensures.sound [] c.args.base c.args.place c.args.j c.requires.drives _ c.latch_of.ensures _ c.in-Some.ensures.here
+returns-in-Some-clause-none c = started_none c.args.net.now c.keeps.ensures.sound [] c.args.base c.args.place c.args.j c.requires.drives _ c.latch_of.ensures.there _ c.in-Some.ensures.here
 
 pub overflow_add-result : goal.overflow_add-result
 overflow_add-result c =
@@ -23,4 +23,4 @@ overflow_add-result c =
     omega (arith, inside, c.requires.room)
 
 pub returns-in-None-clause-here : goal.returns-in-None-clause-here
-returns-in-None-clause-here c = free_here c.args.net.now c.keeps.ensures.sound [] c.args.base c.args.place c.args.j c.requires.drives _ c.latch_of.ensures c.in-None.ensures.none (omega arith)
+returns-in-None-clause-here c = free_here c.args.net.now c.keeps.ensures.sound [] c.args.base c.args.place c.args.j c.requires.drives _ c.latch_of.ensures.there c.in-None.ensures.none (omega arith)

@@ -7,7 +7,7 @@ use Rattle.flat_net.specs.declared.signals.Signal.{Signal}
 use Rattle.flat_net.specs.declared.parts.Gate.{Gate}
 use Rattle.flat_net.proofs.Places.{cover_of-is, cover_within, cover_fits}
 use Rattle.aig.specs.declared.node.Lit.{Lit}
-use Rattle.unfold_places.specs.Places.{gate_weight}
+use Rattle.flat_net.specs.Weights.{gate_weight}
 use Rattle.unfold_places.specs.Reach.{IsMet}
 use Rattle.unfold_places.proofs.Growing.{zip_all, cover_within_weight}
 use Rattle.unfold_places.proofs.PlaceLits.{gate_lit_from}

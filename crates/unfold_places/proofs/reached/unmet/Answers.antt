@@ -1,7 +1,7 @@
 -- The walk ends where each place in the table was looked at, or where the places weigh too much.
 use Rattle.std.proofs.Common.{arith, ◌+◌, ◌-◌, ◌<◌}
 use Rattle.flat_net.proofs.Places.{All-at}
-use Rattle.unfold_places.proofs.Drivers.{weight_positive}
+use Rattle.flat_net.proofs.Drivers.{weight_positive}
 use Rattle.unfold_places.proofs.Lists.{at_most_one}
 use Rattle.unfold_places.proofs.Walk.{IsSeen, met_first, met_more, met_all, met_over}
 use Rattle.unfold_places.proofs.reached.unmet.Goals as goal

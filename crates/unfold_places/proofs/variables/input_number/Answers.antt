@@ -7,7 +7,7 @@ use Rattle.circuit_theory.proofs.Numbers.{at_beside, slice_get-map}
 use Rattle.flat_net.specs.declared.parts.Driver.TheVariants as driver
 use Rattle.flat_net.specs.View.{circuit_of, named}
 use Rattle.flat_net.proofs.Places.{one_at}
-use Rattle.unfold_places.proofs.Drivers.{input_owner, no_input_gate, no_input_latch}
+use Rattle.flat_net.proofs.Drivers.{input_owner, no_input_gate, no_input_latch}
 use Rattle.unfold_places.proofs.variables.input_number.Goals as goal
 
 pub bounds-order-i : goal.bounds-order-i

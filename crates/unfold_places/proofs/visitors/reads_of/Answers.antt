@@ -11,7 +11,8 @@ use Rattle.aig.specs.declared.node.Lit.{Lit}
 use Rattle.unfold_places.specs.Places.{Steps}
 use Rattle.unfold_places.specs.Reach.{IsMet}
 use Rattle.unfold_places.specs.Visitors.{AreReads}
-use Rattle.unfold_places.proofs.Drivers.{input_steps, driven_gate, driven_latch, gate_steps_to, gate_steps_from, latch_steps_to, latch_steps_from}
+use Rattle.flat_net.proofs.Drivers.{driven_gate, driven_latch}
+use Rattle.unfold_places.proofs.Steps.{input_steps, gate_steps_to, gate_steps_from, latch_steps_to, latch_steps_from}
 use Rattle.unfold_places.proofs.Passing.{read_met, entry_is, reads_by}
 use Rattle.unfold_places.proofs.visitors.reads_of.Goals as goal
 
@@ -67,7 +68,7 @@ numbers_in-requires-in-Latch-clause-met c =
     let early = c.requires.planned.early c.args.number (p, c.place-cycle.ensures.0) c.place-cycle.ensures.1 in
     All-cons (λ (f : Signal). IsMet c.args.memo.now (p.0 - 1, f.0)) next []
     (read_met (circuit_of c.args.net.now) c.args.memo.now c.requires.planned c.args.number p c.place-cycle.ensures.0 c.place-cycle.ensures.1 (p.0 - 1, next.0)
-    (latch_steps_to c.args.net.now c.keeps.ensures.sound p.1 _ (c.driver.ensures ∙ ap Some c.in-Latch.is) c.latch_of.result.now c.latch_of.ensures p.0 early))
+    (latch_steps_to c.args.net.now c.keeps.ensures.sound p.1 _ (c.driver.ensures ∙ ap Some c.in-Latch.is) c.latch_of.result.now c.latch_of.ensures.there p.0 early))
     (All-nil (λ (f : Signal). IsMet c.args.memo.now (p.0 - 1, f.0)))
 
 pub returns-in_ok-reads-in-Latch : goal.returns-in_ok-reads-in-Latch
@@ -79,5 +80,5 @@ returns-in_ok-reads-in-Latch c = λ e at.
     let early = c.requires.planned.early c.args.number (p, c.place-cycle.ensures.0) c.place-cycle.ensures.1 in
     subst (λ (q : ℕ × ℕ). AreReads (circuit_of c.args.net.now) c.args.memo.now q c.in_ok-reads-in-Latch.reads) own
     (reads_by (circuit_of c.args.net.now) c.args.memo.now p (p.0 - 1) (next ∷ []) c.in_ok-reads-in-Latch.reads c.in_ok-reads-in-Latch.ensures
-    (λ f h. subst (λ (t : Signal). Steps (circuit_of c.args.net.now) p (p.0 - 1, t.0)) (only next f h) (latch_steps_to c.args.net.now c.keeps.ensures.sound p.1 _ drives c.latch_of.result.now c.latch_of.ensures p.0 early))
-    (λ q steps. (next, Contains-head next [], latch_steps_from c.args.net.now c.keeps.ensures.sound p.1 _ drives c.latch_of.result.now c.latch_of.ensures p.0 q steps)))
+    (λ f h. subst (λ (t : Signal). Steps (circuit_of c.args.net.now) p (p.0 - 1, t.0)) (only next f h) (latch_steps_to c.args.net.now c.keeps.ensures.sound p.1 _ drives c.latch_of.result.now c.latch_of.ensures.there p.0 early))
+    (λ q steps. (next, Contains-head next [], latch_steps_from c.args.net.now c.keeps.ensures.sound p.1 _ drives c.latch_of.result.now c.latch_of.ensures.there p.0 q steps)))

@@ -6,10 +6,11 @@ use Rattle.flat_net.specs.declared.parts.Driver.TheVariants as driver
 use Rattle.flat_net.specs.View.{NetView, circuit_of}
 use Rattle.flat_net.specs.Sound.{IsSound}
 use Rattle.aig.specs.declared.node.Lit.{Lit}
-use Rattle.unfold_places.specs.Places.{Steps, driver_weight, gate_weight, weight_at}
+use Rattle.flat_net.specs.Weights.{driver_weight, gate_weight, weight_at}
+use Rattle.unfold_places.specs.Places.{Steps}
 use Rattle.unfold_places.specs.Reach.{IsMet}
 use Rattle.unfold_places.specs.Literals.{IsGateLit}
-use Rattle.unfold_places.proofs.Drivers.{driven_gate, driven_latch}
+use Rattle.flat_net.proofs.Drivers.{driven_gate, driven_latch}
 use Rattle.unfold_places.proofs.PlaceLits.{gate_met, gate_counts}
 use Rattle.cbf_unfold.proofs.PlaceLits.{input_is, gate_is, gate_grown, grown_as, grown_none, latch_met, latch_is}
 use Rattle.cbf_unfold.proofs.unfolder.Unfolder.literal.Goals as goal
@@ -66,7 +67,7 @@ met-requires c =
     let u = c.args.self.now in
     let sound : IsSound u.net = subst IsSound c.net-net.ensures c.keeps.ensures.sound in
     let drives = ap (λ (n : NetView). slice_get n.drivers c.args.place.1) (sym c.net-net.ensures) ∙ c.driver.ensures ∙ ap Some c.in-Latch.is in
-    let at = ap (λ (n : NetView). slice_get n.latches c.in-Latch.j) (sym c.net-net.ensures) ∙ c.latch_of.ensures in
+    let at = ap (λ (n : NetView). slice_get n.latches c.in-Latch.j) (sym c.net-net.ensures) ∙ c.latch_of.ensures.there in
     latch_met u sound c.keeps-2.ensures.unfolder.order c.args.place c.in-Latch.j c.latch_of.result.now drives at c.requires.ready
 
 pub returns-in-Input : goal.returns-in-Input
@@ -105,7 +106,7 @@ returns-in-Latch c =
     let u = c.args.self.now in
     let sound : IsSound u.net = subst IsSound c.net-net.ensures c.keeps.ensures.sound in
     let drives = ap (λ (n : NetView). slice_get n.drivers c.args.place.1) (sym c.net-net.ensures) ∙ c.driver.ensures ∙ ap Some c.in-Latch.is in
-    let at = ap (λ (n : NetView). slice_get n.latches c.in-Latch.j) (sym c.net-net.ensures) ∙ c.latch_of.ensures in
+    let at = ap (λ (n : NetView). slice_get n.latches c.in-Latch.j) (sym c.net-net.ensures) ∙ c.latch_of.ensures.there in
     record {
       known = latch_is u sound c.keeps-2.ensures.unfolder.order c.args.place c.in-Latch.j c.latch_of.result.now c.met.result c.args.aig.now c.args.places.now drives at c.requires.ready c.requires.known c.met.ensures;
       grown = grown_none c.args.aig.now c.args.places.now c.args.places.now (weight_at u.net c.args.place.1) refl;

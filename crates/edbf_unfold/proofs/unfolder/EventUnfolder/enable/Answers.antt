@@ -24,20 +24,20 @@ use Rattle.event_literals.proofs.Rooted.{next_within, enable_lit, walked_later, 
 use Rattle.edbf_unfold.proofs.unfolder.EventUnfolder.enable.Goals as goal
 
 pub unfold_in-requires-clause-signal : goal.unfold_in-requires-clause-signal
-unfold_in-requires-clause-signal c = next_within c.args.self.now.circuit c.circuit-circuit.result.now c.net.result.now c.args.j c.latch_of-latch.result.now c.circuit-circuit.ensures c.net.ensures c.keeps.ensures.sound c.latch_of-latch.ensures
+unfold_in-requires-clause-signal c = next_within c.args.self.now.circuit c.circuit-circuit.result.now c.net.result.now c.args.j c.latch_of-latch.result.now c.circuit-circuit.ensures c.net.ensures c.keeps.ensures.sound c.latch_of-latch.ensures.there
 
 pub unfold_in-requires-2-clause-signal : goal.unfold_in-requires-2-clause-signal
 unfold_in-requires-2-clause-signal c =
-    next_within c.unfold_in.new.self.circuit c.circuit-circuit.result.now c.net.result.now c.args.j c.latch_of-latch.result.now (c.circuit-circuit.ensures ∙ sym c.in_ok-low.ensures.unfolded.0.circuit) c.net.ensures c.keeps.ensures.sound c.latch_of-latch.ensures
+    next_within c.unfold_in.new.self.circuit c.circuit-circuit.result.now c.net.result.now c.args.j c.latch_of-latch.result.now (c.circuit-circuit.ensures ∙ sym c.in_ok-low.ensures.unfolded.0.circuit) c.net.ensures c.keeps.ensures.sound c.latch_of-latch.ensures.there
 
 pub returns-in_err-low-clause-counting : goal.returns-in_err-low-clause-counting
 returns-in_err-low-clause-counting c = λ l at.
-    let same : c.latch_of-latch.result.now ≡ l = one_at c.args.self.now.circuit.net.latches c.args.j c.latch_of-latch.result.now l (subst (λ (n : NetView). slice_get n.latches c.args.j ≡ Some c.latch_of-latch.result.now) (c.net.ensures ∙ ap (λ (e : EventCircuitView). e.net) c.circuit-circuit.ensures) c.latch_of-latch.ensures) at in
+    let same : c.latch_of-latch.result.now ≡ l = one_at c.args.self.now.circuit.net.latches c.args.j c.latch_of-latch.result.now l (subst (λ (n : NetView). slice_get n.latches c.args.j ≡ Some c.latch_of-latch.result.now) (c.net.ensures ∙ ap (λ (e : EventCircuitView). e.net) c.circuit-circuit.ensures) c.latch_of-latch.ensures.there) at in
     c.unfold_in.ensures.counting.1 (enable_start l) (ap (λ (k : LatchAt). k.next.0) (sym same), ap (λ (k : LatchAt). Some k.out.0) (sym same))
 
 pub returns-in_err-high-clause-counting : goal.returns-in_err-high-clause-counting
 returns-in_err-high-clause-counting c = λ l at.
-    let same : c.latch_of-latch.result.now ≡ l = one_at c.args.self.now.circuit.net.latches c.args.j c.latch_of-latch.result.now l (subst (λ (n : NetView). slice_get n.latches c.args.j ≡ Some c.latch_of-latch.result.now) (c.net.ensures ∙ ap (λ (e : EventCircuitView). e.net) c.circuit-circuit.ensures) c.latch_of-latch.ensures) at in
+    let same : c.latch_of-latch.result.now ≡ l = one_at c.args.self.now.circuit.net.latches c.args.j c.latch_of-latch.result.now l (subst (λ (n : NetView). slice_get n.latches c.args.j ≡ Some c.latch_of-latch.result.now) (c.net.ensures ∙ ap (λ (e : EventCircuitView). e.net) c.circuit-circuit.ensures) c.latch_of-latch.ensures.there) at in
     counting_trans c.args.self.now.circuit (enable_start l) c.args.events.now.children c.unfold_in.new.events.children c.unfold_in-2.new.events.children c.args.counter.now c.unfold_in.new.counter c.unfold_in-2.new.counter c.keeps-2.ensures.events.is_tree
     (c.unfold_in.ensures.counting.1 (enable_start l) (ap (λ (k : LatchAt). k.next.0) (sym same), ap (λ (k : LatchAt). Some k.out.0) (sym same)))
     (subst (λ (e : EventCircuitView). IsCounting e (enable_start l) c.unfold_in.new.events.children c.unfold_in-2.new.events.children c.unfold_in.new.counter c.unfold_in-2.new.counter) c.in_ok-low.ensures.unfolded.0.circuit
@@ -45,7 +45,7 @@ returns-in_err-high-clause-counting c = λ l at.
 
 pub returns-in_err-value-clause-counting : goal.returns-in_err-value-clause-counting
 returns-in_err-value-clause-counting c = λ l at.
-    let same : c.latch_of-latch.result.now ≡ l = one_at c.args.self.now.circuit.net.latches c.args.j c.latch_of-latch.result.now l (subst (λ (n : NetView). slice_get n.latches c.args.j ≡ Some c.latch_of-latch.result.now) (c.net.ensures ∙ ap (λ (e : EventCircuitView). e.net) c.circuit-circuit.ensures) c.latch_of-latch.ensures) at in
+    let same : c.latch_of-latch.result.now ≡ l = one_at c.args.self.now.circuit.net.latches c.args.j c.latch_of-latch.result.now l (subst (λ (n : NetView). slice_get n.latches c.args.j ≡ Some c.latch_of-latch.result.now) (c.net.ensures ∙ ap (λ (e : EventCircuitView). e.net) c.circuit-circuit.ensures) c.latch_of-latch.ensures.there) at in
     counting_same c.args.self.now.circuit (enable_start l) c.args.events.now.children c.unfold_in-2.new.events.children c.enable_of.new.events.children c.args.counter.now c.unfold_in-2.new.counter c.enable_of.ensures.grown.children
     (counting_trans c.args.self.now.circuit (enable_start l) c.args.events.now.children c.unfold_in.new.events.children c.unfold_in-2.new.events.children c.args.counter.now c.unfold_in.new.counter c.unfold_in-2.new.counter c.keeps-2.ensures.events.is_tree
     (c.unfold_in.ensures.counting.1 (enable_start l) (ap (λ (k : LatchAt). k.next.0) (sym same), ap (λ (k : LatchAt). Some k.out.0) (sym same)))
@@ -66,7 +66,7 @@ care_of-requires-clause-met c =
 
 pub returns-in_err-care-clause-counting : goal.returns-in_err-care-clause-counting
 returns-in_err-care-clause-counting c = λ l at.
-    let same : c.latch_of-latch.result.now ≡ l = one_at c.args.self.now.circuit.net.latches c.args.j c.latch_of-latch.result.now l (subst (λ (n : NetView). slice_get n.latches c.args.j ≡ Some c.latch_of-latch.result.now) (c.net.ensures ∙ ap (λ (e : EventCircuitView). e.net) c.circuit-circuit.ensures) c.latch_of-latch.ensures) at in
+    let same : c.latch_of-latch.result.now ≡ l = one_at c.args.self.now.circuit.net.latches c.args.j c.latch_of-latch.result.now l (subst (λ (n : NetView). slice_get n.latches c.args.j ≡ Some c.latch_of-latch.result.now) (c.net.ensures ∙ ap (λ (e : EventCircuitView). e.net) c.circuit-circuit.ensures) c.latch_of-latch.ensures.there) at in
     counting_same c.args.self.now.circuit (enable_start l) c.args.events.now.children c.unfold_in-2.new.events.children c.care_of.new.events.children c.args.counter.now c.unfold_in-2.new.counter (c.care_of.ensures.grown.children ∙ c.enable_of.ensures.grown.children)
     (counting_trans c.args.self.now.circuit (enable_start l) c.args.events.now.children c.unfold_in.new.events.children c.unfold_in-2.new.events.children c.args.counter.now c.unfold_in.new.counter c.unfold_in-2.new.counter c.keeps-2.ensures.events.is_tree
     (c.unfold_in.ensures.counting.1 (enable_start l) (ap (λ (k : LatchAt). k.next.0) (sym same), ap (λ (k : LatchAt). Some k.out.0) (sym same)))
@@ -75,7 +75,7 @@ returns-in_err-care-clause-counting c = λ l at.
 
 pub returns-clause-counting : goal.returns-clause-counting
 returns-clause-counting c = λ l at.
-    let same : c.latch_of-latch.result.now ≡ l = one_at c.args.self.now.circuit.net.latches c.args.j c.latch_of-latch.result.now l (subst (λ (n : NetView). slice_get n.latches c.args.j ≡ Some c.latch_of-latch.result.now) (c.net.ensures ∙ ap (λ (e : EventCircuitView). e.net) c.circuit-circuit.ensures) c.latch_of-latch.ensures) at in
+    let same : c.latch_of-latch.result.now ≡ l = one_at c.args.self.now.circuit.net.latches c.args.j c.latch_of-latch.result.now l (subst (λ (n : NetView). slice_get n.latches c.args.j ≡ Some c.latch_of-latch.result.now) (c.net.ensures ∙ ap (λ (e : EventCircuitView). e.net) c.circuit-circuit.ensures) c.latch_of-latch.ensures.there) at in
     counting_same c.args.self.now.circuit (enable_start l) c.args.events.now.children c.unfold_in-2.new.events.children c.care_of.new.events.children c.args.counter.now c.unfold_in-2.new.counter (c.care_of.ensures.grown.children ∙ c.enable_of.ensures.grown.children)
     (counting_trans c.args.self.now.circuit (enable_start l) c.args.events.now.children c.unfold_in.new.events.children c.unfold_in-2.new.events.children c.args.counter.now c.unfold_in.new.counter c.unfold_in-2.new.counter c.keeps-2.ensures.events.is_tree
     (c.unfold_in.ensures.counting.1 (enable_start l) (ap (λ (k : LatchAt). k.next.0) (sym same), ap (λ (k : LatchAt). Some k.out.0) (sym same)))
@@ -91,7 +91,7 @@ pub returns-clause-here : goal.returns-clause-here
 returns-clause-here c = λ l at.
     let now : c.circuit-circuit.result.now ≡ c.unfold_in-2.new.self.circuit = c.circuit-circuit.ensures ∙ (sym c.in_ok-low.ensures.unfolded.0.circuit ∙ sym c.in_ok-high.ensures.unfolded.0.circuit) in
     let same : c.latch_of-latch.result.now ≡ l = one_at c.unfold_in-2.new.self.circuit.net.latches c.args.j c.latch_of-latch.result.now l
-    (subst (λ (e : EventCircuitView). slice_get e.net.latches c.args.j ≡ Some c.latch_of-latch.result.now) now (subst (λ (n : NetView). slice_get n.latches c.args.j ≡ Some c.latch_of-latch.result.now) c.net.ensures c.latch_of-latch.ensures)) at in
+    (subst (λ (e : EventCircuitView). slice_get e.net.latches c.args.j ≡ Some c.latch_of-latch.result.now) now (subst (λ (n : NetView). slice_get n.latches c.args.j ≡ Some c.latch_of-latch.result.now) c.net.ensures c.latch_of-latch.ensures.there)) at in
     let walked = walked_later c.unfold_in.new.self c.unfold_in-2.new.self c.unfold_in.new.events c.enable_of.new.events _ c.latch_of-latch.result.now.next.0 c.unfold_in.new.counter.places c.unfold_in-2.new.counter.places c.args.room c.in_ok-low.low.table c.in_ok-low.low.ways.items
     c.in_ok-high.ensures.unfolded.0.circuit (grows_trans c.unfold_in.new.events c.unfold_in-2.new.events c.enable_of.new.events c.in_ok-high.ensures.unfolded.0.grows c.enable_of.ensures.grown.grows) c.in_ok-high.ensures.unfolded.0.frames c.in_ok-high.ensures.unfolded.0.memo
     c.in_ok-high.ensures.unfolded.1.more c.in_ok-low.ensures.walked in
@@ -112,7 +112,7 @@ returns-clause-unfolded c =
 
 pub returns-clause-counted : goal.returns-clause-counted
 returns-clause-counted c = λ l at.
-    let same : c.latch_of-latch.result.now ≡ l = one_at c.args.self.now.circuit.net.latches c.args.j c.latch_of-latch.result.now l (subst (λ (n : NetView). slice_get n.latches c.args.j ≡ Some c.latch_of-latch.result.now) (c.net.ensures ∙ ap (λ (e : EventCircuitView). e.net) c.circuit-circuit.ensures) c.latch_of-latch.ensures) at in
+    let same : c.latch_of-latch.result.now ≡ l = one_at c.args.self.now.circuit.net.latches c.args.j c.latch_of-latch.result.now l (subst (λ (n : NetView). slice_get n.latches c.args.j ≡ Some c.latch_of-latch.result.now) (c.net.ensures ∙ ap (λ (e : EventCircuitView). e.net) c.circuit-circuit.ensures) c.latch_of-latch.ensures.there) at in
     let now : c.circuit-circuit.result.now ≡ c.unfold_in-2.new.self.circuit = c.circuit-circuit.ensures ∙ (sym c.in_ok-low.ensures.unfolded.0.circuit ∙ sym c.in_ok-high.ensures.unfolded.0.circuit) in
     let walked = walked_later c.unfold_in.new.self c.unfold_in-2.new.self c.unfold_in.new.events c.enable_of.new.events _ c.latch_of-latch.result.now.next.0 c.unfold_in.new.counter.places c.unfold_in-2.new.counter.places c.args.room c.in_ok-low.low.table c.in_ok-low.low.ways.items
     c.in_ok-high.ensures.unfolded.0.circuit (grows_trans c.unfold_in.new.events c.unfold_in-2.new.events c.enable_of.new.events c.in_ok-high.ensures.unfolded.0.grows c.enable_of.ensures.grown.grows) c.in_ok-high.ensures.unfolded.0.frames c.in_ok-high.ensures.unfolded.0.memo

@@ -2,7 +2,7 @@
 use Rattle.std.proofs.Common.{subst}
 use Rattle.circuit_theory.specs.Frame.{NotPut}
 use Rattle.event_literals.proofs.Places.{one_at}
-use Rattle.event_nodes.proofs.Drivers.{driven_latch, latch_equation_stands}
+use Rattle.event_nodes.proofs.flat_net.Drivers.{driven_latch, latch_equation_stands}
 use Rattle.event_literals.specs.declared.event_walk.frames.Frame.{Frame}
 use Rattle.event_literals.specs.event_walk.Ready.{put_of}
 use Rattle.edbf_unfold.proofs.Caring.{put_not_free}

@@ -4,7 +4,7 @@ use Rattle.event_literals.specs.Driver.TheVariants as driver
 use Rattle.event_literals.specs.View.{NetView}
 use Rattle.event_literals.proofs.Places.{one_at}
 use Rattle.event_nodes.specs.View.{EventCircuitView}
-use Rattle.event_nodes.proofs.Drivers.{latch_of_equation}
+use Rattle.event_nodes.proofs.flat_net.Drivers.{latch_of_equation}
 use Rattle.edbf_unfold.proofs.Caring.{with_none}
 use Rattle.event_literals.proofs.event_walk.Lent.{drives_of, sound_of}
 use Rattle.edbf_unfold.proofs.unfolder.EventUnfolder.with_enable.Goals as goal

@@ -3,7 +3,7 @@ use Rattle.std.proofs.Common.{◌≡◌, ◌∙◌, ◌<◌, length, slice_get, 
 use Rattle.std.proofs.lemmas.Option.{slice_get_within}
 use Rattle.event_literals.specs.View.{NetView}
 use Rattle.event_nodes.specs.View.{EventCircuitView, Enabled}
-use Rattle.event_nodes.proofs.Drivers.{driven_latch, latch_out, latch_equation_stands}
+use Rattle.event_nodes.proofs.flat_net.Drivers.{driven_latch, latch_out, latch_equation_stands}
 use Rattle.circuit_theory.specs.Frame.{NotPut}
 use Rattle.event_literals.specs.event_walk.Ready.{put_of}
 use Rattle.event_literals.specs.declared.event_walk.frames.Step.{Step}
@@ -39,7 +39,7 @@ and_enable-requires-clause-low c =
     let sound = sound_of u.circuit lent c.circuit-circuit.ensures c.keeps.ensures.sound in
     let l = driven_latch u.circuit.net sound c.args.place.1 c.args.j c.requires.latch in
     let m = c.latch_of.result.now in
-    let on_m : slice_get u.circuit.net.latches c.args.j ≡ Some m = latch_of_lent u.circuit lent c.circuit-circuit.ensures c.net.result.now c.net.ensures c.args.j m c.latch_of.ensures in
+    let on_m : slice_get u.circuit.net.latches c.args.j ≡ Some m = latch_of_lent u.circuit lent c.circuit-circuit.ensures c.net.result.now c.net.ensures c.args.j m c.latch_of.ensures.there in
     let latch = latch_equation_stands u.circuit.net sound c.args.place.1 c.args.j c.requires.latch m on_m in
     let out : m.out.0 ≡ c.args.place.1 = latch_out u.circuit.net sound c.args.place.1 c.args.j c.requires.latch m on_m in
     let enabled : Enabled u.circuit c.args.place.1 = subst (Enabled u.circuit) out (subst (λ (e : EventCircuitView). Enabled e m.out.0) c.circuit-circuit.ensures
@@ -55,7 +55,7 @@ and_enable-requires-clause-high c =
     let sound = sound_of u.circuit lent c.circuit-circuit.ensures c.keeps.ensures.sound in
     let l = driven_latch u.circuit.net sound c.args.place.1 c.args.j c.requires.latch in
     let m = c.latch_of.result.now in
-    let on_m : slice_get u.circuit.net.latches c.args.j ≡ Some m = latch_of_lent u.circuit lent c.circuit-circuit.ensures c.net.result.now c.net.ensures c.args.j m c.latch_of.ensures in
+    let on_m : slice_get u.circuit.net.latches c.args.j ≡ Some m = latch_of_lent u.circuit lent c.circuit-circuit.ensures c.net.result.now c.net.ensures c.args.j m c.latch_of.ensures.there in
     let latch = latch_equation_stands u.circuit.net sound c.args.place.1 c.args.j c.requires.latch m on_m in
     let out : m.out.0 ≡ c.args.place.1 = latch_out u.circuit.net sound c.args.place.1 c.args.j c.requires.latch m on_m in
     let enabled : Enabled u.circuit c.args.place.1 = subst (Enabled u.circuit) out (subst (λ (e : EventCircuitView). Enabled e m.out.0) c.circuit-circuit.ensures
@@ -71,7 +71,7 @@ returns-in_ok-lit-clause-here c =
     let sound = sound_of u.circuit lent c.circuit-circuit.ensures c.keeps.ensures.sound in
     let l = driven_latch u.circuit.net sound c.args.place.1 c.args.j c.requires.latch in
     let m = c.latch_of.result.now in
-    let on_m : slice_get u.circuit.net.latches c.args.j ≡ Some m = latch_of_lent u.circuit lent c.circuit-circuit.ensures c.net.result.now c.net.ensures c.args.j m c.latch_of.ensures in
+    let on_m : slice_get u.circuit.net.latches c.args.j ≡ Some m = latch_of_lent u.circuit lent c.circuit-circuit.ensures c.net.result.now c.net.ensures c.args.j m c.latch_of.ensures.there in
     let latch = latch_equation_stands u.circuit.net sound c.args.place.1 c.args.j c.requires.latch m on_m in
     let out : m.out.0 ≡ c.args.place.1 = latch_out u.circuit.net sound c.args.place.1 c.args.j c.requires.latch m on_m in
     let enabled : Enabled u.circuit c.args.place.1 = subst (Enabled u.circuit) out (subst (λ (e : EventCircuitView). Enabled e m.out.0) c.circuit-circuit.ensures

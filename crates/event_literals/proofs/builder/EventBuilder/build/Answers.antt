@@ -3,7 +3,7 @@ use Rattle.std.proofs.Common.{◌+◌, arith}
 use Rattle.std.proofs.lemmas.Option.{slice_get-get_or, slice_get_within}
 use Rattle.circuit_theory.proofs.Lists.{at_of}
 use Rattle.event_literals.specs.declared.event_walk.frames.Step.{Step}
-use Rattle.event_nodes.specs.Weights.{weight_at}
+use Rattle.event_nodes.specs.flat_net.Weights.{weight_at}
 use Rattle.event_literals.proofs.Going.{later_none, later_within, ready_next, room_next, met_next, step_later, sum_take}
 use Rattle.event_literals.proofs.builder.EventBuilder.build.Goals as goal
 

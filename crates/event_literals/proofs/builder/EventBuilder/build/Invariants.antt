@@ -2,7 +2,7 @@ use Rattle.std.proofs.Common.{◌≡◌, ◌<◌, ℕ, slice_get, Some, take}
 use Rattle.std.specs.List.{sum_by}
 use Rattle.event_literals.specs.declared.event_walk.frames.Step.{Step}
 use Rattle.event_literals.specs.Known.{AreKnown, IsMet, IsLater}
-use Rattle.event_nodes.specs.Weights.{weight_at}
+use Rattle.event_nodes.specs.flat_net.Weights.{weight_at}
 use Rattle.event_literals.proofs.builder.EventBuilder.build.Given as goal
 
 abbrev pub invariant-loop-step : goal.invariant-loop-step

@@ -4,7 +4,7 @@ use Rattle.std.proofs.lemmas.Result.{on_ok_weaker}
 use Rattle.std.specs.List.{sum_by}
 use Rattle.event_nodes.specs.flat_net.Sound.{IsSound}
 use Rattle.event_nodes.specs.View.{EventCircuitView}
-use Rattle.event_nodes.specs.Weights.{weight_at}
+use Rattle.event_nodes.specs.flat_net.Weights.{weight_at}
 use Rattle.event_literals.specs.declared.event_walk.frames.Step.{Step}
 use Rattle.event_literals.specs.event_walk.Plan.{IsPlanOf}
 use Rattle.event_literals.specs.event_walk.Ready.{IsPlan}

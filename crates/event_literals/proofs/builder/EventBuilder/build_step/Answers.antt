@@ -1,7 +1,7 @@
 -- The place was met before, or its literal is kept.
 use Rattle.std.proofs.Common.{refl}
 use Rattle.std.proofs.lemmas.Result.{on_ok_weaker}
-use Rattle.event_nodes.specs.Weights.{weight_at}
+use Rattle.event_nodes.specs.flat_net.Weights.{weight_at}
 use Rattle.event_literals.proofs.Going.{later_none, are_known_later, kept_known, kept_later, kept_none, none_known, kept_met, ok_or_err}
 use Rattle.event_literals.proofs.builder.EventBuilder.build_step.Goals as goal
 

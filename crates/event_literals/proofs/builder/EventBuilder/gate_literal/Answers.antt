@@ -12,7 +12,7 @@ use Rattle.event_nodes.specs.Lit.{Lit}
 use Rattle.event_nodes.specs.Rules.{cover_room}
 use Rattle.event_nodes.specs.View.{EventCircuitView}
 use Rattle.event_literals.specs.Known.{IsMet}
-use Rattle.event_nodes.specs.Weights.{gate_weight}
+use Rattle.event_nodes.specs.flat_net.Weights.{gate_weight}
 use Rattle.event_literals.proofs.Lits.{grown_none, zip_all, cover_within_weight, gate_lit, cover_grown}
 use Rattle.event_literals.proofs.builder.EventBuilder.gate_literal.Goals as goal
 

@@ -4,7 +4,7 @@ use Rattle.std.proofs.lemmas.Option.{slice_get_within}
 use Rattle.event_nodes.specs.flat_net.Driver.TheVariants as driver
 use Rattle.event_nodes.specs.flat_net.View.{NetView}
 use Rattle.event_nodes.specs.View.{EventCircuitView}
-use Rattle.event_nodes.proofs.Drivers.{driven_gate, driven_latch}
+use Rattle.event_nodes.proofs.flat_net.Drivers.{driven_gate, driven_latch}
 use Rattle.event_literals.proofs.event_walk.Lent.{drives_of, latch_of_lent, sound_of, order_of}
 use Rattle.event_literals.proofs.Lits.{grown_none, input_is, gate_is, gate_met, put_is, latch_met, latch_is}
 use Rattle.event_literals.proofs.builder.EventBuilder.literal.Goals as goal
@@ -55,7 +55,7 @@ met-requires c =
     let lent = c.circuit-circuit.result.now in
     let sound = sound_of u.circuit lent c.circuit-circuit.ensures c.keeps.ensures.sound in
     let drives = drives_of u.circuit lent c.circuit-circuit.ensures c.net.result.now c.net.ensures c.args.step.signal c.driver.result (driver.Latch c.in-Latch.j) c.driver.ensures c.in-Latch.is in
-    let on = latch_of_lent u.circuit lent c.circuit-circuit.ensures c.net-in-None.result.now c.net-in-None.ensures c.in-Latch.j c.latch_of.result.now c.latch_of.ensures in
+    let on = latch_of_lent u.circuit lent c.circuit-circuit.ensures c.net-in-None.result.now c.net-in-None.ensures c.in-Latch.j c.latch_of.result.now c.latch_of.ensures.there in
     let at = c.frame-frame.ensures in
     latch_met u sound (order_of u.circuit lent c.circuit-circuit.ensures c.keeps.ensures.circuit) c.args.events.now c.args.step c.frame-frame.result at c.in-None.ensures.free c.requires.ready c.in-Latch.j c.latch_of.result.now drives on
 
@@ -92,7 +92,7 @@ returns-in-None-clause-known c =
     let lent = c.circuit-circuit.result.now in
     let sound = sound_of u.circuit lent c.circuit-circuit.ensures c.keeps.ensures.sound in
     let drives = drives_of u.circuit lent c.circuit-circuit.ensures c.net.result.now c.net.ensures c.args.step.signal c.driver.result (driver.Latch c.in-Latch.j) c.driver.ensures c.in-Latch.is in
-    let on = latch_of_lent u.circuit lent c.circuit-circuit.ensures c.net-in-None.result.now c.net-in-None.ensures c.in-Latch.j c.latch_of.result.now c.latch_of.ensures in
+    let on = latch_of_lent u.circuit lent c.circuit-circuit.ensures c.net-in-None.result.now c.net-in-None.ensures c.in-Latch.j c.latch_of.result.now c.latch_of.ensures.there in
     let at = c.frame-frame.ensures in
     latch_is u sound (order_of u.circuit lent c.circuit-circuit.ensures c.keeps.ensures.circuit) c.args.events.now c.args.step c.frame-frame.result at c.in-None.ensures.free c.requires.ready c.in-Latch.j c.latch_of.result.now drives on
     c.keeps-2.ensures.events c.requires.known c.met.result c.met.ensures

@@ -8,7 +8,7 @@ use Rattle.flat_net.specs.declared.signals.Signal.{Signal}
 use Rattle.flat_net.specs.declared.parts.Gate.{Gate}
 use Rattle.flat_net.proofs.Places.{cover_of-is, cover_within, cover_fits}
 use Rattle.aig.specs.declared.node.Lit.{Lit}
-use Rattle.latch_kinds.specs.unate_enable.Weighing.{gate_weight}
+use Rattle.flat_net.specs.Weights.{gate_weight}
 use Rattle.latch_kinds.specs.unate_enable.Building.{IsKnown}
 use Rattle.latch_kinds.proofs.unate_enable.Literals.{zip_all, cover_within_weight, gate_lit_from}
 use Rattle.latch_kinds.proofs.unate_enable.cone_literals.gate_lit.Goals as goal

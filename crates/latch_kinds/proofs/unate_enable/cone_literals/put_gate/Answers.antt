@@ -8,9 +8,9 @@ use Rattle.circuit_theory.proofs.Lists.{All-from_each}
 use Rattle.flat_net.specs.declared.signals.Signal.{Signal}
 use Rattle.flat_net.specs.declared.parts.Gate.{Gate}
 use Rattle.flat_net.specs.View.{circuit_of}
-use Rattle.latch_kinds.specs.unate_enable.Weighing.{driver_weight}
+use Rattle.flat_net.specs.Weights.{driver_weight}
 use Rattle.latch_kinds.specs.unate_enable.Building.{IsKnown, HasGrown}
-use Rattle.latch_kinds.proofs.unate_enable.Drivers.{driven_gate, gate_reads_to, no_gate_source}
+use Rattle.flat_net.proofs.Drivers.{driven_gate, gate_reads_to, no_gate_source}
 use Rattle.latch_kinds.proofs.unate_enable.Literals.{learns_none, learns_put, gate_value, grown_none}
 use Rattle.latch_kinds.proofs.unate_enable.cone_literals.put_gate.Goals as goal
 

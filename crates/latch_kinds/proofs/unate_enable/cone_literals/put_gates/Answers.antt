@@ -8,9 +8,9 @@ use Rattle.std.proofs.lemmas.Option.{slice_get-get_or, slice_get_within}
 use Rattle.indexmap.specs.IndexMap.{get}
 use Rattle.circuit_theory.proofs.Lists.{at_of, All-from_each}
 use Rattle.flat_net.specs.View.{circuit_of}
-use Rattle.latch_kinds.specs.unate_enable.Weighing.{weight_at}
+use Rattle.flat_net.specs.Weights.{weight_at}
 use Rattle.latch_kinds.specs.unate_enable.Building.{IsKnown, HasGrown}
-use Rattle.latch_kinds.proofs.unate_enable.Drivers.{read_lower}
+use Rattle.flat_net.proofs.Drivers.{reads_lower}
 use Rattle.latch_kinds.proofs.unate_enable.Literals.{learns_none, learns_trans, grown_none, grown_trans, stands_before, known_more}
 use Rattle.latch_kinds.proofs.unate_enable.cone_literals.put_gates.Goals as goal
 
@@ -29,7 +29,7 @@ put_gate-requires-clause-ready c = λ q reads.
     let s = get_or c.args.signals.now c.loop-s.s-index 0 in
     let here = slice_get-get_or c.args.signals.now c.loop-s.s-index 0 c.loop-s-test.true in
     let at = at_of c.args.signals.now q (c.requires.closed s q (Contains-get_or c.args.signals.now c.loop-s.s-index 0 c.loop-s-test.true) reads) in
-    c.loop-s.invariant.known at.0 q (stands_before c.args.signals.now c.requires.increasing c.loop-s.s-index at.0 s q here at.1 (read_lower c.args.net.now c.keeps.ensures.sound s q reads)) at.1
+    c.loop-s.invariant.known at.0 q (stands_before c.args.signals.now c.requires.increasing c.loop-s.s-index at.0 s q here at.1 (reads_lower c.args.net.now c.keeps.ensures.sound s q reads)) at.1
 
 pub put_gate-requires-clause-source : goal.put_gate-requires-clause-source
 put_gate-requires-clause-source c = λ source.

@@ -2,7 +2,7 @@ use Rattle.std.proofs.Common.{◌≡◌, ◌<◌, ℕ, Bool, List, nat_eq, slice
 use Rattle.std.specs.List.{sum_by}
 use Rattle.indexmap.specs.IndexMap.{get}
 use Rattle.flat_net.specs.View.{circuit_of}
-use Rattle.latch_kinds.specs.unate_enable.Weighing.{weight_at}
+use Rattle.flat_net.specs.Weights.{weight_at}
 use Rattle.latch_kinds.specs.unate_enable.Building.{IsKnown, Learns, HasGrown}
 use Rattle.latch_kinds.proofs.unate_enable.cone_literals.put_gates.Given as goal
 

@@ -1,6 +1,6 @@
 -- One signal more.
 use Rattle.std.proofs.Common.{◌≡◌, ◌∙◌, length, ap, arith}
-use Rattle.latch_kinds.specs.unate_enable.Weighing.{weight_at}
+use Rattle.flat_net.specs.Weights.{weight_at}
 use Rattle.latch_kinds.proofs.unate_enable.Light.{sum_to, sum_to-more, cones_light}
 use Rattle.latch_kinds.proofs.unate_enable.reads.are_cones_light.Goals as goal
 

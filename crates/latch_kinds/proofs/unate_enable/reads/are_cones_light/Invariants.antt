@@ -1,5 +1,5 @@
 use Rattle.std.proofs.Common.{◌≡◌, ◌≤◌}
-use Rattle.latch_kinds.specs.unate_enable.Weighing.{weight_at}
+use Rattle.flat_net.specs.Weights.{weight_at}
 use Rattle.latch_kinds.proofs.unate_enable.Light.{sum_to}
 use Rattle.latch_kinds.proofs.unate_enable.reads.are_cones_light.Given as goal
 

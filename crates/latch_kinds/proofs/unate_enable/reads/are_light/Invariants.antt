@@ -1,6 +1,6 @@
 use Rattle.std.proofs.Common.{◌≡◌, ◌≤◌, take}
 use Rattle.std.specs.List.{sum_by}
-use Rattle.latch_kinds.specs.unate_enable.Weighing.{weight_at}
+use Rattle.flat_net.specs.Weights.{weight_at}
 use Rattle.latch_kinds.proofs.unate_enable.reads.are_light.Given as goal
 
 abbrev pub invariant-loop-s : goal.invariant-loop-s

@@ -2,7 +2,7 @@
 use Rattle.std.proofs.Common.{◌∙◌, ◌≤◌, ◌<◌, ◌⊎◌, inl, inr, ℕ, Contains, true≢false, sym, subst, arith}
 use Rattle.std.specs.List.{sum_by}
 use Rattle.flat_net.specs.declared.parts.LatchAt.{LatchAt}
-use Rattle.latch_kinds.specs.unate_enable.Weighing.{weight_at}
+use Rattle.flat_net.specs.Weights.{weight_at}
 use Rattle.latch_kinds.proofs.unate_enable.Cones.{cone_weight, cone_over, own_reached}
 use Rattle.latch_kinds.proofs.unate_enable.Unate.{recovery_from}
 use Rattle.latch_kinds.proofs.unate_enable.recovery.recover_over.Goals as goal

@@ -7,7 +7,7 @@ use Rattle.std.proofs.lemmas.List.Elements.{All-get_or}
 use Rattle.std.proofs.lemmas.Result.{IfOk-weaker}
 use Rattle.latch_kinds.specs.unate_enable.Among.{AreFrom, AreNumbersAmong, IsOtherLatchAt}
 use Rattle.latch_kinds.proofs.unate_enable.Among.{from_none, from_same, from_more, among_made}
-use Rattle.latch_kinds.proofs.unate_enable.Drivers.{one_latch}
+use Rattle.flat_net.proofs.Drivers.{one_latch}
 use Rattle.latch_kinds.proofs.unate_enable.sources.latches_among.Goals as goal
 use Rattle.latch_kinds.proofs.unate_enable.sources.latches_among.Goals.{in-Some+in_ok-push, in_default}
 

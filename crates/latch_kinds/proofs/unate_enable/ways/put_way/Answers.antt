@@ -4,7 +4,7 @@ use Rattle.std.proofs.lemmas.Option.{slice_get_within}
 use Rattle.indexmap.specs.IndexMap.{get}
 use Rattle.latch_kinds.specs.declared.unate_enable.ways.Way.{Way}
 use Rattle.latch_kinds.specs.unate_enable.Raises.{MayGo, way_in}
-use Rattle.latch_kinds.proofs.unate_enable.Drivers.{driven_gate, no_gate_source}
+use Rattle.flat_net.proofs.Drivers.{driven_gate, no_gate_source}
 use Rattle.latch_kinds.proofs.unate_enable.Raised.{gate_goes, no_source, go_equal, go_still, put_others, put_here}
 use Rattle.latch_kinds.proofs.unate_enable.ways.put_way.Goals as goal
 

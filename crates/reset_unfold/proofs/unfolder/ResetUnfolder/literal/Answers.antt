@@ -6,10 +6,11 @@ use Rattle.flat_net.specs.declared.parts.Driver.TheVariants as driver
 use Rattle.flat_net.specs.View.{NetView, circuit_of}
 use Rattle.flat_net.specs.Sound.{IsSound}
 use Rattle.aig.specs.declared.node.Lit.{Lit}
-use Rattle.unfold_places.specs.Places.{Steps, driver_weight, gate_weight, weight_at}
+use Rattle.flat_net.specs.Weights.{driver_weight, gate_weight, weight_at}
+use Rattle.unfold_places.specs.Places.{Steps}
 use Rattle.unfold_places.specs.Reach.{IsMet}
 use Rattle.unfold_places.specs.Literals.{IsGateLit}
-use Rattle.unfold_places.proofs.Drivers.{driven_gate}
+use Rattle.flat_net.proofs.Drivers.{driven_gate}
 use Rattle.unfold_places.proofs.Growing.{gate_grown, grown_as}
 use Rattle.unfold_places.proofs.PlaceLits.{gate_met, gate_counts}
 use Rattle.reset_unfold.proofs.PlaceLits.{input_is, gate_is}

@@ -6,7 +6,7 @@ use Rattle.event_nodes.specs.flat_net.Signal.{Signal}
 use Rattle.event_nodes.specs.flat_net.Driver.TheVariants as driver
 use Rattle.event_nodes.specs.flat_net.View.{NetView}
 use Rattle.event_nodes.specs.View.{EventCircuitView}
-use Rattle.event_nodes.proofs.Drivers.{driven_gate, gate_reads_to}
+use Rattle.event_nodes.proofs.flat_net.Drivers.{driven_gate, gate_reads_to}
 use Rattle.event_literals.proofs.event_walk.Lent.{drives_of, sound_of}
 use Rattle.event_literals.proofs.event_walk.Expanding.{input_expanded, gate_expanded}
 use Rattle.event_literals.proofs.event_walk.Stepping.{ok_apart, step_none, step_gate}

@@ -6,7 +6,7 @@ use Rattle.event_nodes.specs.flat_net.Sound.{IsSound}
 use Rattle.event_nodes.specs.Adds.{Adds}
 use Rattle.event_nodes.specs.Nodes.{IsChild}
 use Rattle.event_nodes.specs.View.{EventCircuitView, side_of}
-use Rattle.event_nodes.proofs.Drivers.{driven_latch}
+use Rattle.event_nodes.proofs.flat_net.Drivers.{driven_latch}
 use Rattle.event_nodes.proofs.Growing.{children_more}
 use Rattle.event_nodes.proofs.Lists.{adds_at}
 use Rattle.event_literals.specs.declared.event_walk.frames.Frame.{Frame}

@@ -5,8 +5,8 @@ use Rattle.event_nodes.specs.flat_net.Sound.{IsSound}
 use Rattle.event_nodes.proofs.flat_net.Places.{All-at}
 use Rattle.event_nodes.specs.View.{EventCircuitView}
 use Rattle.event_nodes.specs.Visited.{IsWeighed, AreNodesFrom}
-use Rattle.event_nodes.specs.Weights.{weight_at}
-use Rattle.event_nodes.proofs.Drivers.{weight_positive}
+use Rattle.event_nodes.specs.flat_net.Weights.{weight_at}
+use Rattle.event_nodes.proofs.flat_net.Drivers.{weight_positive}
 use Rattle.event_nodes.proofs.Growing.{grows_refl, grows_trans}
 use Rattle.event_nodes.proofs.Lists.{adds_none, adds_weaker, only_one}
 use Rattle.event_literals.specs.declared.event_walk.frames.Ways.{Ways}

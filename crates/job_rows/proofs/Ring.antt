@@ -14,7 +14,7 @@ use Rattle.design_rows.specs.Designs as design
 use Rattle.design_rows.specs.Small.{small_ring, IsSmall}
 use Rattle.design_rows.proofs.Examples.{ring_is_small}
 use Rattle.design_rows.specs.Texts.{ring}
-use Rattle.premise_rows.specs.Premises.{RingIsCutOnce}
+use Rattle.job_rows.specs.Ring.{RingIsCutOnce}
 use Rattle.design_rows.proofs.Spelling.{Spells, net_is_small, latch_in}
 
 first_spells : Spells ring design.ring (small_ring (codes "p") 6)

@@ -1,8 +1,8 @@
 -- What drives the signal says what it counts.
 use Rattle.std.proofs.Common.{◌∙◌, ap, Some}
 use Rattle.std.proofs.lemmas.Option.{slice_get_within}
-use Rattle.event_nodes.proofs.Drivers.{driven_gate}
-use Rattle.event_nodes.proofs.net_parts.weigh.Goals as goal
+use Rattle.flat_net.proofs.Drivers.{driven_gate}
+use Rattle.flat_net.proofs.weight.weigh.Goals as goal
 
 pub gate_weight-requires : goal.gate_weight-requires
 gate_weight-requires c =

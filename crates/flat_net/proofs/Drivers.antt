@@ -1,12 +1,12 @@
--- What drives a signal says what its place reads and what it counts.
-use Rattle.std.proofs.Common.{◌≡◌, ◌∙◌, ◌+◌, ◌*◌, ◌-◌, ◌<◌, ◌≤◌, ℕ, suc, max, List, [], ◌∷◌, length, map, slice_get, Option, Some, None, refl, sym, ap, subst, arith, inl, inr}
+-- What drives a signal says what it reads and what it counts.
+use Rattle.std.proofs.Common.{◌≡◌, ◌∙◌, ◌+◌, ◌*◌, ◌<◌, ◌≤◌, max, ℕ, suc, List, [], ◌∷◌, length, map, slice_get, Option, Some, None, refl, sym, ap, subst, arith, inl, inr}
 use Rattle.std.specs.Prelude.{◌⊎◌}
 use Rattle.std.specs.List.{Contains}
 use Rattle.std.proofs.lemmas.List.Elements.{All-contains}
 use Rattle.circuit_theory.specs.Cover.{Cover}
-use Rattle.circuit_theory.specs.Circuit.{Gate as gate_equation, Latch as latch_equation, Port, IsInput, IsLatch, Reads}
-use Rattle.circuit_theory.specs.Net.{IsAbove, IsWithin}
+use Rattle.circuit_theory.specs.Circuit.{Gate as gate_equation, Latch as latch_equation, Port, IsInput, IsLatch, IsSource, Reads}
 use Rattle.circuit_theory.specs.Sizes.{WeighsAt}
+use Rattle.circuit_theory.specs.Net.{IsAbove, IsWithin}
 use Rattle.circuit_theory.proofs.Lists.{Contains-map, Contains-map_from}
 use Rattle.flat_net.specs.declared.signals.Signal.{Signal}
 use Rattle.flat_net.specs.declared.parts.Port.{Port as InputPort}
@@ -16,16 +16,19 @@ use Rattle.flat_net.specs.declared.parts.Driver.{Driver}
 use Rattle.flat_net.specs.declared.parts.Driver.TheVariants as driver
 use Rattle.flat_net.specs.View.{NetView, circuit_of, cover_of, equation_of_gate, equation_of_latch}
 use Rattle.flat_net.specs.Sound.{IsSound}
-use Rattle.flat_net.proofs.Nets.{OfGate, OfLatch, equation_from, input_from, gate_stands, latch_stands, input_stands, sound_is_net, some_at}
+use Rattle.flat_net.proofs.Nets.{OfGate, OfLatch, some_at, equation_from, input_from, input_stands, gate_stands, latch_stands, sound_is_net}
 use Rattle.flat_net.proofs.Places.{one_at}
-use Rattle.unfold_places.specs.Places.{Steps, weight_at, driver_weight, gate_weight}
+use Rattle.flat_net.specs.Weights.{weight_at, driver_weight, gate_weight}
 
 -- which driver it is
 same_gate : {i j : ℕ} → driver.Gate i ≡ driver.Gate j → i ≡ j
 same_gate e = cc
 
-same_latch : {i j : ℕ} → driver.Latch i ≡ driver.Latch j → i ≡ j
+pub same_latch : {i j : ℕ} → driver.Latch i ≡ driver.Latch j → i ≡ j
 same_latch e = cc
+
+same_input : {i j : ℕ} → driver.Input i ≡ driver.Input j → i ≡ j
+same_input e = cc
 
 no_gate_latch : {i j : ℕ} → driver.Gate i ≡ driver.Latch j → ⊥
 no_gate_latch e = cc
@@ -35,6 +38,13 @@ no_input_gate e = cc
 
 pub no_input_latch : {i j : ℕ} → driver.Input i ≡ driver.Latch j → ⊥
 no_input_latch e = cc
+
+-- one input, or one latch, drives the signal
+pub one_input : (n : NetView) (s i j : ℕ) → slice_get n.drivers s ≡ Some (driver.Input i) → slice_get n.drivers s ≡ Some (driver.Input j) → i ≡ j
+one_input n s i j a b = same_input (one_at n.drivers s _ _ a b)
+
+pub one_latch : (n : NetView) (s i j : ℕ) → slice_get n.drivers s ≡ Some (driver.Latch i) → slice_get n.drivers s ≡ Some (driver.Latch j) → i ≡ j
+one_latch n s i j a b = same_latch (one_at n.drivers s _ _ a b)
 
 module _ (n : NetView) (sound : IsSound n) where
   -- the gate of a gate's equation
@@ -95,14 +105,18 @@ module _ (n : NetView) (sound : IsSound n) where
       let place : i.port.signal.0 ≡ s = ap (λ k. k.place) i.is in
       (i.j, i.port, i.at, place, subst (λ o. slice_get n.drivers o ≡ Some (driver.Input i.j)) place (sound.inputs i.j i.port i.at).owner)
 
-  -- an input's place reads nothing
-  pub input_steps : (t s i : ℕ) (q : ℕ × ℕ) → slice_get n.drivers s ≡ Some (driver.Input i) → Steps (circuit_of n) (t, s) q → ⊥
-  input_steps t s i q drives (inl h) = go h.1
-    where
-      go : Reads (circuit_of n) s q.1 → ⊥
-      go (Reads.by_gate {fanins = fanins} {cover = cover} eq k) = no_input_gate (one_at n.drivers s _ _ drives (gate_of_equation s fanins cover eq).owner)
-      go (Reads.by_port {from = from} eq) = no_port s from eq
-  input_steps t s i q drives (inr h) = no_input_latch (one_at n.drivers s _ _ drives (latch_of_equation h.1 s q.1 h.2).owner)
+  -- an input reads nothing, and is no latch
+  pub input_reads : (s i q : ℕ) → slice_get n.drivers s ≡ Some (driver.Input i) → Reads (circuit_of n) s q → ⊥
+  input_reads s i q drives (Reads.by_gate {fanins = fanins} {cover = cover} eq k) = no_input_gate (one_at n.drivers s _ _ drives (gate_of_equation s fanins cover eq).owner)
+  input_reads s i q drives (Reads.by_port {from = from} eq) = no_port s from eq
+
+  pub input_latch : (s i next : ℕ) (name : List ℕ) → slice_get n.drivers s ≡ Some (driver.Input i) → IsLatch (circuit_of n) name s next → ⊥
+  input_latch s i next name drives h = no_input_latch (one_at n.drivers s _ _ drives (latch_of_equation name s next h).owner)
+
+  -- what no gate drives reads nothing
+  pub no_gate_reads : (s q : ℕ) (d : Driver) → slice_get n.drivers s ≡ Some d → ((j : ℕ) → d ≡ driver.Gate j → ⊥) → Reads (circuit_of n) s q → ⊥
+  no_gate_reads s q d drives other (Reads.by_gate {fanins = fanins} {cover = cover} eq k) = let g = gate_of_equation s fanins cover eq in other g.j (one_at n.drivers s _ _ drives g.owner)
+  no_gate_reads s q d drives other (Reads.by_port {from = from} eq) = no_port s from eq
 
   module _ (s j : ℕ) (drives : slice_get n.drivers s ≡ Some (driver.Gate j)) where
     pub driven_gate : (g : Gate) × (slice_get n.gates j ≡ Some g) × (g.out.0 ≡ s)
@@ -120,21 +134,19 @@ module _ (n : NetView) (sound : IsSound n) where
           let one : other.j ≡ j = same_gate (one_at n.drivers s _ _ other.owner drives) in
           one_at n.gates j other.gate g (ap (slice_get n.gates) (sym one) ∙ other.at) at
 
-      -- a gate's place reads its fan-ins in the same cycle
-      pub gate_steps_to : (t : ℕ) (f : Signal) → Contains g.fanins f → Steps (circuit_of n) (t, s) (t, f.0)
-      gate_steps_to t f h = inl (refl, Reads.by_gate gate_equation_stands (Contains-map (λ (k : Signal). k.0) g.fanins f h))
+      -- a gate reads its fan-ins, and is no latch
+      pub gate_reads_to : (f : Signal) → Contains g.fanins f → Reads (circuit_of n) s f.0
+      gate_reads_to f h = Reads.by_gate gate_equation_stands (Contains-map (λ (k : Signal). k.0) g.fanins f h)
 
-      pub gate_steps_from : (t : ℕ) (q : ℕ × ℕ) → Steps (circuit_of n) (t, s) q → (f : Signal) × Contains g.fanins f × ((t, f.0) ≡ q)
-      gate_steps_from t q (inl h) = go h.1
-        where
-          go : Reads (circuit_of n) s q.1 → (f : Signal) × Contains g.fanins f × ((t, f.0) ≡ q)
-          go (Reads.by_gate {fanins = fanins} {cover = cover} eq k) =
-              let other = gate_of_equation s fanins cover eq in
-              let mine : map (λ (f : Signal). f.0) g.fanins ≡ fanins = ap (λ (z : Gate). map (λ (f : Signal). f.0) z.fanins) (sym (same_as fanins cover other)) ∙ other.fanins_are in
-              let f = Contains-map_from (λ (f : Signal). f.0) g.fanins q.1 (subst (λ l. Contains l q.1) (sym mine) k) in
-              (f.0, f.1, λ i. (sym h.0 i, f.2 i))
-          go (Reads.by_port {from = from} eq) = absurd (no_port s from eq)
-      gate_steps_from t q (inr h) = absurd (no_gate_latch (one_at n.drivers s _ _ drives (latch_of_equation h.1 s q.1 h.2).owner))
+      pub gate_reads_from : (q : ℕ) → Reads (circuit_of n) s q → (f : Signal) × Contains g.fanins f × (f.0 ≡ q)
+      gate_reads_from q (Reads.by_gate {fanins = fanins} {cover = cover} eq k) =
+          let other = gate_of_equation s fanins cover eq in
+          let mine : map (λ (f : Signal). f.0) g.fanins ≡ fanins = ap (λ (z : Gate). map (λ (f : Signal). f.0) z.fanins) (sym (same_as fanins cover other)) ∙ other.fanins_are in
+          Contains-map_from (λ (f : Signal). f.0) g.fanins q (subst (λ l. Contains l q) (sym mine) k)
+      gate_reads_from q (Reads.by_port {from = from} eq) = absurd (no_port s from eq)
+
+      pub gate_latch : (name : List ℕ) (next : ℕ) → IsLatch (circuit_of n) name s next → ⊥
+      gate_latch name next h = no_gate_latch (one_at n.drivers s _ _ drives (latch_of_equation name s next h).owner)
 
       pub gate_weight_is : weight_at n s ≡ gate_weight n.covers (Some g)
       gate_weight_is = ap (driver_weight n) drives ∙ ap (gate_weight n.covers) at
@@ -143,15 +155,6 @@ module _ (n : NetView) (sound : IsSound n) where
     pub driven_latch : (l : LatchAt) × (slice_get n.latches j ≡ Some l) × (l.out.0 ≡ s)
     driven_latch = sound.drivers s (driver.Latch j) drives
 
-    -- what a latch's place reads lies in the cycle before
-    pub latch_back : (t : ℕ) (q : ℕ × ℕ) → Steps (circuit_of n) (t, s) q → q.0 + 1 ≡ t
-    latch_back t q (inl h) = go h.1
-      where
-        go : Reads (circuit_of n) s q.1 → q.0 + 1 ≡ t
-        go (Reads.by_gate {fanins = fanins} {cover = cover} eq k) = absurd (no_gate_latch (one_at n.drivers s _ _ (gate_of_equation s fanins cover eq).owner drives))
-        go (Reads.by_port {from = from} eq) = absurd (no_port s from eq)
-    latch_back t q (inr h) = h.0
-
     module _ (l : LatchAt) (at : slice_get n.latches j ≡ Some l) where
       pub latch_out : l.out.0 ≡ s
       latch_out = ap (λ (m : LatchAt). m.out.0) (one_at n.latches j l driven_latch.0 at driven_latch.1) ∙ driven_latch.2
@@ -159,23 +162,17 @@ module _ (n : NetView) (sound : IsSound n) where
       pub latch_equation_stands : IsLatch (circuit_of n) l.name s l.next.0
       latch_equation_stands = subst (λ o. IsLatch (circuit_of n) l.name o l.next.0) latch_out (latch_stands n j l at)
 
-      -- a latch's place reads what the latch takes over, in the cycle before
-      pub latch_steps_to : (t : ℕ) → 0 < t → Steps (circuit_of n) (t, s) (t - 1, l.next.0)
-      latch_steps_to t h = inr (omega arith, l.name, latch_equation_stands)
+      -- a latch reads nothing in its own cycle, and takes over one signal
+      pub latch_reads : (q : ℕ) → Reads (circuit_of n) s q → ⊥
+      latch_reads q (Reads.by_gate {fanins = fanins} {cover = cover} eq k) = no_gate_latch (one_at n.drivers s _ _ (gate_of_equation s fanins cover eq).owner drives)
+      latch_reads q (Reads.by_port {from = from} eq) = no_port s from eq
 
-      pub latch_steps_from : (t : ℕ) (q : ℕ × ℕ) → Steps (circuit_of n) (t, s) q → (t - 1, l.next.0) ≡ q
-      latch_steps_from t q (inl h) = go h.1
-        where
-          go : Reads (circuit_of n) s q.1 → (t - 1, l.next.0) ≡ q
-          go (Reads.by_gate {fanins = fanins} {cover = cover} eq k) = absurd (no_gate_latch (one_at n.drivers s _ _ (gate_of_equation s fanins cover eq).owner drives))
-          go (Reads.by_port {from = from} eq) = absurd (no_port s from eq)
-      latch_steps_from t q (inr h) =
-          let other = latch_of_equation h.1 s q.1 h.2 in
+      pub latch_next : (name : List ℕ) (next : ℕ) → IsLatch (circuit_of n) name s next → l.next.0 ≡ next
+      latch_next name next h =
+          let other = latch_of_equation name s next h in
           let one : other.j ≡ j = same_latch (one_at n.drivers s _ _ other.owner drives) in
           let latch : other.latch ≡ l = one_at n.latches j other.latch l (ap (slice_get n.latches) (sym one) ∙ other.at) at in
-          let next : l.next.0 ≡ q.1 = ap (λ (m : LatchAt). m.next.0) (sym latch) ∙ other.next_is in
-          let cycle : t - 1 ≡ q.0 = omega (arith, h.0) in
-          (λ i. (cycle i, next i))
+          ap (λ (m : LatchAt). m.next.0) (sym latch) ∙ other.next_is
 
   -- a signal's weight is what it counts
   pub weighs : (s : ℕ) → s < length n.drivers → WeighsAt (circuit_of n) s (weight_at n s)
@@ -209,18 +206,29 @@ module _ (n : NetView) (sound : IsSound n) where
       by (Some (driver.Gate j)) = gate (slice_get n.gates j)
       by (Some (driver.Latch j)) = omega arith
 
-  -- what is read is a signal of the net, and stands before
-  pub step_within : (p q : ℕ × ℕ) → Steps (circuit_of n) p q → p.1 < length n.drivers → q.1 < length n.drivers
-  step_within p q (inl h) inside = go h.1
-    where
-      go : Reads (circuit_of n) p.1 q.1 → q.1 < length n.drivers
-      go (Reads.by_gate {fanins = fanins} {cover = cover} eq k) =
-          let below : q.1 < p.1 = All-contains (λ f. f < p.1) fanins q.1 (All-contains IsAbove (circuit_of n).equations (gate_equation p.1 fanins cover) (sound_is_net n sound).above eq) k in
-          omega arith
-      go (Reads.by_port {from = from} eq) = absurd (no_port p.1 from eq)
-  step_within p q (inr h) inside = (All-contains (IsWithin (length n.drivers)) (circuit_of n).equations (latch_equation h.1 p.1 q.1) (sound_is_net n sound).within h.2).1
+  -- what is read is a signal of the net, and is lower
+  pub reads_lower : (p q : ℕ) → Reads (circuit_of n) p q → q < p
+  reads_lower p q (Reads.by_gate {fanins = fanins} {cover = cover} eq k) =
+      All-contains (λ f. f < p) fanins q (All-contains IsAbove (circuit_of n).equations (gate_equation p fanins cover) (sound_is_net n sound).above eq) k
+  reads_lower p q (Reads.by_port {from = from} eq) = absurd (no_port p from eq)
 
-  pub step_lower : (p q : ℕ × ℕ) → Reads (circuit_of n) p.1 q.1 → q.1 < p.1
-  step_lower p q (Reads.by_gate {fanins = fanins} {cover = cover} eq k) =
-      All-contains (λ f. f < p.1) fanins q.1 (All-contains IsAbove (circuit_of n).equations (gate_equation p.1 fanins cover) (sound_is_net n sound).above eq) k
-  step_lower p q (Reads.by_port {from = from} eq) = absurd (no_port p.1 from eq)
+  pub latch_within : (name : List ℕ) (p next : ℕ) → IsLatch (circuit_of n) name p next → next < length n.drivers
+  latch_within name p next h = (All-contains (IsWithin (length n.drivers)) (circuit_of n).equations (latch_equation name p next) (sound_is_net n sound).within h).1
+
+  -- inputs and latches are what gates don't drive
+  pub input_source : (s i : ℕ) → slice_get n.drivers s ≡ Some (driver.Input i) → IsSource (circuit_of n) s
+  input_source s i drives =
+      let p = sound.drivers s (driver.Input i) drives in
+      inl (p.0.name, subst (λ o. Contains (circuit_of n).inputs (record { name = p.0.name; place = o })) p.2 (input_stands n i p.0 p.1))
+
+  pub latch_source : (s j : ℕ) → slice_get n.drivers s ≡ Some (driver.Latch j) → IsSource (circuit_of n) s
+  latch_source s j drives = let l = driven_latch s j drives in inr (l.0.name, l.0.next.0, latch_equation_stands s j drives l.0 l.1)
+
+  pub source_drives : (s : ℕ) → IsSource (circuit_of n) s → ((i : ℕ) × (slice_get n.drivers s ≡ Some (driver.Input i))) ⊎ ((j : ℕ) × (slice_get n.drivers s ≡ Some (driver.Latch j)))
+  source_drives s (inl h) = let p = input_owner s h in inl (p.0, p.4)
+  source_drives s (inr h) = let p = latch_of_equation h.0 s h.1 h.2 in inr (p.j, p.owner)
+
+  pub no_gate_source : (s : ℕ) (d : Driver) → slice_get n.drivers s ≡ Some d → ((j : ℕ) → d ≡ driver.Gate j → ⊥) → IsSource (circuit_of n) s
+  no_gate_source s (driver.Input i) drives other = input_source s i drives
+  no_gate_source s (driver.Gate j) drives other = absurd (other j refl)
+  no_gate_source s (driver.Latch j) drives other = latch_source s j drives

@@ -1,9 +1,9 @@
 -- The cover has a column for each fan-in.
 use Rattle.std.proofs.Common.{◌≡◌, ◌∙◌, ◌+◌, ◌*◌, ◌^◌, ◌-◌, min, max, length, sym, ap, arith}
 use Rattle.flat_net.proofs.Places.{cover_of-is, cover_within, cover_fits}
-use Rattle.unfold_places.specs.Places.{gate_weight}
-use Rattle.unfold_places.proofs.Weighing.{saturated}
-use Rattle.unfold_places.proofs.reads.gate_weight.Goals as goal
+use Rattle.flat_net.specs.Weights.{gate_weight}
+use Rattle.flat_net.proofs.Weighing.{saturated}
+use Rattle.flat_net.proofs.weight.gate_weight.Goals as goal
 
 pub cover-cover-requires : goal.cover-cover-requires
 cover-cover-requires c = cover_within _ c.keeps.ensures.sound _ _ c.gate_of-gate.ensures
