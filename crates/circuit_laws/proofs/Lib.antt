@@ -24,3 +24,5 @@ pub mod TreeDepth
 pub mod Values
 pub mod Weights
 pub mod Windows
+pub mod Counting
+pub mod Shallow

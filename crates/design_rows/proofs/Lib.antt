@@ -6,5 +6,3 @@ pub mod SpelledTexts
 pub mod Spelling
 pub mod NoFaults
 pub mod Ranking
-pub mod Counting
-pub mod Shallow

@@ -17,8 +17,8 @@ use Rattle.event_variables.proofs.Leaves.{leaf_visited}
 use Rattle.interface.specs.declared.pairs.SignalPair.{SignalPair}
 use Rattle.assume_laws.specs.Assume.{HasVariableAtNode}
 use Rattle.event_under.specs.Places.{ArePairNodes, IsOverAtNodes}
-use Rattle.design_rows.proofs.Counting.{fewer}
-use Rattle.design_rows.proofs.Shallow.{IsShallow, at_node, no_others, nodes_length, nodes_of, stands}
+use Rattle.circuit_laws.proofs.Counting.{fewer}
+use Rattle.circuit_laws.proofs.Shallow.{IsShallow, at_node, no_others, nodes_length, nodes_of, stands}
 
 module _ {P : Type 0} (c : Circuit P) (latches : List P) (shallow : IsShallow c latches) (depths : LatchesHaveDepths c (IsEnabled c)) (order : List ℕ) (class : P → ℕ) where
   abbrev side : EventSide P

@@ -24,7 +24,7 @@ use Rattle.design_rows.proofs.NoFaults.{tested_is_sound}
 use Rattle.design_laws.proofs.event_designs.FlatEnabled.{enabled_down}
 use Rattle.event_premises.proofs.Flat.{PassesShallow}
 use Rattle.event_premises.proofs.Nets.{HasPorts, PassesCounts, SpellsDesign, ports_kept, shallow_net}
-use Rattle.design_rows.proofs.Shallow.{no_cycle}
+use Rattle.circuit_laws.proofs.Shallow.{no_cycle}
 use Rattle.event_premises.proofs.Within.{IsShallowNet}
 use Rattle.event_assume_rows.specs.Loads.{loading, first_load, and_load, loads_first, loads_and}
 

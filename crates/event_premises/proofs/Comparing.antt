@@ -19,7 +19,7 @@ use Rattle.event_texts.specs.event_fits.Circuits.{AreReached}
 use Rattle.event_texts.specs.Compared.{AreTooLargeInEvents, HaveTooManyEvents}
 use Rattle.sec_files.specs.Loading.{IsAccepted, Loads}
 use Rattle.event_texts.specs.Texts.{AreEventComparable}
-use Rattle.design_rows.proofs.Shallow.{light_cone}
+use Rattle.circuit_laws.proofs.Shallow.{light_cone}
 use Rattle.event_premises.proofs.Sides.{cut_shallow, cut_light}
 use Rattle.event_premises.proofs.Within.{IsShallowNet, IsShallowEvents, no_map_many, no_map_heavy, no_pairs_many, no_pairs_heavy}
 

@@ -14,7 +14,7 @@ use Rattle.circuit_theory.specs.Frame.{ConeLatches}
 use Rattle.net_alike.proofs.Testing.{all_in}
 use Rattle.design_laws.proofs.FlatCycles.{reaches_along, reaches_up}
 use Rattle.design_laws.proofs.FlatParts.{FlatDesign, latch_up}
-use Rattle.design_rows.proofs.Shallow.{IsShallow, IsLightCircuit}
+use Rattle.circuit_laws.proofs.Shallow.{IsShallow, IsLightCircuit}
 
 -- what an equation counts
 abbrev pub weight_of : {P : Type 0} → Equation P → ℕ

@@ -31,7 +31,7 @@ use Rattle.event_premises.specs.Premises.{LoadsAreComparable}
 use Rattle.event_premises.proofs.Comparing.{comparable_events}
 use Rattle.event_premises.proofs.Flat.{PassesShallow}
 use Rattle.event_premises.proofs.Nets.{accepted_text, flat_of, HasPorts, PassesCounts, ports_kept, ports_match, shallow_net, SpellsDesign}
-use Rattle.design_rows.proofs.Shallow.{no_cycle}
+use Rattle.circuit_laws.proofs.Shallow.{no_cycle}
 use Rattle.event_premises.proofs.Within.{IsShallowNet}
 
 abbrev E : Place

@@ -13,7 +13,7 @@ use Rattle.circuit_laws.proofs.Parted.{kept_equation}
 use Rattle.circuit_laws.proofs.Parts.{IsPart, latch_from, reaches_from}
 use Rattle.circuit_theory.specs.Frame.{ConeLatches}
 use Rattle.flat_net.specs.Cut.{IsCutCircuit}
-use Rattle.design_rows.proofs.Shallow.{IsShallow, IsLightCircuit}
+use Rattle.circuit_laws.proofs.Shallow.{IsShallow, IsLightCircuit}
 
 -- a latch of a part reads none but itself there
 part_alone : {P R : Type 0} (c : Circuit P) (j : Circuit R) (f : P → R) (replace : (R → Bool) → (P → Bool) → R → Bool) → IsPart c j f replace → (latches : List P) → IsShallow c latches → (name : List ℕ) (u : P) (next v : R) → IsLatch j name (f u) next → ConeLatches j next v → v ≡ f u

@@ -24,8 +24,8 @@ use Rattle.class_queries.specs.Enables.{both_of, class_map}
 use Rattle.event_texts.specs.event_classes.Totals.{circuit_at, ReachTooMany, starts_at, WeighTooMuch}
 use Rattle.event_texts.specs.event_classes.Refused.{AreManyLatches, IsNextLatch, IsTooHeavy, IsTooMany}
 use Rattle.event_texts.specs.event_fits.Totals.{IsMapMade, PairsReachTooMany, PairsWeighTooMuch}
-use Rattle.design_rows.proofs.Counting.{fewer}
-use Rattle.design_rows.proofs.Shallow.{IsShallow, IsLightCircuit, few_nodes, light_visits}
+use Rattle.circuit_laws.proofs.Counting.{fewer}
+use Rattle.circuit_laws.proofs.Shallow.{IsShallow, IsLightCircuit, few_nodes, light_visits}
 use Rattle.event_premises.proofs.Sides.{both_latches, both_length, both_shallow}
 
 -- a net in which no latch reads another one, with all numbers small

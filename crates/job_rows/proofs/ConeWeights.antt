@@ -12,7 +12,8 @@ use Rattle.circuit_theory.specs.Sizes.{WeighsAt, Weighed, IsConeWeight}
 use Rattle.circuit_theory.proofs.Lists.{Contains-head, Contains-tail, Contains-cases, Contains-map, Contains-map_from, All-from_each}
 use Rattle.circuit_theory.proofs.Sums.{AllPairs-head, AllPairs-tail}
 use Rattle.net_alike.specs.Renumbered.{AreRenumbered}
-use Rattle.net_alike.proofs.Carrying.{IsCarried, forth, turned, weighs, place, pairs_map, sum_map}
+use Rattle.circuit_laws.proofs.Counting.{pairs_map}
+use Rattle.net_alike.proofs.Carrying.{IsCarried, forth, turned, weighs, place, sum_map}
 
 -- what is reached from a place is a place
 reached_place : {P : Type 0} (c : Circuit P) {p q : P} → IsPlace c p → Reaches c p q → IsPlace c q

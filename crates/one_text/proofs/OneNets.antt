@@ -21,7 +21,8 @@ use Rattle.flat_net.specs.declared.parts.LatchAt.{LatchAt}
 use Rattle.flat_net.specs.Cut.{no_latch, exposed_names}
 use Rattle.flat_net.specs.View.{NetView, circuit_of}
 use Rattle.net_alike.specs.Renumbered.{latch_rows, AreRenumbered}
-use Rattle.net_alike.proofs.Carrying.{pairs_map, edge, forth, turned, cycle_carried, over_carried, weight_carried}
+use Rattle.circuit_laws.proofs.Counting.{pairs_map}
+use Rattle.net_alike.proofs.Carrying.{edge, forth, turned, cycle_carried, over_carried, weight_carried}
 use Rattle.net_alike.proofs.Cutting.{cut_carried, minimal_cuts_are_carried}
 use Rattle.swept_queries.proofs.Listed.{zip_left}
 use Rattle.sec_setup.specs.cut_points.Common.{common_names}

@@ -23,7 +23,8 @@ use Rattle.latch_kinds.specs.unate_enable.Walks.{AreReached}
 use Rattle.latch_kinds.specs.unate_enable.Among.{AreNumbersAmong, IsInputAt, IsOtherLatchAt}
 use Rattle.latch_kinds.specs.unate_enable.Cones.{out_of_latch, data_of_latch, IsInLatchCone, IsConeOfLatch, input_at, no_port, places_of}
 use Rattle.latch_kinds.specs.unate_enable.Building.{AreClosed}
-use Rattle.latch_kinds.proofs.unate_enable.Lists.{pairs_map, pairs_append, sum_by-map, length_within, fewer}
+use Rattle.circuit_laws.proofs.Counting.{fewer, pairs_map}
+use Rattle.latch_kinds.proofs.unate_enable.Lists.{pairs_append, sum_by-map, length_within}
 use Rattle.flat_net.proofs.Drivers.{input_source, latch_source, source_drives, weighs, weight_positive, no_input_latch, one_input, one_latch}
 use Rattle.latch_kinds.proofs.unate_enable.Walks.{reaches_on}
 

@@ -21,7 +21,8 @@ use Rattle.inner_cone.proofs.latch_cone.Walks.{nothing_at}
 use Rattle.flat_net.specs.Weights.{weight_at}
 use Rattle.latch_kinds.specs.unate_enable.Cones.{data_of_latch}
 use Rattle.latch_kinds.specs.unate_enable.Recovery.{AreConesLight}
-use Rattle.latch_kinds.proofs.unate_enable.Lists.{pairs_map, sum_by-map}
+use Rattle.circuit_laws.proofs.Counting.{pairs_map}
+use Rattle.latch_kinds.proofs.unate_enable.Lists.{sum_by-map}
 use Rattle.flat_net.proofs.Drivers.{driven_gate, gate_reads_to, gate_reads_from, no_gate_reads, no_input_gate, reads_lower, weighs}
 
 -- the sum over the first so many numbers

@@ -1,11 +1,19 @@
 -- Lists without repeats are no longer than lists that have each of their members.
 use Rattle.std.proofs.Common.{◌≡◌, ◌∙◌, ℕ, ◌+◌, ◌*◌, ◌≤◌, List, [], ◌∷◌, ◌++◌, length, map, refl, sym, subst, arith, inl, inr, length-append}
 use Rattle.std.specs.List.{AllPairs, Contains, sum_by}
-use Rattle.std.proofs.lemmas.List.Elements.{Contains-append_left, Contains-append_right}
+use Rattle.std.proofs.lemmas.List.Elements.{All-map, Contains-append_left, Contains-append_right}
+use Rattle.std.proofs.lemmas.List.Kept.{AllPairs-cons}
 use Rattle.std.proofs.lemmas.List.Sums.{sum_by-cons}
-use Rattle.circuit_theory.proofs.Lists.{Contains-head, Contains-tail, Contains-cases, Contains-map, length-map}
-use Rattle.circuit_theory.proofs.Sums.{sum_within}
-use Rattle.net_alike.proofs.Carrying.{pairs_map}
+use Rattle.circuit_theory.proofs.Lists.{Contains-head, Contains-tail, Contains-cases, Contains-map, All-from_each, length-map}
+use Rattle.circuit_theory.proofs.Sums.{AllPairs-head, AllPairs-tail, sum_within}
+
+-- pairs, through a function of the elements
+pub pairs_map : {X Y : Type 0} (f : X → Y) (R : X → X → Type 0) (S : Y → Y → Type 0) (xs : List X) → ((x y : X) → Contains xs x → Contains xs y → R x y → S (f x) (f y)) → AllPairs R xs → AllPairs S (map f xs)
+pairs_map f R S [] step h = λ i j d l m. absurd (omega arith)
+pairs_map f R S (x ∷ xs) step h =
+    AllPairs-cons S (f x) (map f xs)
+    (All-map (λ y. S (f x) y) f xs (All-from_each (λ y. S (f x) (f y)) xs (λ y k. step x y (Contains-head x xs) (Contains-tail x y xs k) (AllPairs-head R x xs h y k))))
+    (pairs_map f R S xs (λ y z k m r. step y z (Contains-tail x y xs k) (Contains-tail x z xs m) r) (AllPairs-tail R x xs h))
 
 ones : {X : Type 0} (xs : List X) → sum_by (λ x. 1) xs ≡ length xs
 ones [] = refl

@@ -10,7 +10,7 @@ use Rattle.circuit_theory.proofs.Lists.{Contains-head, Contains-tail, Contains-m
 use Rattle.circuit_theory.specs.EventSizes.{EventVisits, IsEventOver, IsOther, Start, WeighedAtNode}
 use Rattle.circuit_theory.specs.EventTotals.{IsNodesOver, StartLatches}
 use Rattle.circuit_theory.specs.Frame.{ConeLatches, ConeOthers, EventSide, IsNode}
-use Rattle.design_rows.proofs.Counting.{fewer, fewer_by, pairs, pairs_length, has_pair, sum_bound}
+use Rattle.circuit_laws.proofs.Counting.{fewer, fewer_by, pairs, pairs_length, has_pair, sum_bound}
 use Rattle.std.proofs.Math.Nat.{mul-le-mul_left}
 
 -- each latch is among these, and reads no other one
