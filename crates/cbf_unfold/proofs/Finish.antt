@@ -19,12 +19,14 @@ use Rattle.aig.specs.Builds.{Builds}
 use Rattle.unfold_places.specs.Places.{Steps}
 use Rattle.flat_net.specs.Weights.{weight_at}
 use Rattle.unfold_places.specs.Reach.{IsThere, AreUnmet, IsReach}
+use Rattle.unfold_places.specs.Walk.{IsWalk, IsTooLong}
 use Rattle.cbf_unfold.specs.View.{UnfolderView}
 use Rattle.cbf_unfold.specs.Unfolded.{IsNumberOf, IsUnfolded, Holds, Fits}
 use Rattle.cbf_unfold.specs.Building.{IsMet, HasRoom, IsLater, AreNumbered}
 use Rattle.unfold_places.proofs.Lists.{adds_contains}
 use Rattle.cbf_unfold.proofs.PlaceLits.{zip_more_left}
 use Rattle.cbf_unfold.proofs.Going.{places_weigh}
+use Rattle.cbf_unfold.proofs.Walk.{reach_from, over_long}
 use Rattle.unfold_places.proofs.InputLists.{variable_of, inputs_are_variables}
 pub use Rattle.unfold_places.proofs.Growing.{zip_map}
 
@@ -189,12 +191,21 @@ module _ (u : UnfolderView) (n : NetView) (order : List ℕ) (memo : List ((ℕ 
   to_own h = subst (λ (k : NetView). P k u.order u.memo) net_is (subst (λ (o : List ℕ). P n o u.memo) order_is (subst (λ (m : List ((ℕ × ℕ) × Lit)). P n order m) memo_is h))
 
 -- what the walk found is what the unfolder goes over
-pub reach_is : (u : UnfolderView) (n : NetView) (memo : List ((ℕ × ℕ) × Lit)) (cap s : ℕ) (reach visited : List (ℕ × ℕ)) → n ≡ u.net → memo ≡ u.memo → cap ≡ u.cap → visited ≡ reach → IsReach (circuit_of n) (length n.drivers) s cap memo reach →
+pub reach_is : (u : UnfolderView) (n : NetView) (memo : List ((ℕ × ℕ) × Lit)) (first cap s : ℕ) (reach visited : List (ℕ × ℕ)) → n ≡ u.net → memo ≡ u.memo → first ≡ u.cap → cap ≡ u.cap → visited ≡ reach → IsWalk n memo (first, s) cap reach →
     IsReach (circuit_of u.net) (length u.net.drivers) s u.cap u.memo visited
-reach_is u n memo cap s reach visited net memos caps same is =
-    subst (λ (l : List ((ℕ × ℕ) × Lit)). IsReach (circuit_of u.net) (length u.net.drivers) s u.cap l visited) memos
-    (subst (λ (m : NetView). IsReach (circuit_of m) (length m.drivers) s u.cap memo visited) net
-    (subst (λ (k : ℕ). IsReach (circuit_of n) (length n.drivers) s k memo visited) caps (subst (λ (r : List (ℕ × ℕ)). IsReach (circuit_of n) (length n.drivers) s cap memo r) (sym same) is)))
+reach_is u n memo first cap s reach visited net memos firsts caps same is =
+    reach_from u.net u.memo s u.cap visited
+    (subst (λ (l : List ((ℕ × ℕ) × Lit)). IsWalk u.net l (u.cap, s) u.cap visited) memos
+    (subst (λ (m : NetView). IsWalk m memo (u.cap, s) u.cap visited) net
+    (subst (λ (k : ℕ). IsWalk n memo (u.cap, s) k visited) caps
+    (subst (λ (k : ℕ). IsWalk n memo (k, s) cap visited) firsts (subst (λ (r : List (ℕ × ℕ)). IsWalk n memo (first, s) cap r) (sym same) is)))))
+
+-- what is too long for the walk is over with the signals so far
+pub over_walk : (u : UnfolderView) (n : NetView) (first cap s : ℕ) → IsSound n → n ≡ u.net → first ≡ u.cap → cap ≡ u.cap → u.cap ≡ 2000000 → IsTooLong n (first, s) cap → IsOver (circuit_of u.net) (u.done ++ s ∷ []) 2000000
+over_walk u n first cap s sound net firsts caps limit long =
+    over_more (circuit_of u.net) u.done s u.cap 2000000 limit
+    (subst (λ (m : NetView). IsOver (circuit_of m) (s ∷ []) u.cap) net
+    (over_long n sound s u.cap (subst (λ (k : ℕ). IsTooLong n (u.cap, s) k) caps (subst (λ (k : ℕ). IsTooLong n (k, s) cap) firsts long))))
 
 pub reach_begun : (u v : UnfolderView) (s : ℕ) (visited : List (ℕ × ℕ)) → v ≡ begun u s → IsReach (circuit_of u.net) (length u.net.drivers) s u.cap u.memo visited →
     (t : ℕ) × Contains v.done t × IsReach (circuit_of v.net) (length v.net.drivers) t v.cap v.memo visited

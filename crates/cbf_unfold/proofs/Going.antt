@@ -1,5 +1,5 @@
 -- How an unfolder goes on: what stays, and what one place more brings.
-use Rattle.std.proofs.Common.{◌≡◌, ◌≢◌, ◌∙◌, ◌+◌, ◌-◌, ◌<◌, ◌≤◌, ℕ, List, [], ◌∷◌, ◌++◌, length, map, get_or, slice_get, Some, refl, sym, ap, subst, arith, inl, inr}
+use Rattle.std.proofs.Common.{◌≡◌, ◌≢◌, ◌∙◌, ◌+◌, ◌-◌, ◌<◌, ◌≤◌, ℕ, List, [], ◌∷◌, ◌++◌, length, map, get_or, slice_get, Some, refl, sym, ap, subst, arith, inl, inr, Ok, Err}
 use Rattle.std.specs.Prelude.{◌⊎◌}
 use Rattle.std.specs.List.{All, AllPairs, Contains, sum_by}
 use Rattle.std.proofs.lemmas.Bool.{cases_order, cases_lt}
@@ -34,6 +34,10 @@ Memo = List ((ℕ × ℕ) × Lit)
 
 abbrev AnyEntry : (ℕ × ℕ) × Lit → Type 0
 AnyEntry e = Unit {0}
+
+-- a result isn't both
+pub not_both : {T E : Type 0} {x : T} {e : E} → Ok x ≡ Err e → ⊥
+not_both h = cc
 
 -- nothing happened
 pub later_none : (u : UnfolderView) (g : List Node) (places : List (ℕ × ℕ)) → u.weight ≤ u.cap → IsLater u u g g places places

@@ -22,7 +22,8 @@ use Rattle.aig.proofs.Growth.{Grows-refl}
 use Rattle.flat_net.specs.Weights.{weight_at, driver_weight, gate_weight}
 use Rattle.cbf_unfold.specs.View.{UnfolderView, IsOrderOf}
 use Rattle.cbf_unfold.specs.Unfolded.{IsKnown}
-use Rattle.cbf_unfold.specs.Building.{AreKnown, IsMet, IsReady, HasGrown, IsInputLit, IsGateLit}
+use Rattle.unfold_places.specs.Literals.{IsVariableLit, IsGateLit}
+use Rattle.cbf_unfold.specs.Building.{AreKnown, IsMet, IsReady}
 use Rattle.unfold_places.proofs.Lists.{adds_none, adds_weaker}
 use Rattle.unfold_places.proofs.Table.{interned}
 pub use Rattle.unfold_places.proofs.Zips.{zip_more_left}
@@ -31,41 +32,24 @@ use Rattle.flat_net.proofs.Drivers.{driven_gate, gate_equation_stands, latch_equ
 use Rattle.unfold_places.proofs.Steps.{gate_steps_to, latch_steps_to}
 use Rattle.cbf_unfold.proofs.Known.{Any, known_later, known_input, known_latch, known_gate}
 
--- the variable is the next one or one that was there
-pub gate_lit : {E : Type 0} (u : UnfolderView) (cycle j : ℕ) (h : List Node) (g : Gate) (lits : List Lit) (r : Result Lit E) → slice_get u.net.gates j ≡ Some g → AllZip (λ f y. Contains u.memo ((cycle, f.0), y)) g.fanins lits →
-    IfOk r (λ x. IsCoverOf h (cover_of u.net.covers g) (map (λ y. y.0) lits) x.0) → IfOk r (λ x. x.0 < 2 * length h) → IfOk r (λ x. IsGateLit u cycle j h x.0)
-gate_lit u cycle j h g lits (Ok x) at each is within = record { gate = g; at = at; lits = lits; each = each; is = is; within = within }
-gate_lit u cycle j h g lits (Err e) at each is within = is
-
 module _ (u : UnfolderView) (sound : IsSound u.net) (order : IsOrderOf u.net u.order) (p : ℕ × ℕ) where
   -- an input's place
-  pub input_is : {E : Type 0} (i : ℕ) (g : List Node) (places : List (ℕ × ℕ)) (r : Result Lit E) → slice_get u.net.drivers p.1 ≡ Some (driver.Input i) → IfOk r (λ x. IsInputLit u.order i (u.cap - p.0) g places x.0) →
-      IfOk r (λ x. IsKnown u.net u.order u.cap g places p x.0)
-  input_is i g places (Ok x) drives l =
+  pub input_is : {E : Type 0} (i number shift : ℕ) (g : List Node) (places : List (ℕ × ℕ)) (r : Result Lit E) → slice_get u.net.drivers p.1 ≡ Some (driver.Input i) → slice_get u.order i ≡ Some number → shift ≡ u.cap - p.0 →
+      IfOk r (λ x. IsVariableLit number shift g places x.0) → IfOk r (λ x. IsKnown u.net u.order u.cap g places p x.0)
+  input_is i number shift g places (Ok x) drives at same l =
       let port = sound.drivers p.1 (driver.Input i) drives in
-      let beside = at_beside (map named u.net.inputs) u.order i l.number (named port.0) (slice_get-map named u.net.inputs i port.0 port.1) l.at in
-      known_input u.net u.order u.cap g places p x.0 l.number l.variable (subst (λ s. IsInputNumber (circuit_of u.net) u.order s l.number) port.2 beside) l.numbered l.lit l.within
-  input_is i g places (Err e) drives l = l
+      let beside = at_beside (map named u.net.inputs) u.order i number (named port.0) (slice_get-map named u.net.inputs i port.0 port.1) at in
+      known_input u.net u.order u.cap g places p x.0 number l.variable (subst (λ s. IsInputNumber (circuit_of u.net) u.order s number) port.2 beside) (l.numbered ∙ ap (λ (k : ℕ). Some (number, k)) same) l.lit l.within
+  input_is i number shift g places (Err e) drives at same l = l
 
   -- a gate's place
-  pub gate_is : {E : Type 0} (j : ℕ) (g h : List Node) (places : List (ℕ × ℕ)) (r : Result Lit E) → slice_get u.net.drivers p.1 ≡ Some (driver.Gate j) → AreKnown u g places → Grows g h → IfOk r (λ x. IsGateLit u p.0 j h x.0) →
+  pub gate_is : {E : Type 0} (j : ℕ) (g h : List Node) (places : List (ℕ × ℕ)) (r : Result Lit E) → slice_get u.net.drivers p.1 ≡ Some (driver.Gate j) → AreKnown u g places → Grows g h → IfOk r (λ x. IsGateLit u.net u.memo p.0 j h x.0) →
       IfOk r (λ x. IsKnown u.net u.order u.cap h places p x.0)
   gate_is j g h places (Ok x) drives known grows l =
       known_gate u.net u.order u.cap h places p.0 p.1 x.0 l.gate.fanins (cover_of u.net.covers l.gate) l.lits (gate_equation_stands u.net sound p.1 j drives l.gate l.at)
       (zip_weaker (λ f y. Contains u.memo ((p.0, f.0), y)) (λ f y. IsKnown u.net u.order u.cap h places (p.0, f.0) y.0) (λ f y m. known_later u.net u.order u.cap g h places places (p.0, f.0) y.0 grows (adds_none Any places places refl) (known (p.0, f.0) y m)) l.gate.fanins l.lits l.each)
       l.is l.within
   gate_is j g h places (Err e) drives known grows l = l
-
-  -- the gate's fan-ins have been met
-  pub gate_met : (j : ℕ) → slice_get u.net.drivers p.1 ≡ Some (driver.Gate j) → IsReady u p → IfSome (slice_get u.net.gates j) (λ g. All (λ f. IsMet u.memo (p.0, f.0)) g.fanins)
-  gate_met j drives ready =
-      let g = driven_gate u.net sound p.1 j drives in
-      subst (λ o. IfSome o (λ (k : Gate). All (λ f. IsMet u.memo (p.0, f.0)) k.fanins)) (sym g.1)
-      (All-from_each (λ (f : Signal). IsMet u.memo (p.0, f.0)) g.0.fanins (λ f h. ready.read (p.0, f.0) (gate_steps_to u.net sound p.1 j drives g.0 g.1 p.0 f h)))
-
-  -- what a gate counts
-  pub gate_counts : (j : ℕ) → slice_get u.net.drivers p.1 ≡ Some (driver.Gate j) → weight_at u.net p.1 ≡ gate_weight u.net.covers (slice_get u.net.gates j)
-  gate_counts j drives = ap (driver_weight u.net) drives
 
   -- a latch's place
   pub latch_met : (j : ℕ) (l : LatchAt) → slice_get u.net.drivers p.1 ≡ Some (driver.Latch j) → slice_get u.net.latches j ≡ Some l → IsReady u p → IsMet u.memo (p.0 - 1, l.next.0)
@@ -75,24 +59,3 @@ module _ (u : UnfolderView) (sound : IsSound u.net) (order : IsOrderOf u.net u.o
       Contains u.memo ((p.0 - 1, l.next.0), x) → IsKnown u.net u.order u.cap g places p x.0
   latch_is j l x g places drives at ready known h =
       known_latch u.net u.order u.cap g places p.0 p.1 l.next.0 x.0 l.name (latch_equation_stands u.net sound p.1 j drives l at) ready.early ready.visited.cycle (known (p.0 - 1, l.next.0) x h)
-
--- the same from what the calls gave
-pub gate_lit_from : {E : Type 0} (u : UnfolderView) (cycle j : ℕ) (h : List Node) (g : Gate) (lits : List Lit) (r : Result Lit E) → slice_get u.net.gates j ≡ Some g → (fanins : List Signal) → fanins ≡ g.fanins →
-    AllZip (λ f y. Contains u.memo ((cycle, f.0), y)) fanins lits → (cover : Cover) → cover_of u.net.covers g ≡ cover → (read : List Lit) → read ≡ lits → IfOk r (λ x. IsCoverOf h cover (map (λ y. y.0) read) x.0) →
-    IfOk r (λ x. x.0 < 2 * length h) → IfOk r (λ x. IsGateLit u cycle j h x.0)
-gate_lit_from u cycle j h g lits r at fanins are each cover is read same here within =
-    gate_lit u cycle j h g lits r at (subst (λ (l : List Signal). AllZip (λ f y. Contains u.memo ((cycle, f.0), y)) l lits) are each)
-    (subst (λ (k : Cover). IfOk r (λ x. IsCoverOf h k (map (λ y. y.0) lits) x.0)) (sym is) (subst (λ (l : List Lit). IfOk r (λ x. IsCoverOf h cover (map (λ y. y.0) l) x.0)) same here)) within
-
--- an input's literal from what the calls gave
-pub input_lit : {E : Type 0} (u : UnfolderView) (i cycle cap number v : ℕ) (os : List ℕ) (h : List Node) (places : List (ℕ × ℕ)) (r : Result Lit E) → os ≡ u.order → cap ≡ u.cap → slice_get os i ≡ Some number →
-    slice_get places v ≡ Some (number, cap - cycle) → IfOk r (λ x. IsLitOf h (Input v) x.0) → IfOk r (λ x. x.0 < 2 * length h) → IfOk r (λ x. IsInputLit u.order i (u.cap - cycle) h places x.0)
-input_lit u i cycle cap number v os h places (Ok x) order caps at numbered lit within = record {
-  number = number;
-  at = ap (λ (l : List ℕ). slice_get l i) (sym order) ∙ at;
-  variable = v;
-  numbered = numbered ∙ ap (λ (k : ℕ). Some (number, k - cycle)) caps;
-  lit = lit;
-  within = within;
-}
-input_lit u i cycle cap number v os h places (Err e) order caps at numbered lit within = lit

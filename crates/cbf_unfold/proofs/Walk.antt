@@ -1,140 +1,48 @@
--- The walk over the places that an unfolding visits.
-use Rattle.std.proofs.Common.{◌≡◌, ◌∙◌, ◌+◌, ◌-◌, ◌<◌, ◌≤◌, ℕ, suc, List, [], ◌∷◌, length, take, slice_get, Some, refl, sym, ap, subst, arith, inl, inr}
-use Rattle.std.specs.Prelude.{◌⊎◌}
-use Rattle.std.specs.List.{All, Contains, sum_by}
-use Rattle.std.proofs.lemmas.List.Elements.{All-nil, All-cons, All-append, All-weaker, All-contains}
-use Rattle.std.proofs.lemmas.List.Sums.{sum_by_more}
-use Rattle.std.proofs.lemmas.Bool.{cases_lt}
-use Rattle.std.proofs.lemmas.Option.{slice_get_within, get_or_from_slice_get}
+-- What a walk comes to is what the unfolding of its signal visits.
+use Rattle.std.proofs.Common.{◌≡◌, ◌+◌, ◌-◌, ◌<◌, ◌≤◌, ℕ, suc, List, [], ◌∷◌, length, sym, ap, subst, arith, inl, inr}
+use Rattle.std.specs.List.{Contains}
+use Rattle.std.proofs.lemmas.List.Elements.{All-contains}
+use Rattle.circuit_theory.specs.Circuit.{Circuit}
 use Rattle.circuit_theory.specs.Sizes.{Visits, IsOver}
-use Rattle.circuit_theory.proofs.Lists.{Contains-head, All-from_each, at_of}
-use Rattle.base_tables.specs.Table.{AreDistinct}
-use Rattle.base_tables.proofs.TableLemmas.{slice_get-take}
+use Rattle.circuit_theory.proofs.Lists.{Contains-head, All-from_each}
 use Rattle.flat_net.specs.View.{NetView, circuit_of}
 use Rattle.flat_net.specs.Sound.{IsSound}
-use Rattle.flat_net.proofs.Places.{All-at, one_at}
-use Rattle.unfold_places.specs.Places.{Steps}
-use Rattle.flat_net.specs.Weights.{weight_at}
 use Rattle.aig.specs.declared.node.Lit.{Lit}
-use Rattle.unfold_places.specs.Reach.{Adds, IsThere, AreUnmet}
-use Rattle.unfold_places.proofs.Lists.{adds_at, adds_contains, adds_cases, adds_length, adds_take, there_later}
-use Rattle.flat_net.proofs.Drivers.{weight_positive}
-use Rattle.unfold_places.proofs.Steps.{step_within}
-use Rattle.unfold_places.proofs.Over.{pairs_differ, distinct_front, over_from}
+use Rattle.unfold_places.specs.Places.{Steps}
+use Rattle.unfold_places.specs.Reach.{IsReach}
+use Rattle.unfold_places.specs.Walk.{Comes, IsWalk, IsTooLong}
+use Rattle.unfold_places.proofs.Over.{over_from}
 
--- the place is visited, and its signal is one of the net
-abbrev pub IsSeen : NetView → ℕ → ℕ → ℕ × ℕ → Type 0
-IsSeen n s cap p = (p.0 ≤ cap) × Visits (circuit_of n) s 0 p.1 (cap - p.0) × (p.1 < length n.drivers)
-
--- The walk so far: all places in the table are visited, what the first ones read is in the table or has been met, and these weigh so much.
-pub record Met (n : NetView) (memo : List ((ℕ × ℕ) × Lit)) (s cap : ℕ) (keys : List (ℕ × ℕ)) (at weight : ℕ) : Type 0 where
-  pub root : IsThere memo keys (cap, s)
-  pub closed : (i : ℕ) (p q : ℕ × ℕ) → i < at → slice_get keys i ≡ Some p → Steps (circuit_of n) p q → IsThere memo keys q
-  pub seen : All (IsSeen n s cap) keys
-  pub late : (i : ℕ) (p : ℕ × ℕ) → slice_get keys i ≡ Some p → cap ≤ p.0 + i
-  pub counted : sum_by (λ p. weight_at n p.1) (take at keys) ≡ weight
-  pub few : length keys ≤ 1 + weight
-  pub passed : at ≤ weight
-  pub small : weight ≤ cap
+-- the place is visited
+abbrev IsSeen : Circuit ℕ → ℕ → ℕ → ℕ × ℕ → Type 0
+IsSeen c s cap p = (p.0 ≤ cap) × Visits c s 0 p.1 (cap - p.0)
 
 -- what is read from a visited place is visited
-pub seen_step : (n : NetView) → IsSound n → (s cap : ℕ) (p q : ℕ × ℕ) → IsSeen n s cap p → Steps (circuit_of n) p q → IsSeen n s cap q
-seen_step n sound s cap p q seen (inl h) =
+seen_step : (c : Circuit ℕ) (s cap : ℕ) (p q : ℕ × ℕ) → IsSeen c s cap p → Steps c p q → IsSeen c s cap q
+seen_step c s cap p q seen (inl h) =
     let cycle : cap - p.0 ≡ cap - q.0 = ap (λ t. cap - t) (sym h.0) in
-    (omega (arith, h.0, seen.0), subst (Visits (circuit_of n) s 0 q.1) cycle (Visits.reads seen.1 h.1), step_within n sound p q (inl h) seen.2)
-seen_step n sound s cap p q seen (inr h) =
+    (omega (arith, h.0, seen.0), subst (Visits c s 0 q.1) cycle (Visits.reads seen.1 h.1))
+seen_step c s cap p q seen (inr h) =
     let cycle : suc (cap - p.0) ≡ cap - q.0 = omega (arith, h.0, seen.0) in
-    (omega (arith, h.0, seen.0), subst (Visits (circuit_of n) s 0 q.1) cycle (Visits.back seen.1 h.2), step_within n sound p q (inr h) seen.2)
+    (omega (arith, h.0, seen.0), subst (Visits c s 0 q.1) cycle (Visits.back seen.1 h.2))
 
-step_late : (n : NetView) (p q : ℕ × ℕ) → Steps (circuit_of n) p q → p.0 ≤ q.0 + 1
-step_late n p q (inl h) = omega (arith, h.0)
-step_late n p q (inr h) = omega (arith, h.0)
+seen_from : (c : Circuit ℕ) (s cap : ℕ) (p : ℕ × ℕ) → Comes c (cap, s) p → IsSeen c s cap p
+seen_from c s cap p Comes.itself = (omega arith, subst (Visits c s 0 s) (let e : 0 ≡ cap - cap = omega arith in e) Visits.itself)
+seen_from c s cap p (Comes.reads {p = q} before steps) = seen_step c s cap q p (seen_from c s cap q before) steps
 
--- the signal alone, or nothing where it has been met
-pub met_first : (n : NetView) (memo : List ((ℕ × ℕ) × Lit)) (s cap : ℕ) (keys : List (ℕ × ℕ)) → s < length n.drivers → IsThere memo keys (cap, s) → (keys ≡ []) ⊎ (keys ≡ (cap, s) ∷ []) → Met n memo s cap keys 0 0
-met_first n memo s cap keys inside there (inl is) = subst (λ k. IsThere memo k (cap, s) → Met n memo s cap k 0 0) (sym is) (λ root. record {
-  root = root;
-  closed = λ i p q h at steps. absurd (omega (arith, h));
-  seen = All-nil (IsSeen n s cap);
-  late = λ i p at. let k = slice_get_within [] i p at in absurd (omega (arith, k));
-  counted = refl;
-  few = omega arith;
-  passed = omega arith;
-  small = omega arith;
-}) there
-met_first n memo s cap keys inside there (inr is) = subst (λ k. IsThere memo k (cap, s) → Met n memo s cap k 0 0) (sym is) (λ root. record {
-  root = root;
-  closed = λ i p q h at steps. absurd (omega (arith, h));
-  seen = All-cons (IsSeen n s cap) (cap, s) [] (omega arith, subst (Visits (circuit_of n) s 0 s) (let e : 0 ≡ cap - cap = omega arith in e) Visits.itself, inside) (All-nil (IsSeen n s cap));
-  late = λ i p at. let k = slice_get_within ((cap, s) ∷ []) i p at in let e : (cap, s) ≡ p = one_at ((cap, s) ∷ []) 0 (cap, s) p refl (subst (λ m. slice_get ((cap, s) ∷ []) m ≡ Some p) (let z : i ≡ 0 = omega arith in z) at) in omega (arith, ap (λ r. r.0) e);
-  counted = refl;
-  few = omega arith;
-  passed = omega arith;
-  small = omega arith;
-}) there
-
--- one place more
-pub met_more : (n : NetView) (sound : IsSound n) (memo : List ((ℕ × ℕ) × Lit)) (s cap : ℕ) (keys new : List (ℕ × ℕ)) (at weight w : ℕ) (p : ℕ × ℕ) → Met n memo s cap keys at weight → slice_get keys at ≡ Some p → w ≡ weight_at n p.1 → w ≤ cap - weight →
-    Adds (Steps (circuit_of n) p) keys new → ((q : ℕ × ℕ) → Steps (circuit_of n) p q → IsThere memo new q) → length new ≤ length keys + weight_at n p.1 → Met n memo s cap new (at + 1) (weight + w)
-met_more n sound memo s cap keys new at weight w p met here is room adds all few =
-    let c = circuit_of n in
-    let inside = slice_get_within keys at p here in
-    let seen = All-at (IsSeen n s cap) keys at p here met.seen in
-    let longer = adds_length (Steps c p) keys new adds in
-    let front : take at new ≡ take at keys = adds_take (Steps c p) keys new at adds (omega (arith, inside)) in
-    let read = adds_at (Steps c p) keys new at p adds here in
-    let more : sum_by (λ q. weight_at n q.1) (take (at + 1) new) ≡ weight + w =
-    sum_by_more (λ q. weight_at n q.1) new at p (omega (arith, inside, longer)) ∙ (let first : sum_by (λ q. weight_at n q.1) (take at new) ≡ weight = ap (sum_by (λ q. weight_at n q.1)) front ∙ met.counted in
-    let second = ap (λ q. weight_at n q.1) (get_or_from_slice_get new at p p read) in omega (arith, first, second, is)) in
-    record {
-      root = there_later (Steps c p) memo keys new (cap, s) adds met.root;
-      closed = λ i q r below at_i steps. closes i q r below at_i steps;
-      seen = subst (All (IsSeen n s cap)) (sym adds.is) (All-append (IsSeen n s cap) keys adds.more met.seen (All-weaker (Steps c p) (IsSeen n s cap) (λ q steps. seen_step n sound s cap p q seen steps) adds.more adds.each));
-      late = λ i q at_i. lates i q at_i;
-      counted = more;
-      few = omega (arith, few, met.few, is);
-      passed = omega (arith, met.passed, weight_positive n sound p.1, is);
-      small = omega (arith, met.small, room);
-    }
-  where
-    closes : (i : ℕ) (q r : ℕ × ℕ) → i < at + 1 → slice_get new i ≡ Some q → Steps (circuit_of n) q r → IsThere memo new r
-    closes i q r below at_i steps = go (adds_cases (Steps (circuit_of n) p) keys new i q adds at_i)
-      where
-        go : (slice_get keys i ≡ Some q) ⊎ ((length keys ≤ i) × Steps (circuit_of n) p q) → IsThere memo new r
-        go (inr k) = absurd (let inside = slice_get_within keys at p here in omega (arith, k.0, below, inside))
-        go (inl old) = by (cases_lt i at)
-          where
-            by : (i < at) ⊎ (at ≤ i) → IsThere memo new r
-            by (inl before) = there_later (Steps (circuit_of n) p) memo keys new r adds (met.closed i q r before old steps)
-            by (inr k) =
-                let same : at ≡ i = omega (arith, k, below) in
-                let one : q ≡ p = one_at keys at q p (ap (slice_get keys) same ∙ old) here in
-                all r (subst (λ z. Steps (circuit_of n) z r) one steps)
-
-    lates : (i : ℕ) (q : ℕ × ℕ) → slice_get new i ≡ Some q → cap ≤ q.0 + i
-    lates i q at_i = go (adds_cases (Steps (circuit_of n) p) keys new i q adds at_i)
-      where
-        go : (slice_get keys i ≡ Some q) ⊎ ((length keys ≤ i) × Steps (circuit_of n) p q) → cap ≤ q.0 + i
-        go (inl old) = met.late i q old
-        go (inr k) = let inside = slice_get_within keys at p here in omega (arith, met.late at p here, step_late n p q k.1, k.0, inside)
-
--- all places
-pub met_all : (n : NetView) (memo : List ((ℕ × ℕ) × Lit)) (s cap : ℕ) (keys : List (ℕ × ℕ)) (at weight : ℕ) → Met n memo s cap keys at weight → length keys ≤ at → AreUnmet (circuit_of n) (length n.drivers) s cap memo keys
-met_all n memo s cap keys at weight met done = record {
-  root = met.root;
-  closed = λ p q h steps. let i = at_of keys p h in met.closed i.0 p q (let k = slice_get_within keys i.0 p i.1 in omega (arith, k, done)) i.1 steps;
-  visited = λ p h. let seen = All-contains (IsSeen n s cap) keys p met.seen h in (seen.0, seen.1);
-  within = All-from_each (λ p. (0 < p.0) × (p.1 < length n.drivers)) keys (λ p h. let i = at_of keys p h in let k = slice_get_within keys i.0 p i.1 in (omega (arith, met.late i.0 p i.1, k, done, met.passed, met.small), (All-contains (IsSeen n s cap) keys p met.seen h).2));
+pub reach_from : (n : NetView) (memo : List ((ℕ × ℕ) × Lit)) (s cap : ℕ) (places : List (ℕ × ℕ)) → IsWalk n memo (cap, s) cap places → IsReach (circuit_of n) (length n.drivers) s cap memo places
+reach_from n memo s cap places walk = record {
+  are = record {
+    root = walk.are.root;
+    closed = walk.are.closed;
+    visited = λ p h. seen_from (circuit_of n) s cap p (walk.are.comes p h);
+    within = All-from_each (λ p. (0 < p.0) × (p.1 < length n.drivers)) places (λ p h. (omega (arith, walk.are.late p h), All-contains (λ (q : ℕ × ℕ). q.1 < length n.drivers) places p walk.are.within h));
+  };
+  ordered = walk.ordered;
 }
 
--- the next place is too much
-pub met_over : (n : NetView) → IsSound n → (memo : List ((ℕ × ℕ) × Lit)) (s cap : ℕ) (keys : List (ℕ × ℕ)) (at weight : ℕ) (p : ℕ × ℕ) → Met n memo s cap keys at weight → AreDistinct keys → slice_get keys at ≡ Some p → cap - weight < weight_at n p.1 →
-    IsOver (circuit_of n) (s ∷ []) cap
-met_over n sound memo s cap keys at weight p met distinct here above =
-    let inside = slice_get_within keys at p here in
-    let first = sum_by_more (λ q. weight_at n q.1) keys at p inside in
-    let second = ap (λ q. weight_at n q.1) (get_or_from_slice_get keys at p p here) in
-    over_from n sound cap (s ∷ []) (take (at + 1) keys) (pairs_differ (take (at + 1) keys) (distinct_front keys (at + 1) distinct))
-    (λ q h. let i = at_of (take (at + 1) keys) q h in let seen = All-at (IsSeen n s cap) keys i.0 q (slice_get-take (at + 1) keys i.0 q i.1).1 met.seen in
-    (record { cycle = seen.0; from = s; among = Contains-head s []; visits = seen.1 }, seen.2))
-    cap (omega (arith, first, second, met.counted, met.small, above))
+pub over_long : (n : NetView) → IsSound n → (s cap : ℕ) → IsTooLong n (cap, s) cap → IsOver (circuit_of n) (s ∷ []) cap
+over_long n sound s cap long =
+    over_from n sound cap (s ∷ []) long.places long.differ
+    (λ p h. let comes = long.comes p h in let seen = seen_from (circuit_of n) s cap p comes.0 in (record { cycle = seen.0; from = s; among = Contains-head s []; visits = seen.1 }, comes.1))
+    cap long.total

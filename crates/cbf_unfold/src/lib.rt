@@ -3,7 +3,6 @@
 #![tactic(auto)]
 
 mod laws;
-pub mod reached_places;
 mod unfolder;
 
 pub use latch_graph::LatchGraph;

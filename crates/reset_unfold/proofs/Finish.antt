@@ -1,5 +1,5 @@
 -- What has been unfolded once all places of a signal have been met.
-use Rattle.std.proofs.Common.{◌≡◌, ◌≢◌, ◌∙◌, ◌+◌, ◌^◌, ◌<◌, ◌≤◌, ℕ, suc, List, [], ◌∷◌, ◌++◌, length, map, slice_get, Some, refl, sym, ap, subst, arith, inl, inr}
+use Rattle.std.proofs.Common.{◌≡◌, ◌≢◌, ◌∙◌, ◌+◌, ◌^◌, ◌<◌, ◌≤◌, ℕ, suc, List, [], ◌∷◌, ◌++◌, length, map, slice_get, Some, Result, Ok, Err, IfOk, refl, sym, ap, subst, arith, inl, inr}
 use Rattle.std.specs.List.{All, AllPairs, AllZip, Contains, sum_by}
 use Rattle.std.proofs.lemmas.List.Elements.{All-nil, Contains-push, All-push, Contains-append_left, Contains-append_right, Contains-push_cases}
 use Rattle.circuit_theory.specs.Circuit.{Circuit}
@@ -22,6 +22,7 @@ use Rattle.flat_net.specs.Weights.{weight_at}
 use Rattle.unfold_places.specs.Reach.{IsThere, IsMet}
 use Rattle.unfold_places.specs.Growing.{IsNumberOf}
 use Rattle.unfold_places.specs.InputOrder.{IsOrderOf}
+use Rattle.unfold_places.specs.Walk.{IsWalk, IsTooLong}
 use Rattle.unfold_places.proofs.Growing.{zip_map}
 use Rattle.reset_unfold.specs.Places.{IsLeafAt, starts_of, in_cycle}
 use Rattle.reset_unfold.specs.Reach.{AreUnmet, IsReach, AreLeavesAt}
@@ -29,6 +30,7 @@ use Rattle.reset_unfold.specs.Cone.{ConeView, IsCone}
 use Rattle.reset_unfold.specs.View.{ResetView}
 use Rattle.reset_unfold.specs.Unfolded.{IsResetUnfolded, Holds, FitsReset}
 use Rattle.reset_unfold.specs.Building.{HasRoom, IsLaterReset, AreNumbered}
+use Rattle.reset_unfold.proofs.Walk.{reach_from, over_long}
 use Rattle.reset_unfold.proofs.Going.{places_weigh}
 use Rattle.reset_unfold.proofs.Known.{leaf_unfolds}
 use Rattle.reset_unfold.proofs.LeafLists.{variable_of}
@@ -209,11 +211,23 @@ abbrev pub begun : ResetView → ℕ × ℕ → ResetView
 begun u s = record u { done = u.done ++ s ∷ [] }
 
 -- what the walk found is what the unfolder goes over
-pub reach_is : (u : ResetView) (n : NetView) (memo : List ((ℕ × ℕ) × Lit)) (s : ℕ × ℕ) (reach visited : List (ℕ × ℕ)) → n ≡ u.net → memo ≡ u.memo → visited ≡ reach → IsReach (circuit_of n) (length n.drivers) memo s reach →
+pub reach_is : (u : ResetView) (n : NetView) (memo : List ((ℕ × ℕ) × Lit)) (s : ℕ × ℕ) (cap : ℕ) (reach visited : List (ℕ × ℕ)) → n ≡ u.net → memo ≡ u.memo → visited ≡ reach → IsWalk n memo s cap reach →
     IsReach (circuit_of u.net) (length u.net.drivers) u.memo s visited
-reach_is u n memo s reach visited net same_memo same is =
-    subst (λ (m : NetView). IsReach (circuit_of m) (length m.drivers) u.memo s visited) net
-    (subst (λ (l : List ((ℕ × ℕ) × Lit)). IsReach (circuit_of n) (length n.drivers) l s visited) same_memo (subst (λ (r : List (ℕ × ℕ)). IsReach (circuit_of n) (length n.drivers) memo s r) (sym same) is))
+reach_is u n memo s cap reach visited net same_memo same is =
+    reach_from u.net u.memo s cap visited
+    (subst (λ (m : NetView). IsWalk m u.memo s cap visited) net (subst (λ (l : List ((ℕ × ℕ) × Lit)). IsWalk n l s cap visited) same_memo (subst (λ (r : List (ℕ × ℕ)). IsWalk n memo s cap r) (sym same) is)))
+
+-- the same where nothing has been met, from what the call gave
+pub reach_alone : {V E : Type 0} (items : V → List (ℕ × ℕ)) (u : ResetView) (n : NetView) (memo : List ((ℕ × ℕ) × Lit)) (s : ℕ × ℕ) (cap : ℕ) (r : Result V E) → n ≡ u.net → memo ≡ [] → IfOk r (λ v. IsWalk n memo s cap (items v)) →
+    IfOk r (λ v. IsReach (circuit_of u.net) (length u.net.drivers) [] s (items v))
+reach_alone items u n memo s cap (Ok v) net none is =
+    reach_from u.net [] s cap (items v) (subst (λ (m : NetView). IsWalk m [] s cap (items v)) net (subst (λ (l : List ((ℕ × ℕ) × Lit)). IsWalk n l s cap (items v)) none is))
+reach_alone items u n memo s cap (Err e) net none is = is
+
+-- what is too long for the walk is over
+pub over_walk : (u : ResetView) (n : NetView) (s : ℕ × ℕ) (cap : ℕ) → IsSound n → n ≡ u.net → cap ≡ u.cap → IsTooLong n s cap → IsResetOver (circuit_of u.net) (starts_of (s ∷ [])) u.cap
+over_walk u n s cap sound net caps long =
+    subst (λ (m : NetView). IsResetOver (circuit_of m) (starts_of (s ∷ [])) u.cap) net (over_long n sound s u.cap (subst (IsTooLong n s) caps long))
 
 pub reach_begun : (u v : ResetView) (s : ℕ × ℕ) (visited : List (ℕ × ℕ)) → v ≡ begun u s → IsReach (circuit_of u.net) (length u.net.drivers) u.memo s visited →
     (t : ℕ × ℕ) × Contains v.done t × IsReach (circuit_of v.net) (length v.net.drivers) v.memo t visited

@@ -21,7 +21,7 @@ use Rattle.unfold_places.proofs.Growing.{Any, builds_later}
 use Rattle.reset_unfold.specs.Places.{IsLeafAt}
 use Rattle.reset_unfold.specs.View.{ResetView}
 use Rattle.reset_unfold.specs.Unfolded.{IsKnown, IsResetUnfolded, FitsReset, Holds}
-use Rattle.reset_unfold.specs.Building.{IsVariableLit}
+use Rattle.unfold_places.specs.Literals.{IsVariableLit}
 
 -- the tree of a place for which a variable stands
 pub leaf_unfolds : (c : Circuit ℕ) (order : List ℕ) (base : ℕ) (p : ℕ × ℕ) (number : ℕ) → IsLeafAt c order base p number → ResetUnfolds c order base p.1 p.0 (Leaf number p.0)

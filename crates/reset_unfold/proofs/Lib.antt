@@ -1,7 +1,5 @@
-pub mod Reading
 pub mod Weighing
 pub mod Walk
-pub mod Order
 pub mod Numbers
 pub mod LeafLists
 pub mod TreeLeaves

@@ -22,28 +22,10 @@ use Rattle.unfold_places.proofs.Steps.{gate_steps_to, latch_steps_to}
 use Rattle.unfold_places.proofs.Growing.{Any}
 use Rattle.reset_unfold.specs.View.{ResetView}
 use Rattle.reset_unfold.specs.Unfolded.{IsKnown}
-use Rattle.reset_unfold.specs.Building.{AreKnown, IsReady, IsVariableLit, IsGateLit}
+use Rattle.unfold_places.specs.Literals.{IsVariableLit, IsGateLit}
+use Rattle.reset_unfold.specs.Building.{AreKnown, IsReady}
 use Rattle.reset_unfold.proofs.Known.{known_later, known_leaf, known_latch, known_start, known_gate}
 use Rattle.reset_unfold.proofs.Numbers.{input_leaf, free_here, started}
-
--- the variable from what the calls gave
-pub variable_lit : {E : Type 0} (number cycle v : ℕ) (h : List Node) (places : List (ℕ × ℕ)) (r : Result Lit E) → slice_get places v ≡ Some (number, cycle) → IfOk r (λ x. IsLitOf h (Input v) x.0) → IfOk r (λ x. x.0 < 2 * length h) →
-    IfOk r (λ x. IsVariableLit number cycle h places x.0)
-variable_lit number cycle v h places (Ok x) numbered lit within = record { variable = v; numbered = numbered; lit = lit; within = within }
-variable_lit number cycle v h places (Err e) numbered lit within = lit
-
-gate_lit : {E : Type 0} (u : ResetView) (cycle j : ℕ) (h : List Node) (g : Gate) (lits : List Lit) (r : Result Lit E) → slice_get u.net.gates j ≡ Some g → AllZip (λ f y. Contains u.memo ((cycle, f.0), y)) g.fanins lits →
-    IfOk r (λ x. IsCoverOf h (cover_of u.net.covers g) (map (λ y. y.0) lits) x.0) → IfOk r (λ x. x.0 < 2 * length h) → IfOk r (λ x. IsGateLit u cycle j h x.0)
-gate_lit u cycle j h g lits (Ok x) at each is within = record { gate = g; at = at; lits = lits; each = each; is = is; within = within }
-gate_lit u cycle j h g lits (Err e) at each is within = is
-
--- the same from what the calls gave
-pub gate_lit_from : {E : Type 0} (u : ResetView) (cycle j : ℕ) (h : List Node) (g : Gate) (lits : List Lit) (r : Result Lit E) → slice_get u.net.gates j ≡ Some g → (fanins : List Signal) → fanins ≡ g.fanins →
-    AllZip (λ f y. Contains u.memo ((cycle, f.0), y)) fanins lits → (cover : Cover) → cover_of u.net.covers g ≡ cover → (read : List Lit) → read ≡ lits → IfOk r (λ x. IsCoverOf h cover (map (λ y. y.0) read) x.0) →
-    IfOk r (λ x. x.0 < 2 * length h) → IfOk r (λ x. IsGateLit u cycle j h x.0)
-gate_lit_from u cycle j h g lits r at fanins are each cover is read same here within =
-    gate_lit u cycle j h g lits r at (subst (λ (l : List Signal). AllZip (λ f y. Contains u.memo ((cycle, f.0), y)) l lits) are each)
-    (subst (λ (k : Cover). IfOk r (λ x. IsCoverOf h k (map (λ y. y.0) lits) x.0)) (sym is) (subst (λ (l : List Lit). IfOk r (λ x. IsCoverOf h cover (map (λ y. y.0) l) x.0)) same here)) within
 
 module _ (u : ResetView) (sound : IsSound u.net) (p : ℕ × ℕ) where
   -- an input's place
@@ -53,24 +35,13 @@ module _ (u : ResetView) (sound : IsSound u.net) (p : ℕ × ℕ) where
   input_is i number g places (Err e) drives at l = l
 
   -- a gate's place
-  pub gate_is : {E : Type 0} (j : ℕ) (g h : List Node) (places : List (ℕ × ℕ)) (r : Result Lit E) → slice_get u.net.drivers p.1 ≡ Some (driver.Gate j) → AreKnown u g places → Grows g h → IfOk r (λ x. IsGateLit u p.0 j h x.0) →
+  pub gate_is : {E : Type 0} (j : ℕ) (g h : List Node) (places : List (ℕ × ℕ)) (r : Result Lit E) → slice_get u.net.drivers p.1 ≡ Some (driver.Gate j) → AreKnown u g places → Grows g h → IfOk r (λ x. IsGateLit u.net u.memo p.0 j h x.0) →
       IfOk r (λ x. IsKnown u.net u.order u.base h places p x.0)
   gate_is j g h places (Ok x) drives known grows l =
       known_gate u.net u.order u.base h places p.0 p.1 x.0 l.gate.fanins (cover_of u.net.covers l.gate) l.lits (gate_equation_stands u.net sound p.1 j drives l.gate l.at)
       (zip_weaker (λ f y. Contains u.memo ((p.0, f.0), y)) (λ f y. IsKnown u.net u.order u.base h places (p.0, f.0) y.0) (λ f y m. known_later u.net u.order u.base g h places places (p.0, f.0) y.0 grows (adds_none Any places places refl) (known (p.0, f.0) y m)) l.gate.fanins l.lits l.each)
       l.is l.within
   gate_is j g h places (Err e) drives known grows l = l
-
-  -- the gate's fan-ins have been met
-  pub gate_met : (j : ℕ) → slice_get u.net.drivers p.1 ≡ Some (driver.Gate j) → IsReady u p → IfSome (slice_get u.net.gates j) (λ g. All (λ f. IsMet u.memo (p.0, f.0)) g.fanins)
-  gate_met j drives ready =
-      let g = driven_gate u.net sound p.1 j drives in
-      subst (λ o. IfSome o (λ (k : Gate). All (λ f. IsMet u.memo (p.0, f.0)) k.fanins)) (sym g.1)
-      (All-from_each (λ (f : Signal). IsMet u.memo (p.0, f.0)) g.0.fanins (λ f h. ready.read (p.0, f.0) (gate_steps_to u.net sound p.1 j drives g.0 g.1 p.0 f h)))
-
-  -- what a gate counts
-  pub gate_counts : (j : ℕ) → slice_get u.net.drivers p.1 ≡ Some (driver.Gate j) → weight_at u.net p.1 ≡ gate_weight u.net.covers (slice_get u.net.gates j)
-  gate_counts j drives = ap (driver_weight u.net) drives
 
   -- a latch's place
   module _ (j : ℕ) (l : LatchAt) (drives : slice_get u.net.drivers p.1 ≡ Some (driver.Latch j)) (at : slice_get u.net.latches j ≡ Some l) where

@@ -1,126 +1,36 @@
--- The walk over the places that an unfolding visits.
-use Rattle.std.proofs.Common.{◌≡◌, ◌∙◌, ◌+◌, ◌-◌, ◌<◌, ◌≤◌, ℕ, suc, List, [], ◌∷◌, length, take, slice_get, Some, refl, sym, ap, subst, arith, inl, inr}
-use Rattle.std.specs.Prelude.{◌⊎◌}
-use Rattle.std.specs.List.{All, Contains, sum_by}
-use Rattle.std.proofs.lemmas.List.Elements.{All-nil, All-cons, All-append, All-weaker, All-contains}
-use Rattle.std.proofs.lemmas.List.Sums.{sum_by_more}
-use Rattle.std.proofs.lemmas.Bool.{cases_lt}
-use Rattle.std.proofs.lemmas.Option.{slice_get_within, get_or_from_slice_get}
-use Rattle.circuit_theory.proofs.Lists.{Contains-head, All-from_each, at_of}
-use Rattle.base_tables.specs.Table.{AreDistinct}
-use Rattle.base_tables.proofs.TableLemmas.{slice_get-take}
+-- What a walk comes to is what the unfolding of its signal visits.
+use Rattle.std.proofs.Common.{◌≡◌, ◌+◌, ◌<◌, ◌≤◌, ℕ, suc, List, [], ◌∷◌, length, sym, subst, arith, inl, inr}
+use Rattle.std.specs.List.{Contains}
+use Rattle.circuit_theory.specs.Circuit.{Circuit}
+use Rattle.circuit_theory.proofs.Lists.{Contains-head}
 use Rattle.flat_net.specs.View.{NetView, circuit_of}
 use Rattle.flat_net.specs.Sound.{IsSound}
-use Rattle.flat_net.proofs.Places.{All-at, one_at}
 use Rattle.reset_laws.specs.Weight.{ResetVisits, IsResetOver}
-use Rattle.unfold_places.specs.Places.{Steps}
-use Rattle.flat_net.specs.Weights.{weight_at}
 use Rattle.aig.specs.declared.node.Lit.{Lit}
-use Rattle.unfold_places.specs.Reach.{Adds, IsThere}
-use Rattle.unfold_places.proofs.Lists.{adds_at, adds_cases, adds_length, adds_take, there_later}
-use Rattle.flat_net.proofs.Drivers.{weight_positive}
-use Rattle.unfold_places.proofs.Steps.{step_within}
-use Rattle.unfold_places.proofs.Over.{pairs_differ, distinct_front}
+use Rattle.unfold_places.specs.Places.{Steps}
+use Rattle.unfold_places.specs.Walk.{Comes, IsWalk, IsTooLong}
 use Rattle.reset_unfold.specs.Places.{starts_of}
-use Rattle.reset_unfold.specs.Reach.{AreUnmet}
+use Rattle.reset_unfold.specs.Reach.{IsReach}
 use Rattle.reset_unfold.proofs.Weighing.{over_from}
 
--- the place is visited, and its signal is one of the net
-abbrev pub IsSeen : NetView → ℕ × ℕ → ℕ × ℕ → Type 0
-IsSeen n s p = ResetVisits (circuit_of n) s.1 s.0 p.1 p.0 × (p.1 < length n.drivers)
-
--- The walk so far: all places in the table are visited, what the first ones read is in the table or has been met, and these weigh so much.
-pub record Met (n : NetView) (memo : List ((ℕ × ℕ) × Lit)) (s : ℕ × ℕ) (cap : ℕ) (keys : List (ℕ × ℕ)) (at weight : ℕ) : Type 0 where
-  pub root : IsThere memo keys s
-  pub closed : (i : ℕ) (p q : ℕ × ℕ) → i < at → slice_get keys i ≡ Some p → Steps (circuit_of n) p q → IsThere memo keys q
-  pub seen : All (IsSeen n s) keys
-  pub counted : sum_by (λ p. weight_at n p.1) (take at keys) ≡ weight
-  pub few : length keys ≤ 1 + weight
-  pub passed : at ≤ weight
-  pub small : weight ≤ cap
-
 -- what is read from a visited place is visited
-pub seen_step : (n : NetView) → IsSound n → (s p q : ℕ × ℕ) → IsSeen n s p → Steps (circuit_of n) p q → IsSeen n s q
-seen_step n sound s p q seen (inl h) = (subst (ResetVisits (circuit_of n) s.1 s.0 q.1) (sym h.0) (ResetVisits.reads seen.0 h.1), step_within n sound p q (inl h) seen.1)
-seen_step n sound s p q seen (inr h) =
+visits_step : (c : Circuit ℕ) (s p q : ℕ × ℕ) → ResetVisits c s.1 s.0 p.1 p.0 → Steps c p q → ResetVisits c s.1 s.0 q.1 q.0
+visits_step c s p q visits (inl h) = subst (ResetVisits c s.1 s.0 q.1) (sym h.0) (ResetVisits.reads visits h.1)
+visits_step c s p q visits (inr h) =
     let cycle : p.0 ≡ suc q.0 = omega (arith, h.0) in
-    (ResetVisits.back (subst (ResetVisits (circuit_of n) s.1 s.0 p.1) cycle seen.0) h.2, step_within n sound p q (inr h) seen.1)
+    ResetVisits.back (subst (ResetVisits c s.1 s.0 p.1) cycle visits) h.2
 
--- the signal alone, or nothing where it has been met
-pub met_first : (n : NetView) (memo : List ((ℕ × ℕ) × Lit)) (s : ℕ × ℕ) (cap : ℕ) (keys : List (ℕ × ℕ)) → s.1 < length n.drivers → IsThere memo keys s → (keys ≡ []) ⊎ (keys ≡ s ∷ []) → Met n memo s cap keys 0 0
-met_first n memo s cap keys inside there (inl is) = subst (λ k. IsThere memo k s → Met n memo s cap k 0 0) (sym is) (λ root. record {
-  root = root;
-  closed = λ i p q h at steps. absurd (omega (arith, h));
-  seen = All-nil (IsSeen n s);
-  counted = refl;
-  few = omega arith;
-  passed = omega arith;
-  small = omega arith;
-}) there
-met_first n memo s cap keys inside there (inr is) = subst (λ k. IsThere memo k s → Met n memo s cap k 0 0) (sym is) (λ root. record {
-  root = root;
-  closed = λ i p q h at steps. absurd (omega (arith, h));
-  seen = All-cons (IsSeen n s) s [] (ResetVisits.itself, inside) (All-nil (IsSeen n s));
-  counted = refl;
-  few = omega arith;
-  passed = omega arith;
-  small = omega arith;
-}) there
+visits_from : (c : Circuit ℕ) (s p : ℕ × ℕ) → Comes c s p → ResetVisits c s.1 s.0 p.1 p.0
+visits_from c s p Comes.itself = ResetVisits.itself
+visits_from c s p (Comes.reads {p = q} before steps) = visits_step c s q p (visits_from c s q before) steps
 
--- one place more
-pub met_more : (n : NetView) (sound : IsSound n) (memo : List ((ℕ × ℕ) × Lit)) (s : ℕ × ℕ) (cap : ℕ) (keys new : List (ℕ × ℕ)) (at weight w : ℕ) (p : ℕ × ℕ) → Met n memo s cap keys at weight → slice_get keys at ≡ Some p → w ≡ weight_at n p.1 → w ≤ cap - weight →
-    Adds (Steps (circuit_of n) p) keys new → ((q : ℕ × ℕ) → Steps (circuit_of n) p q → IsThere memo new q) → length new ≤ length keys + weight_at n p.1 → Met n memo s cap new (at + 1) (weight + w)
-met_more n sound memo s cap keys new at weight w p met here is room adds all few =
-    let c = circuit_of n in
-    let inside = slice_get_within keys at p here in
-    let seen = All-at (IsSeen n s) keys at p here met.seen in
-    let longer = adds_length (Steps c p) keys new adds in
-    let front : take at new ≡ take at keys = adds_take (Steps c p) keys new at adds (omega (arith, inside)) in
-    let read = adds_at (Steps c p) keys new at p adds here in
-    let more : sum_by (λ q. weight_at n q.1) (take (at + 1) new) ≡ weight + w =
-    sum_by_more (λ q. weight_at n q.1) new at p (omega (arith, inside, longer)) ∙ (let first : sum_by (λ q. weight_at n q.1) (take at new) ≡ weight = ap (sum_by (λ q. weight_at n q.1)) front ∙ met.counted in
-    let second = ap (λ q. weight_at n q.1) (get_or_from_slice_get new at p p read) in omega (arith, first, second, is)) in
-    record {
-      root = there_later (Steps c p) memo keys new s adds met.root;
-      closed = λ i q r below at_i steps. closes i q r below at_i steps;
-      seen = subst (All (IsSeen n s)) (sym adds.is) (All-append (IsSeen n s) keys adds.more met.seen (All-weaker (Steps c p) (IsSeen n s) (λ q steps. seen_step n sound s p q seen steps) adds.more adds.each));
-      counted = more;
-      few = omega (arith, few, met.few, is);
-      passed = omega (arith, met.passed, weight_positive n sound p.1, is);
-      small = omega (arith, met.small, room);
-    }
-  where
-    closes : (i : ℕ) (q r : ℕ × ℕ) → i < at + 1 → slice_get new i ≡ Some q → Steps (circuit_of n) q r → IsThere memo new r
-    closes i q r below at_i steps = go (adds_cases (Steps (circuit_of n) p) keys new i q adds at_i)
-      where
-        go : (slice_get keys i ≡ Some q) ⊎ ((length keys ≤ i) × Steps (circuit_of n) p q) → IsThere memo new r
-        go (inr k) = absurd (let inside = slice_get_within keys at p here in omega (arith, k.0, below, inside))
-        go (inl old) = by (cases_lt i at)
-          where
-            by : (i < at) ⊎ (at ≤ i) → IsThere memo new r
-            by (inl before) = there_later (Steps (circuit_of n) p) memo keys new r adds (met.closed i q r before old steps)
-            by (inr k) =
-                let same : at ≡ i = omega (arith, k, below) in
-                let one : q ≡ p = one_at keys at q p (ap (slice_get keys) same ∙ old) here in
-                all r (subst (λ z. Steps (circuit_of n) z r) one steps)
-
--- all places
-pub met_all : (n : NetView) (memo : List ((ℕ × ℕ) × Lit)) (s : ℕ × ℕ) (cap : ℕ) (keys : List (ℕ × ℕ)) (at weight : ℕ) → Met n memo s cap keys at weight → length keys ≤ at → AreUnmet (circuit_of n) (length n.drivers) memo s keys
-met_all n memo s cap keys at weight met done = record {
-  root = met.root;
-  closed = λ p q h steps. let i = at_of keys p h in met.closed i.0 p q (let k = slice_get_within keys i.0 p i.1 in omega (arith, k, done)) i.1 steps;
-  visited = λ p h. (All-contains (IsSeen n s) keys p met.seen h).0;
-  within = All-from_each (λ p. p.1 < length n.drivers) keys (λ p h. (All-contains (IsSeen n s) keys p met.seen h).1);
+pub reach_from : (n : NetView) (memo : List ((ℕ × ℕ) × Lit)) (s : ℕ × ℕ) (cap : ℕ) (places : List (ℕ × ℕ)) → IsWalk n memo s cap places → IsReach (circuit_of n) (length n.drivers) memo s places
+reach_from n memo s cap places walk = record {
+  are = record { root = walk.are.root; closed = walk.are.closed; visited = λ p h. visits_from (circuit_of n) s p (walk.are.comes p h); within = walk.are.within };
+  ordered = walk.ordered;
 }
 
--- the next place is too much
-pub met_over : (n : NetView) → IsSound n → (memo : List ((ℕ × ℕ) × Lit)) (s : ℕ × ℕ) (cap : ℕ) (keys : List (ℕ × ℕ)) (at weight : ℕ) (p : ℕ × ℕ) → Met n memo s cap keys at weight → AreDistinct keys → slice_get keys at ≡ Some p → cap - weight < weight_at n p.1 →
-    IsResetOver (circuit_of n) (starts_of (s ∷ [])) cap
-met_over n sound memo s cap keys at weight p met distinct here above =
-    let inside = slice_get_within keys at p here in
-    let first = sum_by_more (λ q. weight_at n q.1) keys at p inside in
-    let second = ap (λ q. weight_at n q.1) (get_or_from_slice_get keys at p p here) in
-    over_from n sound (s ∷ []) (take (at + 1) keys) (pairs_differ (take (at + 1) keys) (distinct_front keys (at + 1) distinct))
-    (λ q h. let i = at_of (take (at + 1) keys) q h in let seen = All-at (IsSeen n s) keys i.0 q (slice_get-take (at + 1) keys i.0 q i.1).1 met.seen in
-    (record { from = s; among = Contains-head s []; visits = seen.0 }, seen.1))
-    cap (omega (arith, first, second, met.counted, met.small, above))
+pub over_long : (n : NetView) → IsSound n → (s : ℕ × ℕ) (cap : ℕ) → IsTooLong n s cap → IsResetOver (circuit_of n) (starts_of (s ∷ [])) cap
+over_long n sound s cap long =
+    over_from n sound (s ∷ []) long.places long.differ
+    (λ p h. let comes = long.comes p h in (record { from = s; among = Contains-head s []; visits = visits_from (circuit_of n) s p comes.0 }, comes.1)) cap long.total

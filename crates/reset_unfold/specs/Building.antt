@@ -1,13 +1,10 @@
 -- How an unfolder goes on from place to place.
-use Rattle.std.specs.Prelude.{◌≡◌, ℕ, ◌+◌, ◌*◌, ◌^◌, ◌<◌, ◌≤◌, List, length, map, slice_get, Some, Contains}
+use Rattle.std.specs.Prelude.{◌≡◌, ℕ, ◌+◌, ◌^◌, ◌<◌, ◌≤◌, List, length, slice_get, Some, Contains}
 use Rattle.std.specs.List.{AllPairs, AllZip}
-use Rattle.flat_net.specs.declared.parts.Gate.{Gate}
-use Rattle.flat_net.specs.View.{circuit_of, cover_of}
+use Rattle.flat_net.specs.View.{circuit_of}
 use Rattle.aig.specs.declared.node.Lit.{Lit}
 use Rattle.aig.specs.declared.node.Node.{Node}
-use Rattle.aig.specs.declared.node.Node.TheVariants.{Input}
-use Rattle.aig.specs.Graph.{Grows, IsLitOf}
-use Rattle.aig.specs.Rules.{IsCoverOf}
+use Rattle.aig.specs.Graph.{Grows}
 use Rattle.unfold_places.specs.Places.{Steps, PlaceBefore}
 use Rattle.unfold_places.specs.Reach.{Adds, IsMet}
 use Rattle.reset_unfold.specs.Places.{IsVisited}
@@ -44,22 +41,6 @@ pub record IsLaterReset (u v : ResetView) (g h : List Node) (places more : List 
   pub nodes : length h + u.weight ≤ length g + v.weight
   pub entries : length more + u.weight ≤ length places + v.weight
   pub small : v.weight ≤ v.cap
-
--- the literal is the variable with this number in this cycle
-pub record IsVariableLit (number cycle : ℕ) (g : List Node) (places : List (ℕ × ℕ)) (x : ℕ) : Type 0 where
-  pub variable : ℕ
-  pub numbered : slice_get places variable ≡ Some (number, cycle)
-  pub lit : IsLitOf g (Input variable) x
-  pub within : x < 2 * length g
-
--- the literal is the gate's cover of its fan-ins' literals in the cycle
-pub record IsGateLit (u : ResetView) (cycle j : ℕ) (g : List Node) (x : ℕ) : Type 0 where
-  pub gate : Gate
-  pub at : slice_get u.net.gates j ≡ Some gate
-  pub lits : List Lit
-  pub each : AllZip (λ f y. Contains u.memo ((cycle, f.0), y)) gate.fanins lits
-  pub is : IsCoverOf g (cover_of u.net.covers gate) (map (λ y. y.0) lits) x
-  pub within : x < 2 * length g
 
 -- the variables are the numbers in the table of the leaves that the unfolding visits, by cycle and then by number
 pub record AreNumbered (u : ResetView) (places : List (ℕ × ℕ)) (start : ℕ × ℕ) (vars : List ℕ) : Type 0 where

@@ -5,7 +5,6 @@
 mod cone;
 pub mod laws;
 mod leaves;
-mod reached;
 mod unfolder;
 
 pub use cone::Cone;

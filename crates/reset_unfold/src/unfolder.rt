@@ -21,7 +21,6 @@ mod places;
 
 use crate::cone::Cone;
 use crate::leaves::{leaves_of, numbers_of};
-use crate::reached::reach;
 use aig::{Aig, Lit};
 use base_tables::PlaceTable;
 use flat_net::{Net, Signal};
@@ -30,6 +29,7 @@ use sec_base::{Ids, MAX_WEIGHT, NoMemory};
 use std::alloc::Global;
 use std::marker::Model;
 use unfold_places::memo::{Memo, Place};
+use unfold_places::reached::reach;
 use unfold_places::{UnfoldError, Unfolded};
 
 /// Unfolds signals of one net in cycles of runs that begin with the latches' initial values. Each place, a signal in a cycle,
@@ -275,9 +275,11 @@ impl<'a> ResetUnfolder<'a> {
         ensures reach { IfOk result (λ r. IsReach (circuit_of self.now.net) (length self.now.net.drivers) [] start r.items) }
         ensures over { result ≡ Err unfold_error.TooLarge → IsResetOver (circuit_of self.now.net) (starts_of (start ∷ [])) self.now.cap }
     {
+        let net = self.net();
+        net.keeps();
         self.keeps();
         let none = Memo::new(alloc);
-        reach(alloc, self.net(), &none, start, self.cap())
+        reach(alloc, net, &none, start, self.cap())
     }
 
     /// The leaves that the unfolding of a signal in its cycle visits, each as its cycle and its variable's number, in order.

@@ -3,6 +3,7 @@ pub mod Table
 pub mod Steps
 pub mod ReadPlaces
 pub mod Over
+pub mod Walk
 pub mod PairTest
 pub mod Order
 pub mod InputLists
@@ -11,4 +12,5 @@ pub mod Words
 pub mod Passing
 pub mod Candidates
 pub mod Growing
+pub mod PlaceLits
 pub mod Cone

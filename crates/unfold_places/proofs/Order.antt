@@ -1,5 +1,5 @@
 -- Places and numbers in order.
-use Rattle.std.proofs.Common.{◌≡◌, ◌≢◌, ◌<◌, ℕ, false, List, get_or, refl, sym, subst, arith, inl, inr, true≢false}
+use Rattle.std.proofs.Common.{◌≡◌, ◌≢◌, ◌<◌, ℕ, false, List, length, get_or, refl, sym, subst, arith, inl, inr, true≢false}
 use Rattle.std.specs.Prelude.{IsSorted, IsPermutation}
 use Rattle.std.specs.List.{AllPairs}
 use Rattle.std.specs.Cmp.{IsStrictWeakOrder}
@@ -10,11 +10,12 @@ use Rattle.std.proofs.lemmas.Cmp.{ranked, then_total, on_total, nat_cmp_total}
 use Rattle.std.proofs.lemmas.List.Sorted.{IsPermutation-sym, All-permutation, Contains-permutation, sorted_far, ranks_by}
 use Rattle.std.proofs.lemmas.Map.Keys.{IsDistinct-IsPermutation}
 use Rattle.std.proofs.lemmas.Map.Made.{AllPairs-from_IsDistinct, IsDistinct-from_AllPairs}
-use Rattle.circuit_theory.specs.Circuit.{Circuit}
 use Rattle.flat_net.specs.Table.{AreDistinct}
+use Rattle.flat_net.specs.View.{NetView}
 use Rattle.unfold_places.specs.Places.{PlaceBefore}
 use Rattle.aig.specs.declared.node.Lit.{Lit}
-use Rattle.unfold_places.specs.Reach.{IsThere, AreUnmet, IsReach}
+use Rattle.unfold_places.specs.Reach.{IsThere}
+use Rattle.unfold_places.specs.Walk.{AreWalked, IsWalk}
 use Rattle.unfold_places.proofs.Over.{pairs_differ}
 use Rattle.unfold_places.proofs.PairTest.{same_pair, decides_pair, flips}
 
@@ -49,17 +50,18 @@ there_moved : (memo : List ((ℕ × ℕ) × Lit)) (xs ys : List (ℕ × ℕ)) (p
 there_moved memo xs ys p moved (inl h) = inl (Contains-permutation xs ys p moved h)
 there_moved memo xs ys p moved (inr h) = inr h
 
-pub sorted_reach : (c : Circuit ℕ) (size s last : ℕ) (memo : List ((ℕ × ℕ) × Lit)) (table places sorted : List (ℕ × ℕ)) → places ≡ table → AreDistinct table → AreUnmet c size s last memo table → IsPermutation places sorted →
-    IsSorted place_cmp sorted → IsReach c size s last memo sorted
-sorted_reach c size s last memo table places sorted same distinct are moved up =
+pub sorted_walk : (n : NetView) (memo : List ((ℕ × ℕ) × Lit)) (start : ℕ × ℕ) (cap : ℕ) (table places sorted : List (ℕ × ℕ)) → places ≡ table → AreDistinct table → AreWalked n memo start cap table → IsPermutation places sorted → IsSorted place_cmp sorted →
+    IsWalk n memo start cap sorted
+sorted_walk n memo start cap table places sorted same distinct are moved up =
     let to : IsPermutation table sorted = subst (λ l. IsPermutation l sorted) same moved in
     let back : IsPermutation sorted table = IsPermutation-sym table sorted to in
     record {
       are = record {
-        root = there_moved memo table sorted (last, s) to are.root;
+        root = there_moved memo table sorted start to are.root;
         closed = λ p q h steps. there_moved memo table sorted q to (are.closed p q (Contains-permutation sorted table p back h) steps);
-        visited = λ p h. are.visited p (Contains-permutation sorted table p back h);
-        within = All-permutation (λ p. (0 < p.0) × (p.1 < size)) table sorted to are.within;
+        comes = λ p h. are.comes p (Contains-permutation sorted table p back h);
+        within = All-permutation (λ p. p.1 < length n.drivers) table sorted to are.within;
+        late = λ p h. are.late p (Contains-permutation sorted table p back h);
       };
       ordered = strictly sorted (differ_permuted table sorted to (pairs_differ table distinct)) up;
     }

@@ -1,5 +1,5 @@
 -- What drives a signal says what its place reads.
-use Rattle.std.proofs.Common.{◌≡◌, ◌-◌, ◌<◌, ℕ, length, slice_get, Some, refl, sym, arith, inl, inr}
+use Rattle.std.proofs.Common.{◌≡◌, ◌+◌, ◌-◌, ◌<◌, ℕ, length, slice_get, Some, refl, sym, arith, inl, inr}
 use Rattle.std.specs.List.{Contains}
 use Rattle.circuit_theory.specs.Circuit.{Reads}
 use Rattle.flat_net.specs.declared.signals.Signal.{Signal}
@@ -30,6 +30,10 @@ module _ (n : NetView) (sound : IsSound n) where
     -- a latch's place reads what the latch takes over, in the cycle before
     pub latch_steps_to : (t : ℕ) → 0 < t → Steps (circuit_of n) (t, s) (t - 1, l.next.0)
     latch_steps_to t h = inr (omega arith, l.name, drivers.latch_equation_stands n sound s j drives l at)
+
+    pub latch_back : (t : ℕ) (q : ℕ × ℕ) → Steps (circuit_of n) (t, s) q → q.0 + 1 ≡ t
+    latch_back t q (inl h) = absurd (drivers.latch_reads n sound s j drives l at q.1 h.1)
+    latch_back t q (inr h) = h.0
 
     pub latch_steps_from : (t : ℕ) (q : ℕ × ℕ) → Steps (circuit_of n) (t, s) q → (t - 1, l.next.0) ≡ q
     latch_steps_from t q (inl h) = absurd (drivers.latch_reads n sound s j drives l at q.1 h.1)

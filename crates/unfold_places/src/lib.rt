@@ -5,6 +5,8 @@
 
 mod error;
 pub mod listing;
+pub mod literals;
+pub mod reached;
 pub mod reads;
 mod signal_function;
 pub mod variables;

@@ -10,7 +10,7 @@ ghost use Rattle.unfold_places.specs.Reach.{Adds, IsThere};
 use crate::memo::Memo;
 use flat_net::{Driver, Net, NoMemory, PlaceTable, Signal, gate_of, latch_of};
 
-/// Puts the places that this one reads into the table, if they haven't been met.
+/// Puts the places that this one reads into the table, if they haven't been met. In cycle 0 a latch reads none.
 pub fn add_read(
     net: &Net,
     memo: &Memo,
@@ -19,7 +19,6 @@ pub fn add_read(
     s: Signal,
 ) -> Result<(), NoMemory>
     requires signal { s.0 < length net.now.drivers }
-    requires early { 0 < cycle }
     requires room { length table.old + weight_at net.now s.0 < 2 ^ 32 }
     ensures adds { Adds (Steps (circuit_of net.now) (cycle, s.0)) table.old table.new }
     ensures all { OnOk result ((q : ℕ × ℕ) → Steps (circuit_of net.now) (cycle, s.0) q → IsThere memo.now table.new q) }
@@ -29,7 +28,12 @@ pub fn add_read(
     match net.driver(s) {
         Driver::Input(_) => Ok(()),
         Driver::Gate(j) => add_fanins(memo, table, cycle, gate_of(net, j).fanins.as_slice()),
-        Driver::Latch(j) => add(memo, table, cycle - 1, latch_of(net, j).next),
+        Driver::Latch(j) => {
+            if cycle == 0 {
+                return Ok(());
+            }
+            add(memo, table, cycle - 1, latch_of(net, j).next)
+        }
     }
 }
 

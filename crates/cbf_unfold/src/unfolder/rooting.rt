@@ -9,13 +9,13 @@ ghost use Rattle.cbf_unfold.specs.Building.{HasRoom, IsLater};
 ghost use Rattle.unfold_places.specs.declared.error.UnfoldError.TheVariants as unfold_error;
 
 use super::Unfolder;
-use crate::reached_places::reach;
 use aig::{Aig, Lit};
 use base_tables::PlaceTable;
 use flat_net::Signal;
 use sec_base::MAX_WEIGHT;
 use std::alloc::Global;
 use unfold_places::UnfoldError;
+use unfold_places::reached::reach;
 
 impl<'a> Unfolder<'a> {
     /// The literals of the signals, in their order.
@@ -62,7 +62,7 @@ impl<'a> Unfolder<'a> {
     {
         let net = self.net();
         net.keeps();
-        let unmet = reach(alloc, net, self.memo(), s, self.cap())?;
+        let unmet = reach(alloc, net, self.memo(), (self.cap(), s.0), self.cap())?;
         let reached = unmet.as_slice();
         self.begin(s)?;
         self.build(alloc, aig, places, reached)?;

@@ -1,5 +1,5 @@
 -- The place has been met, it is in the table already, or it goes last.
-use Rattle.std.proofs.Common.{arith, inl, inr, refl}
+use Rattle.std.proofs.Common.{inl, inr, refl}
 use Rattle.circuit_theory.proofs.Lists.{of_at}
 use Rattle.unfold_places.proofs.Lists.{adds_none}
 use Rattle.unfold_places.proofs.Table.{interned}

@@ -1,9 +1,9 @@
 -- What drives the signal says what its place reads.
-use Rattle.std.proofs.Common.{◌∙◌, ap, Some}
+use Rattle.std.proofs.Common.{◌∙◌, ap, Some, arith}
 use Rattle.std.proofs.lemmas.Option.{slice_get_within}
 use Rattle.unfold_places.specs.Reach.{IsThere}
 use Rattle.flat_net.proofs.Drivers.{driven_gate, driven_latch}
-use Rattle.unfold_places.proofs.Steps.{input_steps}
+use Rattle.unfold_places.proofs.Steps.{input_steps, latch_back}
 use Rattle.unfold_places.proofs.ReadPlaces.{gate_adds, gate_all_ok, latch_adds, latch_all_ok}
 use Rattle.unfold_places.proofs.reads.add_read.Goals as goal
 
@@ -28,10 +28,17 @@ pub returns-in-Gate-clause-all : goal.returns-in-Gate-clause-all
 returns-in-Gate-clause-all c =
     gate_all_ok _ c.keeps.ensures.sound _ _ _ c.args.table.now c.args.table.now (c.driver.ensures ∙ ap Some c.in-Gate.is) _ c.gate_of.ensures _ c.as_slice.ensures (IsThere c.args.memo.now c.add_fanins.new.table) _ c.add_fanins.ensures.all
 
-pub returns-in-Latch-clause-adds : goal.returns-in-Latch-clause-adds
-returns-in-Latch-clause-adds c =
-    latch_adds _ c.keeps.ensures.sound _ _ _ _ _ (c.driver.ensures ∙ ap Some c.in-Latch.is) _ c.latch_of.ensures.there c.requires.early c.add.ensures.adds
+pub returns-then-cycle-eq0-clause-all : goal.returns-then-cycle-eq0-clause-all
+returns-then-cycle-eq0-clause-all c = λ q steps.
+    let drives = c.driver.ensures ∙ ap Some c.in-Latch.is in
+    let l = driven_latch _ c.keeps.ensures.sound _ _ drives in
+    let back = latch_back _ c.keeps.ensures.sound _ _ drives l.0 l.1 _ q steps in
+    absurd (omega (arith, back, c.if-cycle-eq0.true))
 
-pub returns-in-Latch-clause-all : goal.returns-in-Latch-clause-all
-returns-in-Latch-clause-all c =
+pub returns-else-cycle-eq0-clause-adds : goal.returns-else-cycle-eq0-clause-adds
+returns-else-cycle-eq0-clause-adds c =
+    latch_adds _ c.keeps.ensures.sound _ _ _ _ _ (c.driver.ensures ∙ ap Some c.in-Latch.is) _ c.latch_of.ensures.there (omega (arith, c.if-cycle-eq0.false)) c.add.ensures.adds
+
+pub returns-else-cycle-eq0-clause-all : goal.returns-else-cycle-eq0-clause-all
+returns-else-cycle-eq0-clause-all c =
     latch_all_ok _ c.keeps.ensures.sound _ _ _ c.args.table.now c.args.table.now (c.driver.ensures ∙ ap Some c.in-Latch.is) _ c.latch_of.ensures.there (IsThere c.args.memo.now c.add.new.table) _ c.add.ensures.here

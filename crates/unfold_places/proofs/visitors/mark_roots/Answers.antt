@@ -1,9 +1,8 @@
 -- One signal more has its bit.
-use Rattle.std.proofs.Common.{◌≡◌, ◌<◌, ◌^◌, ◌*◌, ◌%◌, ℕ, length, get_or, sym, subst, arith}
+use Rattle.std.proofs.Common.{◌≡◌, ◌<◌, ℕ, get_or, subst, arith}
 use Rattle.std.proofs.lemmas.Nat.{one_shl}
 use Rattle.std.proofs.lemmas.Option.{slice_get-get_or, slice_get_within}
 use Rattle.flat_net.specs.View.{circuit_of}
-use Rattle.flat_net.specs.declared.signals.Signal.{Signal}
 use Rattle.unfold_places.specs.Visitors.{Gives}
 use Rattle.unfold_places.proofs.Passing.{marked_root, root_met}
 use Rattle.unfold_places.proofs.visitors.mark_roots.Goals as goal

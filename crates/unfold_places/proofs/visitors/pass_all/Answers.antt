@@ -1,5 +1,5 @@
 -- One place more has passed its bits on.
-use Rattle.std.proofs.Common.{◌≡◌, ◌∙◌, ◌+◌, ◌-◌, ◌<◌, ◌≤◌, ℕ, List, length, sym, subst, arith}
+use Rattle.std.proofs.Common.{◌≡◌, ◌∙◌, ◌+◌, ◌-◌, ◌<◌, ℕ, length, sym, subst, arith}
 use Rattle.std.specs.List.{All}
 use Rattle.flat_net.specs.View.{circuit_of}
 use Rattle.flat_net.proofs.Nets.{some_at}

@@ -1,6 +1,5 @@
 -- One number more, if its word has a bit of the mask.
-use Rattle.std.proofs.Common.{◌≡◌, ◌∙◌, ◌+◌, ◌++◌, [], ◌∷◌, ◌<◌, ℕ, Bool, true, false, cond, List, length, take, filter, get_or, sym, ap, arith, append-nil}
-use Rattle.std.specs.List.{All}
+use Rattle.std.proofs.Common.{◌≡◌, ◌∙◌, ◌+◌, ◌++◌, [], ◌∷◌, ◌<◌, ℕ, Bool, true, false, cond, List, length, take, get_or, sym, ap, append-nil}
 use Rattle.std.proofs.lemmas.List.{take_all}
 use Rattle.std.proofs.lemmas.List.Elements.{All-get_or, filter_more}
 use Rattle.unfold_places.specs.Visitors.{has_bit, with_bits}

@@ -1,8 +1,9 @@
 -- The place was met before, it weighs too much, or its literal is kept.
-use Rattle.std.proofs.Common.{◌+◌, ℕ, List, sym, subst, arith}
+use Rattle.std.proofs.Common.{◌+◌, ℕ, List, sym, subst, arith, ap}
 use Rattle.aig.specs.declared.node.Lit.{Lit}
 use Rattle.cbf_unfold.specs.Building.{IsLater}
-use Rattle.cbf_unfold.proofs.Going.{later_none, ready_weight, holds_at, ready_as, room_at, over_at, weight_later, put_holds, put_met, put_later}
+use Rattle.cbf_unfold.specs.View.{UnfolderView}
+use Rattle.cbf_unfold.proofs.Going.{later_none, ready_weight, holds_at, ready_as, room_at, over_at, weight_later, put_holds, put_met, put_later, not_both}
 use Rattle.cbf_unfold.proofs.unfolder.Unfolder.build_place.Goals as goal
 
 pub returns-in-Some-clause-later : goal.returns-in-Some-clause-later
@@ -55,3 +56,30 @@ pub returns-clause-later : goal.returns-clause-later
 returns-clause-later c =
     put_later _ c.args.self.now c.self.view_is c.args.aig.now c.args.places.now c.args.place c.literal.new.aig c.literal.new.places c.in-Some-weigh.weight c.in_ok-lit.lit c.put.new.self c.in_ok-put.ensures.ok c.in-Some-weigh.ensures.here c.in-Some-weigh.ensures.room
     c.literal.ensures.grown c.requires.room
+
+pub invariant_of-self : goal.invariant_of-self
+invariant_of-self c = record { order = c.self.invariant.order; cap = c.self.invariant.cap }
+
+pub invariant_of-self-2 : goal.invariant_of-self-2
+invariant_of-self-2 c = record { order = c.self.invariant.order; cap = c.self.invariant.cap }
+
+pub invariant_of-self-in_err-lit : goal.invariant_of-self-in_err-lit
+invariant_of-self-in_err-lit c = record { order = c.self.invariant.order; cap = c.self.invariant.cap }
+
+pub invariant_of-self-in_err-put : goal.invariant_of-self-in_err-put
+invariant_of-self-in_err-put c = record { order = c.self.invariant.order; cap = c.self.invariant.cap }
+
+pub weigh-requires : goal.weigh-requires
+weigh-requires c = (ready_as _ c.args.self.now c.self.view_is c.args.aig.now c.args.places.now c.args.place c.requires.ready).within
+
+pub overflow_sub-self-inside : goal.overflow_sub-self-inside
+overflow_sub-self-inside c = (room_at _ c.args.self.now c.self.view_is c.args.aig.now c.args.places.now c.args.place c.requires.room).small
+
+pub returns-in_err-put-clause-done : goal.returns-in_err-put-clause-done
+returns-in_err-put-clause-done c = ap (λ (z : UnfolderView). z.done) c.self.view_is
+
+pub returns-clause-over : goal.returns-clause-over
+returns-clause-over c = λ e. absurd (not_both e)
+
+pub returns-clause-done : goal.returns-clause-done
+returns-clause-done c = ap (λ (z : UnfolderView). z.done) c.self.view_is

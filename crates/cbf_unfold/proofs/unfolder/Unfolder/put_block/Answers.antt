@@ -82,3 +82,16 @@ pub bounds-lits-from : goal.bounds-lits-from
 bounds-lits-from c =
     let n = part_length c.args.signals.now c.len-from.result (c.len-from.result + c.min.result) (omega (arith, c.len-from.ensures, c.min.ensures, c.requires.some)) in
     omega (arith, c.loop-k-test.true, n, c.len-from.ensures, c.min.ensures, c.requires.some, zip_length (λ (s : Signal) (x : Lit). Contains c.args.self.now.memo ((c.args.self.now.cap, s.0), x)) c.args.signals.now c.args.lits.now c.requires.lits)
+
+pub returns-in_err-push-clause-same : goal.returns-in_err-push-clause-same
+returns-in_err-push-clause-same c = c.variables.ensures.same ∙ c.loop-k.invariant.same
+
+pub returns-clause-more : goal.returns-clause-more
+returns-clause-more c =
+    let n = part_length c.args.signals.now c.len-from.result (c.len-from.result + c.min.result) (omega (arith, c.len-from.ensures, c.min.ensures, c.requires.some)) in
+    omega (arith, c.loop-k.invariant.count, c.loop-k-test.false, n, c.min.ensures, c.len-from.ensures, c.requires.some)
+
+pub returns-clause-within : goal.returns-clause-within
+returns-clause-within c =
+    let n = part_length c.args.signals.now c.len-from.result (c.len-from.result + c.min.result) (omega (arith, c.len-from.ensures, c.min.ensures, c.requires.some)) in
+    omega (arith, c.loop-k.invariant.count, c.loop-k.auto.k-end, n, c.min.ensures, c.len-from.ensures, c.requires.some)

@@ -1,26 +1,23 @@
 -- All places of the signal are met.
 use Rattle.std.proofs.Common.{◌≡◌, ◌∙◌, ◌<◌, ℕ, List, [], ◌∷◌, length, sym, ap, subst, arith, rules}
-use Rattle.circuit_theory.specs.Sizes.{IsOver}
 use Rattle.std.specs.List.{Contains}
-use Rattle.flat_net.specs.View.{NetView, circuit_of}
+use Rattle.flat_net.specs.View.{NetView}
 use Rattle.flat_net.specs.Sound.{IsSound}
 use Rattle.cbf_unfold.specs.View.{UnfolderView}
 use Rattle.cbf_unfold.specs.Building.{IsMet, IsLater}
-use Rattle.cbf_unfold.proofs.Going.{later_none, met_later}
-use Rattle.cbf_unfold.proofs.Finish.{begun, reach_is, reach_begun, holds_from, room_from, over_begun, over_more, later_begun, there_met, fits_from}
+use Rattle.cbf_unfold.proofs.Going.{later_none, met_later, not_both}
+use Rattle.cbf_unfold.proofs.Finish.{begun, reach_is, reach_begun, holds_from, room_from, over_begun, over_walk, later_begun, there_met, fits_from}
 use Rattle.cbf_unfold.proofs.unfolder.Unfolder.root.Goals as goal
 
 pub reach-requires-clause-signal : goal.reach-requires-clause-signal
 reach-requires-clause-signal c = subst (λ (n : NetView). c.args.s.0 < length n.drivers) (sym c.net-net.ensures) c.requires.signal
 
 pub reach-requires-clause-small : goal.reach-requires-clause-small
-reach-requires-clause-small c = omega (arith, c.cap.ensures, c.requires.fits.limit)
+reach-requires-clause-small c = omega (arith, c.cap-2.ensures, c.requires.fits.limit)
 
 pub returns-in_err-unmet-clause-over : goal.returns-in_err-unmet-clause-over
 returns-in_err-unmet-clause-over c = λ e.
-    let over = c.reach.ensures.over (search rules) in
-    over_more (circuit_of c.args.self.now.net) c.args.self.now.done c.args.s.0 c.cap.result 2000000 (c.cap.ensures ∙ c.requires.fits.limit)
-    (subst (λ (n : NetView). IsOver (circuit_of n) (c.args.s.0 ∷ []) c.cap.result) c.net-net.ensures over)
+    over_walk c.args.self.now c.net-net.result.now c.cap.result c.cap-2.result c.args.s.0 c.keeps.ensures.sound c.net-net.ensures c.cap.ensures c.cap-2.ensures c.requires.fits.limit (c.reach.ensures.over (search rules))
 
 pub returns-in_err-unmet-clause-later : goal.returns-in_err-unmet-clause-later
 returns-in_err-unmet-clause-later c = later_none c.args.self.now c.args.aig.now c.args.places.now c.requires.room.small
@@ -33,7 +30,7 @@ pub build-requires-clause-reach : goal.build-requires-clause-reach
 build-requires-clause-reach c =
     let u = c.args.self.now in
     reach_begun u c.begin.new.self c.args.s.0 c.as_slice-reached.result.now c.in_ok-begin.ensures.ok
-    (reach_is u c.net-net.result.now c.memo.result.now c.cap.result c.args.s.0 c.in_ok-unmet.unmet.items c.as_slice-reached.result.now c.net-net.ensures c.memo.ensures c.cap.ensures c.as_slice-reached.ensures.value c.in_ok-unmet.ensures.reach)
+    (reach_is u c.net-net.result.now c.memo.result.now c.cap.result c.cap-2.result c.args.s.0 c.in_ok-unmet.unmet.items c.as_slice-reached.result.now c.net-net.ensures c.memo.ensures c.cap.ensures c.cap-2.ensures c.as_slice-reached.ensures.value c.in_ok-unmet.ensures.reach)
 
 pub build-requires-clause-holds : goal.build-requires-clause-holds
 build-requires-clause-holds c = holds_from c.args.self.now c.begin.new.self c.args.aig.now c.args.places.now c.args.s.0 c.in_ok-begin.ensures.ok c.requires.signal c.requires.fits.holds
@@ -53,20 +50,20 @@ met-lit-requires c =
     let u = c.args.self.now in
     let w = c.build.new.self in
     let seen = c.as_slice-reached.result.now in
-    let reach = reach_is u c.net-net.result.now c.memo.result.now c.cap.result c.args.s.0 c.in_ok-unmet.unmet.items seen c.net-net.ensures c.memo.ensures c.cap.ensures c.as_slice-reached.ensures.value c.in_ok-unmet.ensures.reach in
+    let reach = reach_is u c.net-net.result.now c.memo.result.now c.cap.result c.cap-2.result c.args.s.0 c.in_ok-unmet.unmet.items seen c.net-net.ensures c.memo.ensures c.cap.ensures c.cap-2.ensures c.as_slice-reached.ensures.value c.in_ok-unmet.ensures.reach in
     let later = later_begun u c.begin.new.self w c.args.aig.now c.build.new.aig c.args.places.now c.build.new.places _ c.in_ok-begin.ensures.ok c.build.ensures.later in
-    subst (λ (k : ℕ). IsMet w.memo (k, c.args.s.0)) (sym (c.cap-2.ensures ∙ later.cap))
+    subst (λ (k : ℕ). IsMet w.memo (k, c.args.s.0)) (sym (c.cap-3.ensures ∙ later.cap))
     (there_met u.memo w.memo seen (u.cap, c.args.s.0) (λ q m. met_later u w c.args.aig.now c.build.new.aig c.args.places.now c.build.new.places q later m) c.in_ok-build.ensures.met reach.are.root)
 
 pub returns-clause-here : goal.returns-clause-here
-returns-clause-here c = subst (λ (k : ℕ). Contains c.build.new.self.memo ((k, c.args.s.0), c.met-lit.result)) c.cap-2.ensures c.met-lit.ensures
+returns-clause-here c = subst (λ (k : ℕ). Contains c.build.new.self.memo ((k, c.args.s.0), c.met-lit.result)) c.cap-3.ensures c.met-lit.ensures
 
 pub returns-clause-fits : goal.returns-clause-fits
 returns-clause-fits c =
     let u = c.args.self.now in
     let w = c.build.new.self in
     let seen = c.as_slice-reached.result.now in
-    let reach = reach_is u c.net-net.result.now c.memo.result.now c.cap.result c.args.s.0 c.in_ok-unmet.unmet.items seen c.net-net.ensures c.memo.ensures c.cap.ensures c.as_slice-reached.ensures.value c.in_ok-unmet.ensures.reach in
+    let reach = reach_is u c.net-net.result.now c.memo.result.now c.cap.result c.cap-2.result c.args.s.0 c.in_ok-unmet.unmet.items seen c.net-net.ensures c.memo.ensures c.cap.ensures c.cap-2.ensures c.as_slice-reached.ensures.value c.in_ok-unmet.ensures.reach in
     let later = later_begun u c.begin.new.self w c.args.aig.now c.build.new.aig c.args.places.now c.build.new.places _ c.in_ok-begin.ensures.ok c.build.ensures.later in
     let sound : IsSound w.net = subst IsSound (c.net-net.ensures ∙ sym later.net) c.keeps.ensures.sound in
     let done : w.done ≡ (begun u c.args.s.0).done = c.build.ensures.done ∙ ap (λ (z : UnfolderView). z.done) c.in_ok-begin.ensures.ok in
@@ -79,3 +76,6 @@ returns-clause-done c = c.build.ensures.done ∙ ap (λ (z : UnfolderView). z.do
 pub returns-clause-later : goal.returns-clause-later
 returns-clause-later c =
     later_begun c.args.self.now c.begin.new.self c.build.new.self c.args.aig.now c.build.new.aig c.args.places.now c.build.new.places _ c.in_ok-begin.ensures.ok c.build.ensures.later
+
+pub returns-clause-over : goal.returns-clause-over
+returns-clause-over c = λ e. absurd (not_both e)

@@ -6,7 +6,7 @@ use Rattle.std.proofs.lemmas.List.Elements.{All-get_or}
 use Rattle.flat_net.specs.declared.signals.Signal.{Signal}
 use Rattle.flat_net.specs.View.{NetView}
 use Rattle.aig.specs.declared.node.Lit.{Lit}
-use Rattle.cbf_unfold.proofs.Going.{later_none, later_trans, room_later}
+use Rattle.cbf_unfold.proofs.Going.{later_none, later_trans, room_later, not_both}
 use Rattle.cbf_unfold.proofs.Finish.{done_more, roots_more, over_some}
 use Rattle.cbf_unfold.proofs.unfolder.Unfolder.roots.Goals as goal
 
@@ -52,3 +52,6 @@ returns-clause-here c =
 
 pub returns-clause-done : goal.returns-clause-done
 returns-clause-done c = c.loop-s.invariant.done ∙ ap (λ (ss : List Signal). c.args.self.now.done ++ map (λ (s : Signal). s.0) ss) (take_all c.loop-s.s-index c.args.signals.now c.loop-s-test.false)
+
+pub returns-clause-over : goal.returns-clause-over
+returns-clause-over c = λ e. absurd (not_both e)

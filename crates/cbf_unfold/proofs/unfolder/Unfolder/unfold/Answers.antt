@@ -5,6 +5,7 @@ use Rattle.std.proofs.lemmas.List.Elements.{Contains-push}
 use Rattle.flat_net.specs.Sound.{IsSound}
 use Rattle.cbf_unfold.specs.Unfolded.{IsUnfolded, Fits}
 use Rattle.cbf_unfold.specs.Building.{IsLater}
+use Rattle.cbf_unfold.proofs.Going.{not_both}
 use Rattle.cbf_unfold.proofs.Finish.{room_first, unfolded_from}
 use Rattle.cbf_unfold.proofs.unfolder.Unfolder.unfold.Goals as goal
 
@@ -35,3 +36,6 @@ returns-clause-fits c = subst (λ (t : List (ℕ × ℕ)). Fits c.root.new.self 
 
 pub returns-clause-later : goal.returns-clause-later
 returns-clause-later c = subst (λ (t : List (ℕ × ℕ)). IsLater c.args.self.now c.root.new.self c.args.aig.now c.root.new.aig c.args.places.now t) (sym c.list_of.ensures.same) c.root.ensures.later
+
+pub returns-clause-over : goal.returns-clause-over
+returns-clause-over c = λ e. absurd (not_both e)

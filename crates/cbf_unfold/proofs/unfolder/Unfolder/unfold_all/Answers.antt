@@ -8,6 +8,7 @@ use Rattle.unfold_places.specs.declared.signal_function.Unfolded.{Unfolded}
 use Rattle.cbf_unfold.specs.Unfolded.{IsUnfolded, Fits}
 use Rattle.cbf_unfold.specs.Building.{IsLater}
 use Rattle.cbf_unfold.specs.Found.{IsFound}
+use Rattle.cbf_unfold.proofs.Going.{not_both}
 use Rattle.cbf_unfold.proofs.Finish.{room_first, unfolded_from, are_done}
 use Rattle.cbf_unfold.proofs.unfolder.Unfolder.unfold_all.Goals as goal
 
@@ -42,3 +43,9 @@ returns-clause-fits c = subst (λ (t : List (ℕ × ℕ)). Fits c.roots.new.self
 
 pub returns-clause-later : goal.returns-clause-later
 returns-clause-later c = subst (λ (t : List (ℕ × ℕ)). IsLater c.args.self.now c.roots.new.self c.args.aig.now c.roots.new.aig c.args.places.now t) (sym c.functions.ensures.same) c.roots.ensures.later
+
+pub returns-clause-over : goal.returns-clause-over
+returns-clause-over c = λ e. absurd (not_both e)
+
+pub roots-requires-clause-signals : goal.roots-requires-clause-signals
+roots-requires-clause-signals c = c.requires.signals

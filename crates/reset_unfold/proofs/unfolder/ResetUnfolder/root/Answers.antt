@@ -1,13 +1,11 @@
 -- All places of the signal are met.
 use Rattle.std.proofs.Common.{◌≡◌, ◌∙◌, ◌<◌, ℕ, List, [], ◌∷◌, length, sym, ap, subst, arith, rules}
-use Rattle.reset_laws.specs.Weight.{IsResetOver}
 use Rattle.flat_net.specs.View.{NetView, circuit_of}
 use Rattle.flat_net.specs.Sound.{IsSound}
-use Rattle.reset_unfold.specs.Places.{starts_of}
 use Rattle.reset_unfold.specs.View.{ResetView}
 use Rattle.reset_unfold.specs.Building.{IsLaterReset}
-use Rattle.reset_unfold.proofs.Going.{later_none, met_later}
-use Rattle.reset_unfold.proofs.Finish.{begun, room_first, reach_is, reach_begun, holds_from, room_from, over_begun, over_more, later_begun, there_met, fits_from}
+use Rattle.reset_unfold.proofs.Going.{later_none, met_later, not_both}
+use Rattle.reset_unfold.proofs.Finish.{begun, room_first, reach_is, reach_begun, holds_from, room_from, over_begun, over_more, over_walk, later_begun, there_met, fits_from}
 use Rattle.reset_unfold.proofs.unfolder.ResetUnfolder.root.Goals as goal
 
 pub reach-requires-clause-signal : goal.reach-requires-clause-signal
@@ -18,9 +16,8 @@ reach-requires-clause-small c = omega (arith, c.cap.ensures, c.requires.fits.lim
 
 pub returns-in_err-unmet-clause-over : goal.returns-in_err-unmet-clause-over
 returns-in_err-unmet-clause-over c = λ e.
-    let over = c.reach.ensures.over (search rules) in
-    over_more (circuit_of c.args.self.now.net) c.args.self.now.done c.args.start c.cap.result 2000000 (c.cap.ensures ∙ c.requires.fits.limit)
-    (subst (λ (n : NetView). IsResetOver (circuit_of n) (starts_of (c.args.start ∷ [])) c.cap.result) c.net-net.ensures over)
+    let u = c.args.self.now in
+    over_more (circuit_of u.net) u.done c.args.start u.cap 2000000 c.requires.fits.limit (over_walk u c.net-net.result.now c.args.start c.cap.result c.keeps.ensures.sound c.net-net.ensures c.cap.ensures (c.reach.ensures.over (search rules)))
 
 pub returns-in_err-unmet-clause-later : goal.returns-in_err-unmet-clause-later
 returns-in_err-unmet-clause-later c = later_none c.args.self.now c.args.aig.now c.args.places.now (omega (arith, c.requires.fits.small, c.requires.fits.limit))
@@ -34,7 +31,7 @@ pub build-requires-clause-reach : goal.build-requires-clause-reach
 build-requires-clause-reach c =
     let u = c.args.self.now in
     reach_begun u c.begin.new.self c.args.start c.as_slice-reached.result.now c.in_ok-begin.ensures.ok
-    (reach_is u c.net-net.result.now c.memo.result.now c.args.start c.in_ok-unmet.unmet.items c.as_slice-reached.result.now c.net-net.ensures c.memo.ensures c.as_slice-reached.ensures.value c.in_ok-unmet.ensures.reach)
+    (reach_is u c.net-net.result.now c.memo.result.now c.args.start c.cap.result c.in_ok-unmet.unmet.items c.as_slice-reached.result.now c.net-net.ensures c.memo.ensures c.as_slice-reached.ensures.value c.in_ok-unmet.ensures.reach)
 
 pub build-requires-clause-holds : goal.build-requires-clause-holds
 build-requires-clause-holds c = holds_from c.args.self.now c.begin.new.self c.args.aig.now c.args.places.now c.args.start c.in_ok-begin.ensures.ok c.requires.signal c.requires.fits.holds
@@ -56,7 +53,7 @@ met-requires c =
     let u = c.args.self.now in
     let w = c.build.new.self in
     let seen = c.as_slice-reached.result.now in
-    let reach = reach_is u c.net-net.result.now c.memo.result.now c.args.start c.in_ok-unmet.unmet.items seen c.net-net.ensures c.memo.ensures c.as_slice-reached.ensures.value c.in_ok-unmet.ensures.reach in
+    let reach = reach_is u c.net-net.result.now c.memo.result.now c.args.start c.cap.result c.in_ok-unmet.unmet.items seen c.net-net.ensures c.memo.ensures c.as_slice-reached.ensures.value c.in_ok-unmet.ensures.reach in
     let later = later_begun u c.begin.new.self w c.args.aig.now c.build.new.aig c.args.places.now c.build.new.places _ c.in_ok-begin.ensures.ok c.build.ensures.later in
     there_met u.memo w.memo seen c.args.start (λ q m. met_later u w c.args.aig.now c.build.new.aig c.args.places.now c.build.new.places q later m) c.in_ok-build.ensures.met reach.are.root
 
@@ -65,7 +62,7 @@ returns-clause-fits c =
     let u = c.args.self.now in
     let w = c.build.new.self in
     let seen = c.as_slice-reached.result.now in
-    let reach = reach_is u c.net-net.result.now c.memo.result.now c.args.start c.in_ok-unmet.unmet.items seen c.net-net.ensures c.memo.ensures c.as_slice-reached.ensures.value c.in_ok-unmet.ensures.reach in
+    let reach = reach_is u c.net-net.result.now c.memo.result.now c.args.start c.cap.result c.in_ok-unmet.unmet.items seen c.net-net.ensures c.memo.ensures c.as_slice-reached.ensures.value c.in_ok-unmet.ensures.reach in
     let later = later_begun u c.begin.new.self w c.args.aig.now c.build.new.aig c.args.places.now c.build.new.places _ c.in_ok-begin.ensures.ok c.build.ensures.later in
     let sound : IsSound w.net = subst IsSound (c.net-net.ensures ∙ sym later.net) c.keeps.ensures.sound in
     let done : w.done ≡ (begun u c.args.start).done = c.build.ensures.done ∙ ap (λ (z : ResetView). z.done) c.in_ok-begin.ensures.ok in
@@ -78,3 +75,6 @@ returns-clause-done c = c.build.ensures.done ∙ ap (λ (z : ResetView). z.done)
 pub returns-clause-later : goal.returns-clause-later
 returns-clause-later c =
     later_begun c.args.self.now c.begin.new.self c.build.new.self c.args.aig.now c.build.new.aig c.args.places.now c.build.new.places _ c.in_ok-begin.ensures.ok c.build.ensures.later
+
+pub returns-clause-over : goal.returns-clause-over
+returns-clause-over c = λ e. absurd (not_both e)

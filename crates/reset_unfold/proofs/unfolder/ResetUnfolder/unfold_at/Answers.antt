@@ -8,6 +8,7 @@ use Rattle.flat_net.specs.Sound.{IsSound}
 use Rattle.reset_unfold.specs.Places.{starts_of}
 use Rattle.reset_unfold.specs.Unfolded.{IsResetUnfolded, FitsReset}
 use Rattle.reset_unfold.specs.Building.{IsLaterReset}
+use Rattle.reset_unfold.proofs.Going.{not_both}
 use Rattle.reset_unfold.proofs.Finish.{over_more, leaves_listed, numbered_from}
 use Rattle.reset_unfold.proofs.unfolder.ResetUnfolder.unfold_at.Goals as goal
 
@@ -51,3 +52,6 @@ returns-clause-fits c = subst (λ (t : List (ℕ × ℕ)). FitsReset c.root.new.
 
 pub returns-clause-later : goal.returns-clause-later
 returns-clause-later c = subst (λ (t : List (ℕ × ℕ)). IsLaterReset c.args.self.now c.root.new.self c.args.aig.now c.root.new.aig c.args.places.now t) (sym c.numbers_of.ensures.same) c.root.ensures.later
+
+pub returns-clause-over : goal.returns-clause-over
+returns-clause-over c = λ e. absurd (not_both e)

@@ -10,6 +10,7 @@ use Rattle.reset_unfold.specs.Reach.{AreLeavesAt}
 use Rattle.reset_unfold.specs.Unfolded.{IsResetUnfolded, FitsReset}
 use Rattle.reset_unfold.specs.Building.{IsLaterReset}
 use Rattle.reset_unfold.specs.Cone.{ConeView, IsCone}
+use Rattle.reset_unfold.proofs.Going.{not_both}
 use Rattle.reset_unfold.proofs.Finish.{order_here, base_here, room_here, leaves_here, leaves_listed, numbered_from, cone_here, leaves_now}
 use Rattle.reset_unfold.proofs.unfolder.ResetUnfolder.unfold_next.Goals as goal
 
@@ -65,3 +66,6 @@ returns-clause-unfolded c =
     subst (λ (t : List (ℕ × ℕ)). IsResetUnfolded w.net w.order w.base c.root.new.aig t k.signal k.next c.in_ok-lit.lit.0 c.in_ok-vars.vars) (sym c.numbers_of.ensures.same)
     (numbered_from w sound c.keeps-2.ensures.unfolder.order c.root.new.aig c.root.new.places c.in_ok-lit.ensures.fits.holds start c.in_ok-lit.lit here c.in_ok-vars.vars c.advance.new.self.found c.found.result.now
     c.found.ensures leaves c.in_ok-advance.ensures.cone.leaves_ordered c.in_ok-vars.ensures.numbers)
+
+pub returns-clause-over : goal.returns-clause-over
+returns-clause-over c = λ e. absurd (not_both e)

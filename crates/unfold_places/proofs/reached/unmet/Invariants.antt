@@ -1,6 +1,6 @@
 use Rattle.std.proofs.Common.{◌-◌}
-use Rattle.reset_unfold.proofs.Walk.{Met}
-use Rattle.reset_unfold.proofs.reached.unmet.Given as goal
+use Rattle.unfold_places.proofs.Walk.{Met}
+use Rattle.unfold_places.proofs.reached.unmet.Given as goal
 
 abbrev pub invariant-loop-at : goal.invariant-loop-at
 invariant-loop-at l = Met l.net l.memo l.fn.start l.cap l.table l.at l.weight

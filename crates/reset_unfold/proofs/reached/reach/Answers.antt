@@ -1,6 +1,0 @@
--- The places are distinct, so that in order each stands strictly before the next.
-use Rattle.reset_unfold.proofs.Order.{sorted_reach}
-use Rattle.reset_unfold.proofs.reached.reach.Goals as goal
-
-pub returns-clause-reach : goal.returns-clause-reach
-returns-clause-reach c = sorted_reach _ _ _ _ c.in_ok-table.table _ _ c.in_ok-places.ensures c.keeps.ensures c.in_ok-table.ensures.unmet c.sort.ensures.permutation c.in_ok-sort.ensures.sorted
