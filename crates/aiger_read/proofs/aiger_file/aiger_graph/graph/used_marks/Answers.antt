@@ -6,7 +6,7 @@ use Rattle.aiger_read.proofs.aiger_file.aiger_graph.Marking.{marks_start, marks_
 use Rattle.aiger_read.proofs.aiger_file.aiger_graph.graph.used_marks.Goals as goal
 
 pub loop-found-init : goal.loop-found-init
-loop-found-init c = marks_start c.args.records.now (2 * c.args.header.now.greatest + 2) c.in_ok-marks.marks.items c.in_ok-marks.ensures
+loop-found-init c = marks_start c.args.records.now (2 * c.args.header.now.greatest + 2) c.in_ok-marks.marks.items (c.in_ok-marks.ensures.items_if_clones_equal (λ y e. e))
 
 pub loop-found-preserved : goal.loop-found-preserved
 loop-found-preserved c =
