@@ -3,7 +3,7 @@
 ghost use Rattle.std.specs.Prelude.{◌≤◌, length};
 ghost use Rattle.aiger_read.specs.Nets.{ReadsNet};
 
-use crate::aiger_file::aiger_graph::{Ordered, order_literals};
+use crate::aiger_file::aiger_graph::order_literals;
 use crate::aiger_file::{AigerError, AigerKind, read_file};
 use crate::finish::make;
 use crate::plan::Plan;
@@ -19,7 +19,7 @@ pub fn read_aiger(alloc: Global, bytes: &[u8]) -> Result<Net, AigerError>
     ensures { ReadsNet bytes.now result }
 {
     let file = read_file(alloc, bytes)?;
-    let Some(Ordered { graph, order }) = order_literals(alloc, &file)? else {
+    let Some(ordered) = order_literals(alloc, &file)? else {
         return Err(AigerError::At {
             place: 0,
             kind: AigerKind::Loop,
@@ -27,8 +27,8 @@ pub fn read_aiger(alloc: Global, bytes: &[u8]) -> Result<Net, AigerError>
     };
     let plan = Plan {
         file: &file,
-        graph: &graph,
-        order: order.as_slice(),
+        graph: &ordered.graph,
+        order: ordered.order.as_slice(),
     };
     let net = make(alloc, &plan)?;
     Ok(net)

@@ -100,10 +100,16 @@ fn count_of(header: &Header, section: Section) -> u64
 }
 
 /// The symbols so far, none of them faulty: the key of each, and its name.
-#[derive(Drop)]
 pub struct Named {
     pub keys: NameTable,
     pub names: Words,
+}
+
+/// It is let go by one call: an owner isn't taken apart field by field at each way out.
+impl Drop for Named {
+    fn drop(self) {
+        let Named { keys: _, names: _ } = self;
+    }
 }
 
 impl Named {

@@ -1,5 +1,5 @@
 -- The text of a refutation is accepted.
-use Rattle.std.proofs.Common.{◌≡◌, ℕ, suc, ◌+◌, ◌<◌, ◌≤◌, ◌^◌, List, [], ◌∷◌, ◌++◌, length, refl, sym, ◌∙◌, ap, subst, arith}
+use Rattle.std.proofs.Common.{◌≡◌, ℕ, ◌+◌, ◌<◌, ◌≤◌, ◌^◌, List, ◌∷◌, length, sym, ◌∙◌, ap, subst}
 use Rattle.std.specs.List.{All, flat_map}
 use Rattle.std.proofs.lemmas.List.Elements.{All-head, All-tail}
 use Rattle.proof_check.specs.Literals.{Literal}
@@ -16,7 +16,7 @@ use Rattle.lrat_core.specs.States.{State, start}
 use Rattle.lrat_core.specs.Sequences.{LinesGive, Accepted}
 use Rattle.lrat_core.specs.Logs as log
 use Rattle.lrat_core.proofs.Hinted.{logs_are_accepted}
-use Rattle.lrat_core.specs.lrat_text.Verdicts.{TextGives, IsTextVerdict}
+use Rattle.lrat_core.specs.lrat_text.Verdicts.{TextGives}
 use Rattle.lrat_core.specs.lrat_text.Spellings.{Spells, spelling_of}
 use Rattle.lrat_core.specs.certificate_writer.Texts.{line_text, IsAcceptedOver}
 use Rattle.lrat_core.proofs.certificate_writer.Ranges.{IsWritable, lines_writable}

@@ -1,23 +1,23 @@
 -- The text of an addition spells it.
-use Rattle.std.proofs.Common.{◌≡◌, ℕ, suc, ◌+◌, ◌<◌, ◌≤◌, ◌^◌, Bool, true, false, not, cond, ◌&&◌, List, [], ◌∷◌, ◌++◌, length, map, get_or, refl, sym, ◌∙◌, ap, ap₂, subst, arith, append_assoc, codes, Option, Some, None}
-use Rattle.std.specs.Prelude.{◌==◌, bytes_eq, nat_le}
+use Rattle.std.proofs.Common.{◌≡◌, ℕ, ◌<◌, ◌≤◌, ◌^◌, Bool, true, false, not, cond, ◌&&◌, List, [], ◌∷◌, ◌++◌, length, map, get_or, refl, ◌∙◌, ap, ap₂, arith, append_assoc, codes, Some}
+use Rattle.std.specs.Prelude.{◌==◌, bytes_eq}
 use Rattle.std.specs.Fmt.{decimal}
 use Rattle.std.specs.List.{All, flat_map, list_all, before_first, after_first}
 use Rattle.std.proofs.lemmas.Bool.{ne_eqb}
 use Rattle.std.proofs.lemmas.List.Elements.{All-nil, All-cons, All-head, All-tail, All-append}
 use Rattle.proof_check.specs.Literals.{Literal}
 use Rattle.text_numbers.specs.Lines.{tokens_of, is_passed_over, is_empty}
-use Rattle.text_numbers.specs.Numbers.{with_first, number_of, numbers_of, positive, is_zero, has_zero}
+use Rattle.text_numbers.specs.Numbers.{with_first, numbers_of, positive, is_zero}
 use Rattle.text_numbers.specs.declared.numbers.TheConstants.{MAX_SIZE}
 use Rattle.text_numbers.specs.declared.numbers.Number.{Number}
 use Rattle.lrat_core.specs.dimacs_text.Literals.{is_literal, literal_of}
 use Rattle.lrat_core.specs.dimacs_text.dimacs_writer.Written.{literal_text, literal_piece}
-use Rattle.lrat_core.proofs.dimacs_text.dimacs_writer.Lining.{Plain, Solid, solid_plain, token_off, last_token}
+use Rattle.lrat_core.proofs.dimacs_text.dimacs_writer.Lining.{Plain, Solid, solid_plain, token_off}
 use Rattle.lrat_core.proofs.dimacs_text.dimacs_writer.Numerals.{at_most, some_digits, solid_digits, digit, no_comment, number_is, literal_number, literal_some, literal_solid}
-use Rattle.lrat_core.specs.Lines.{Addition, Line, Adds, Deletes}
+use Rattle.lrat_core.specs.Lines.{Addition, Adds}
 use Rattle.lrat_core.specs.declared.hints.Hint.{Hint}
 use Rattle.lrat_core.specs.declared.hints.Hint.TheVariants.{Clause, Negative}
-use Rattle.lrat_core.specs.lrat_text.Spellings.{Nothing, Malformed, Spells, hint_of, id_of, is_ended, is_addition, addition_of, deletion_of, has_d, without_second, in_numbers, spelling_by, spelling_of}
+use Rattle.lrat_core.specs.lrat_text.Spellings.{Nothing, Malformed, Spells, hint_of, is_ended, is_addition, addition_of, deletion_of, has_d, without_second, in_numbers, spelling_by, spelling_of}
 use Rattle.lrat_core.specs.certificate_writer.Texts.{number_piece, hint_piece, addition_text}
 use Rattle.lrat_core.specs.certificate_writer.Hinting.{IsWithin}
 use Rattle.lrat_core.proofs.certificate_writer.Ranges.{IsNumbered}

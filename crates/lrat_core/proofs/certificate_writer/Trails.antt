@@ -1,14 +1,14 @@
 -- The literals that a trail makes false.
-use Rattle.std.proofs.Common.{◌≡◌, ℕ, zero, suc, ◌+◌, ◌<◌, ◌≤◌, Bool, true, false, not, cond, List, [], ◌∷◌, ◌++◌, length, map, take, get_or, refl, sym, ◌∙◌, ap, subst, arith, inl, inr, Option, Some, None}
+use Rattle.std.proofs.Common.{◌≡◌, ℕ, zero, suc, ◌+◌, ◌<◌, ◌≤◌, Bool, true, false, cond, List, [], ◌∷◌, ◌++◌, length, take, get_or, refl, sym, ◌∙◌, ap, subst, arith, inl, inr, Option, Some, None}
 use Rattle.std.specs.Prelude.{◌⊎◌, ◌||◌, slice_get, slice_index_or}
 use Rattle.std.specs.List.{All, Contains}
 use Rattle.std.proofs.lemmas.List.{map-append, get_or_past, get_or_default, get_or-take, length-take-le, take_more}
-use Rattle.std.proofs.lemmas.List.Elements.{All-nil, All-push, All-contains, Contains-append_left, Contains-append_right, Contains-append_cases}
+use Rattle.std.proofs.lemmas.List.Elements.{All-nil, All-push, All-contains, Contains-append_cases}
 use Rattle.std.proofs.lemmas.Option.{slice_get_within}
 use Rattle.proof_check.specs.Literals.{Literal, negation}
 use Rattle.proof_check.specs.Clauses.{IsClause}
 use Rattle.proof_check.proofs.Members.{same_literal, not_same_sign, other_sign, one_of_variable, Contains-head, Contains-later, Contains-cases, Contains-none}
-use Rattle.clause_watch.specs.Trails.{At, TrueBefore, FreeBefore}
+use Rattle.clause_watch.specs.Trails.{TrueBefore, FreeBefore}
 use Rattle.clause_watch.specs.declared.entry.Entry.{Entry}
 use Rattle.clause_watch.proofs.Literals.{sign_cases}
 use Rattle.lrat_core.specs.Logs.{is_in, is_met, first_open}

@@ -1,5 +1,5 @@
 -- Numbers up to a first zero.
-use Rattle.std.proofs.Common.{◌≡◌, ℕ, ◌+◌, ◌-◌, ◌<◌, ◌≤◌, Bool, true, false, List, [], ◌∷◌, ◌++◌, length, take, drop, get_or, refl, sym, ◌∙◌, ap, subst, arith, length-append}
+use Rattle.std.proofs.Common.{◌≡◌, ◌+◌, ◌-◌, Bool, true, false, List, ◌∷◌, ◌++◌, length, take, drop, get_or, refl, ◌∙◌, ap, arith, length-append}
 use Rattle.std.specs.Prelude.{◌||◌}
 use Rattle.std.specs.List.{All, list_any, position_or_len, before_first, after_first}
 use Rattle.std.proofs.Math.ListN.{get_or-append}

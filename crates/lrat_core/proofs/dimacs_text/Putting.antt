@@ -1,16 +1,14 @@
 -- Entries that are put last, and the clauses that end in them.
-use Rattle.std.proofs.Common.{◌≡◌, ℕ, suc, ◌+◌, ◌<◌, ◌≤◌, Bool, true, false, not, cond, ◌&&◌, List, [], ◌∷◌, ◌++◌, length, drop, get_or, refl, sym, ◌∙◌, ap, subst, arith, Option, Some, None, Result, Ok, Err}
+use Rattle.std.proofs.Common.{◌≡◌, ℕ, suc, ◌+◌, ◌<◌, ◌≤◌, Bool, true, false, not, cond, ◌&&◌, List, [], ◌∷◌, ◌++◌, length, drop, get_or, refl, sym, ◌∙◌, ap, subst, arith, Option, Some, Result, Ok, Err}
 use Rattle.std.specs.Prelude.{◌==◌}
 use Rattle.std.proofs.Math.Seq.{drop-cons}
-use Rattle.std.proofs.Math.ListN.{drop_of_length-le}
-use Rattle.std.proofs.lemmas.List.{append-nil}
 use Rattle.std.proofs.lemmas.Bool.{eq-eqb, ne_eqb}
 use Rattle.proof_check.specs.Literals as words
 use Rattle.text_numbers.specs.Lines.{tokens_of, is_passed_over}
 use Rattle.text_numbers.specs.Numbers.{behind}
 use Rattle.text_numbers.specs.declared.kinds.TextError.{TextError}
 use Rattle.text_numbers.specs.declared.kinds.TextError.TheVariants.{At, NoMemory}
-use Rattle.text_numbers.specs.declared.kinds.TextKind.TheVariants.{BadNumber, BadCount}
+use Rattle.text_numbers.specs.declared.kinds.TextKind.TheVariants.{BadCount}
 use Rattle.lrat_core.specs.declared.dimacs_text.entries.Entry.{Entry}
 use Rattle.lrat_core.specs.declared.dimacs_text.entries.Entry.TheVariants.{Literal, End}
 use Rattle.lrat_core.specs.dimacs_text.Formulas.{Formula}

@@ -1,10 +1,19 @@
 -- What a line spells, from its parts.
-use Rattle.std.proofs.Common.{◌≡◌, ℕ, Bool, true, false, cond, List, sym, ◌∙◌, ap, subst}
+use Rattle.std.proofs.Common.{◌≡◌, ℕ, Bool, true, false, cond, List, [], ◌∷◌, length, refl, sym, ◌∙◌, ap, ap₂, subst, inl}
+use Rattle.std.specs.Prelude.{◌==◌}
+use Rattle.std.proofs.Math.Dec.{eqb-suc-zero}
+use Rattle.proof_check.specs.Literals.{Literal}
 use Rattle.text_numbers.specs.Lines.{tokens_of, is_passed_over}
 use Rattle.text_numbers.specs.declared.numbers.Number.{Number}
-use Rattle.lrat_core.specs.Lines.{Deletes}
-use Rattle.lrat_core.specs.lrat_text.Spellings.{Nothing, Malformed, Spells, deletion_of, spelling_by, spelling_of}
-use Rattle.lrat_core.specs.lrat_text.Parts.{AreWords, IsDeletion}
+use Rattle.lrat_core.specs.Lines.{adds, Deletes}
+use Rattle.lrat_core.specs.Answers.{IsTaken}
+use Rattle.lrat_core.specs.States.{State}
+use Rattle.lrat_core.specs.declared.hints.Hint.{Hint}
+use Rattle.lrat_core.specs.declared.lrat_text.line.Buffers.{Buffers}
+use Rattle.lrat_core.specs.declared.lrat_text.line.Form.{Form}
+use Rattle.lrat_core.specs.declared.lrat_text.line.Form.TheVariants as form
+use Rattle.lrat_core.specs.lrat_text.Spellings.{Spelling, Nothing, Malformed, Spells, deletion_of, spelling_by, spelling_of}
+use Rattle.lrat_core.specs.lrat_text.Parts.{AreWords, IsDeletion, IsForm, IsStep}
 use Rattle.lrat_core.specs.declared.lrat_text.words.Words.{Words}
 use Rattle.lrat_core.specs.declared.lrat_text.words.Words.TheVariants as words
 
@@ -32,3 +41,14 @@ pub no_deletion_there : (limit : ℕ) (line : List ℕ) (b : Bool) (w : Words) (
     w ≡ words.Deletion → slice ≡ numbers → IsDeletion (deletion_of slice) found ids → found ≡ false → spelling_of limit line ≡ Malformed
 no_deletion_there limit line b w numbers slice found ids e f are is same d t =
     shown limit line b e f ∙ (subst (λ (x : Words). AreWords (tokens_of line) x numbers) is are limit ∙ (ap deletion_of (sym same) ∙ found_false limit line slice found ids d t))
+
+-- an addition is taken, and it is told whether it adds the empty clause
+pub addition_step : (is : Spelling) (old new : State) (f : Form) (buffers : Buffers) (id : ℕ) (literals : List Literal) (hints : List Hint) → IsForm is f buffers → f ≡ form.Addition id → literals ≡ buffers.literals.items → hints ≡ buffers.hints.items →
+    IsTaken old (adds id literals hints) new → IsStep is old new (length literals == 0)
+addition_step is old new f buffers id literals hints are e l h taken = go literals (subst (λ (x : Form). IsForm is x buffers) e are ∙ ap₂ (λ ls hs. Spells (adds id ls hs)) (sym l) (sym h)) taken
+  where
+    go : (ls : List Literal) → is ≡ Spells (adds id ls hints) → IsTaken old (adds id ls hints) new → IsStep is old new (length ls == 0)
+    go [] spells done = record { line = adds id [] hints; spells = spells; taken = done; empty = refl }
+    go (x ∷ ls) spells done =
+        let goes : IsStep is old new false = inl (record { line = adds id (x ∷ ls) hints; spells = spells; taken = done; some = λ q. cc }) in
+        subst (λ (b : Bool). IsStep is old new b) (sym (eqb-suc-zero (length ls))) goes

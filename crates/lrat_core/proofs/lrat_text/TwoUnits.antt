@@ -1,5 +1,5 @@
 -- The refutation of a variable and its negation.
-use Rattle.std.proofs.Common.{◌≡◌, List, [], ◌∷◌, true, false, refl, sym, inl, inr, arith, Some}
+use Rattle.std.proofs.Common.{◌≡◌, [], ◌∷◌, true, refl, sym, inl, inr, arith}
 use Rattle.std.specs.List.{Contains}
 use Rattle.circuit_theory.proofs.Lists.{Contains-head, Contains-cases}
 use Rattle.proof_check.specs.Literals.{Literal}

@@ -1,5 +1,5 @@
 -- What the parts of the writer answer.
-use Rattle.std.specs.Prelude.{◌≡◌, ℕ, ◌<◌, ◌≤◌, Bool, true, false, List, [], ◌∷◌, ◌++◌, map, Option, Some, None, All}
+use Rattle.std.specs.Prelude.{◌≡◌, ℕ, ◌<◌, ◌≤◌, Bool, true, false, List, ◌∷◌, ◌++◌, map, Option, Some, None, All}
 use Rattle.std.specs.List.{Contains, flat_map}
 use Rattle.proof_check.specs.Literals.{Literal, negation}
 use Rattle.clause_watch.specs.declared.entry.Entry.{Entry}

@@ -109,20 +109,13 @@ fn mark_used(header: &Header, marks: &mut Vec<bool>, found: Record)
     }
 }
 
-/// So many literals without a mark.
-fn no_marks(alloc: Global, size: usize) -> Result<Vec<bool>, NoMemory>
-    ensures { IfOk result (λ marks. marks.items ≡ replicate size false) }
-{
-    Ok(vec![in alloc; false; size]?)
-}
-
 /// The marks of the literals that records read.
 fn used_marks(alloc: Global, header: &Header, records: &[Record]) -> Result<Vec<bool>, NoMemory>
     requires small { IsSmall header.now }
     requires good { All (λ r. has_bad_literal header.now r ≡ false) records.now }
     ensures { IfOk result (λ marks. AreUsed records.now (2 * header.now.greatest + 2) marks.items) }
 {
-    let mut marks = no_marks(alloc, 2 * header.greatest as usize + 2)?;
+    let mut marks = vec![in alloc; false; 2 * header.greatest as usize + 2]?;
     for found in records {
         mark_used(header, &mut marks, *found);
     }
@@ -146,10 +139,8 @@ fn put_reads(
     let Some(literal) = defined_by(found) else {
         return Ok(());
     };
-    let reads = operands(alloc, header, found)?;
-    let negation = negated(alloc, used[literal as usize + 1], literal as u32)?;
-    graph[literal as usize] = reads;
-    graph[literal as usize + 1] = negation;
+    graph[literal as usize] = operands(alloc, header, found)?;
+    graph[literal as usize + 1] = negated(alloc, used[literal as usize + 1], literal as u32)?;
     Ok(())
 }
 
@@ -169,10 +160,16 @@ fn graph_of(alloc: Global, header: &Header, records: &[Record]) -> Result<Vec<Id
 }
 
 /// What each literal of a file reads, and all literals, each behind what it reads.
-#[derive(Drop)]
 pub struct Ordered {
     pub graph: Vec<Ids>,
     pub order: Ids,
+}
+
+/// It is let go by one call: an owner isn't taken apart field by field at each way out.
+impl Drop for Ordered {
+    fn drop(self) {
+        let Ordered { graph: _, order: _ } = self;
+    }
 }
 
 /// An order of a file's literals in which they can be evaluated; None where gates read each other in a loop.

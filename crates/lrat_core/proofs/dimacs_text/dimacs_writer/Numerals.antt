@@ -1,20 +1,18 @@
 -- Numbers that are written in decimal digits.
-use Rattle.std.proofs.Common.{◌≡◌, ℕ, suc, zero, ◌+◌, ◌<◌, ◌≤◌, ◌^◌, Bool, true, false, not, cond, ◌&&◌, List, [], ◌∷◌, length, drop, get_or, refl, sym, ◌∙◌, ap, arith, rules, Option, Some, None, inl, inr}
-use Rattle.std.specs.Prelude.{◌⊎◌, ◌==◌, nat_le, option_map}
+use Rattle.std.proofs.Common.{◌≡◌, ℕ, suc, zero, ◌<◌, ◌≤◌, ◌^◌, Bool, true, false, not, cond, ◌&&◌, List, [], ◌∷◌, length, drop, get_or, refl, ◌∙◌, ap, arith, rules, Some, None, inl, inr}
+use Rattle.std.specs.Prelude.{◌⊎◌, nat_le, option_map}
 use Rattle.std.specs.Fmt.{decimal}
 use Rattle.std.specs.Str.{all_ascii_digits}
 use Rattle.std.proofs.lemmas.Bool.{ne_eqb}
 use Rattle.std.proofs.lemmas.Bool.Decides.{leb_tells}
 use Rattle.std.proofs.lemmas.Fmt.{decimal_is_IsNumeral, decimal_nonempty, digits_decimal, digits_value-decimal}
-use Rattle.std.proofs.lemmas.List.Elements.{All-nil, All-cons, All-from_get_or}
+use Rattle.std.proofs.lemmas.List.Elements.{All-cons, All-from_get_or}
 use Rattle.std.proofs.lemmas.Str.Parse.{IsNumeralModel, numerals_by_fold, digit_at}
 use Rattle.proof_check.specs.Literals.{Literal}
 use Rattle.text_numbers.specs.Lines.{is_empty, begins_with}
 use Rattle.text_numbers.specs.Numbers.{value_after, digits_value, is_size, size_of, negative, positive, number_of}
 use Rattle.text_numbers.specs.declared.numbers.TheConstants.{MAX_SIZE}
-use Rattle.text_numbers.specs.declared.numbers.Number.{Number}
 use Rattle.lrat_core.specs.declared.dimacs_text.formula.TheConstants.{MAX_COUNT}
-use Rattle.lrat_core.specs.declared.dimacs_text.entries.Entry.{Entry}
 use Rattle.lrat_core.specs.declared.dimacs_text.entries.Entry.TheVariants as entry
 use Rattle.lrat_core.specs.dimacs_text.Entries.{entry_from, entry_of}
 use Rattle.lrat_core.specs.dimacs_text.Literals.{literal_of}

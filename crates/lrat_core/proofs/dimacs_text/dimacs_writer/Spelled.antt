@@ -1,6 +1,6 @@
 -- The text of clauses spells these clauses.
-use Rattle.std.proofs.Common.{◌≡◌, ℕ, suc, ◌+◌, ◌<◌, ◌≤◌, ◌^◌, Bool, true, false, not, cond, ◌&&◌, List, [], ◌∷◌, ◌++◌, length, map, refl, sym, ◌∙◌, ap, ap₂, subst, arith, append_assoc, codes, Option, Some, None, Result, Ok, Err, inl, inr}
-use Rattle.std.specs.Prelude.{◌⊎◌, ◌==◌, nat_lt}
+use Rattle.std.proofs.Common.{◌≡◌, ℕ, suc, ◌+◌, ◌<◌, ◌≤◌, ◌^◌, true, false, not, cond, ◌&&◌, List, [], ◌∷◌, ◌++◌, length, map, refl, sym, ◌∙◌, ap, ap₂, arith, append_assoc, codes, Some, Ok, Err, inl, inr}
+use Rattle.std.specs.Prelude.{◌⊎◌, nat_lt}
 use Rattle.std.specs.Fmt.{decimal}
 use Rattle.std.specs.List.{All, flat_map}
 use Rattle.std.proofs.lemmas.Bool.{eq-eqb}
@@ -11,7 +11,6 @@ use Rattle.proof_check.specs.Literals.{Literal}
 use Rattle.text_numbers.specs.Lines.{lines_of, tokens_of, is_passed_over}
 use Rattle.text_numbers.specs.Numbers.{with_first, behind}
 use Rattle.text_numbers.specs.declared.numbers.TheConstants.{MAX_SIZE}
-use Rattle.text_numbers.specs.declared.kinds.TextError.{TextError}
 use Rattle.text_numbers.specs.declared.kinds.TextError.TheVariants.{At}
 use Rattle.text_numbers.specs.declared.kinds.TextKind.TheVariants.{BadCount}
 use Rattle.lrat_core.specs.dimacs_text.Formulas.{Formula}
@@ -19,11 +18,11 @@ use Rattle.lrat_core.specs.declared.dimacs_text.counts.Header.{Header}
 use Rattle.lrat_core.specs.declared.dimacs_text.entries.Entry.{Entry}
 use Rattle.lrat_core.specs.declared.dimacs_text.entries.Entry.TheVariants as entry
 use Rattle.lrat_core.specs.dimacs_text.Entries.{entries_of, ends, is_open, clauses_from}
-use Rattle.lrat_core.specs.dimacs_text.Dimacs.{begun, is_past, line_entries, end_of, body_from, header_from, header_of, formula_of}
+use Rattle.lrat_core.specs.dimacs_text.Dimacs.{begun, is_past, line_entries, end_of, body_from, header_from, header_of}
 use Rattle.lrat_core.proofs.dimacs_text.Headings.{here}
 use Rattle.lrat_core.proofs.dimacs_text.Putting.{open_put, count_put, line_read, goes_on}
 use Rattle.lrat_core.specs.dimacs_text.dimacs_writer.Written.{literal_text, literal_piece, clause_line, clause_text, dimacs_text}
-use Rattle.lrat_core.specs.dimacs_text.dimacs_writer.Laws.{AreWritable, WrittenIsSpelled}
+use Rattle.lrat_core.specs.dimacs_text.dimacs_writer.Laws.{WrittenIsSpelled}
 use Rattle.lrat_core.proofs.dimacs_text.dimacs_writer.Lining.{Plain, Solid, solid_plain, line_off, token_off, last_token}
 use Rattle.lrat_core.proofs.dimacs_text.dimacs_writer.Numerals.{some_digits, solid_digits, count_is, literal_entry, literal_some, literal_solid, literal_first}
 

@@ -34,3 +34,6 @@ returns-clause-kept c =
       once = subst DefinesOnce (sym is) own.once;
       keyed = keyed_as c.in_ok-symbols.symbols _ c.in_ok-symbols.ensures.1;
     }
+
+pub file_fault-requires : goal.file_fault-requires
+file_fault-requires c = keyed_as c.in_ok-symbols.symbols _ c.in_ok-symbols.ensures.1

@@ -1,8 +1,9 @@
-use Rattle.std.proofs.Common.{◌∙◌, ◌∷◌, [], ℕ, List, take, length, get_or, Some, refl, sym, ap, subst, arith}
+use Rattle.std.proofs.Common.{◌∙◌, ◌≤◌, ◌∷◌, [], ℕ, List, take, length, get_or, Some, refl, sym, ap, subst, arith}
 use Rattle.flat_net.specs.Makes.{MakerView}
+use Rattle.aiger_records.specs.declared.record.Record.{Record}
 use Rattle.aiger_records.specs.declared.record.Record.TheVariants.{Input}
 use Rattle.aiger_read.specs.aiger_file.aiger_graph.Circuit.{input_of, input_literals}
-use Rattle.std.proofs.lemmas.List.{length-append}
+use Rattle.std.proofs.lemmas.List.{length-append, take_all}
 use Rattle.aiger_read.specs.aiger_file.Names.{name_of}
 use Rattle.aiger_read.specs.Made.{IsMade}
 use Rattle.aiger_read.proofs.LiteralLists.{kept_more, kept_same}
@@ -64,3 +65,9 @@ overflow_add-number c =
     let next = input_next c.args.plan.now.file.now c.args.plan.now.graph.now c.args.plan.now.order.now c.requires.plan k c.in-Input.literal (Input c.in-Input.literal) c.loop-found.self.maker.net at refl c.loop-found.invariant.made.count in
     let few = room c.args.plan.now.file.now c.args.plan.now.graph.now c.args.plan.now.order.now c.requires.plan (length c.loop-found.self.maker.net.drivers) c.in-Input.literal next in
     omega (arith, few, c.loop-found.invariant.made.count, c.loop-found.invariant.count)
+
+pub returns : goal.returns
+returns c =
+    let rs = c.args.plan.now.file.now.records in
+    let past = subst (λ (rs : List Record). length rs ≤ c.loop-found.found-index) c.as_slice-found-items.ensures c.loop-found-test.false in
+    subst (λ (rs : List Record). IsMade c.args.plan.now.file.now c.args.plan.now.order.now (input_literals rs) [] [] [] c.loop-found.self.maker.net c.loop-found.self.signals.items) (take_all c.loop-found.found-index rs past) c.loop-found.invariant.made

@@ -1,7 +1,8 @@
-use Rattle.std.proofs.Common.{◌∙◌, ◌∷◌, [], ℕ, List, take, length, get_or, Some, refl, sym, ap, subst, arith}
-use Rattle.std.proofs.lemmas.List.{length-append}
+use Rattle.std.proofs.Common.{◌∙◌, ◌≤◌, ◌∷◌, [], ℕ, List, take, length, get_or, Some, refl, sym, ap, subst, arith}
+use Rattle.std.proofs.lemmas.List.{length-append, take_all}
 use Rattle.sec_base.specs.declared.basics.Init.{Init}
 use Rattle.flat_net.specs.Makes.{MakerView, with_latch}
+use Rattle.aiger_records.specs.declared.record.Record.{Record}
 use Rattle.aiger_records.specs.declared.record.Record.TheVariants.{Input, Latch}
 use Rattle.aiger_read.specs.aiger_file.Names.{name_of}
 use Rattle.aiger_read.specs.aiger_file.aiger_graph.Circuit.{LatchLine, latch_of, input_literals, latches_in}
@@ -71,3 +72,9 @@ overflow_add-number c =
     let next = latch_next c.args.plan.now.file.now c.args.plan.now.graph.now c.args.plan.now.order.now c.requires.plan k line (Latch line.literal line.next line.reset) c.loop-found.self.maker.net at refl c.loop-found.invariant.made.count in
     let few = room c.args.plan.now.file.now c.args.plan.now.graph.now c.args.plan.now.order.now c.requires.plan (length c.loop-found.self.maker.net.drivers) line.literal next in
     omega (arith, few, c.loop-found.invariant.made.count, c.loop-found.invariant.count)
+
+pub returns : goal.returns
+returns c =
+    let rs = c.args.plan.now.file.now.records in
+    let past = subst (λ (rs : List Record). length rs ≤ c.loop-found.found-index) c.as_slice-found-items.ensures c.loop-found-test.false in
+    subst (λ (rs : List Record). IsMade c.args.plan.now.file.now c.args.plan.now.order.now (input_literals c.args.plan.now.file.now.records) (latches_in rs) [] [] c.loop-found.self.maker.net c.loop-found.self.signals.items) (take_all c.loop-found.found-index rs past) c.loop-found.invariant.made

@@ -1,10 +1,11 @@
-use Rattle.std.proofs.Common.{◌≡◌, ◌∙◌, ◌∷◌, ◌<◌, [], ℕ, List, take, length, get_or, Some, refl, sym, ap, subst, arith}
-use Rattle.std.proofs.lemmas.List.{length-append}
+use Rattle.std.proofs.Common.{◌≡◌, ◌∙◌, ◌∷◌, ◌<◌, ◌≤◌, [], ℕ, List, take, length, get_or, Some, refl, sym, ap, subst, arith}
+use Rattle.std.proofs.lemmas.List.{length-append, take_all}
 use Rattle.std.specs.List.{filter}
 use Rattle.aiger_read.specs.Signals.{is_gate}
 use Rattle.flat_net.specs.declared.signals.Signal.{Signal}
 use Rattle.flat_net.specs.Makes.{MakerView, with_output}
 use Rattle.aiger_read.proofs.aiger_file.aiger_graph.net_assembly.Nexts.{read_at}
+use Rattle.aiger_records.specs.declared.record.Record.{Record}
 use Rattle.aiger_records.specs.declared.record.Record.TheVariants.{Input, Output}
 use Rattle.aiger_read.specs.aiger_file.Names.{name_of}
 use Rattle.aiger_read.specs.aiger_file.aiger_graph.Circuit.{output_of, input_literals, latches_in, output_literals}
@@ -61,3 +62,9 @@ overflow_add-number c =
     let at = record_there c.args.plan.now.file.now.records c.as_slice-found-items.result.now k c.as_slice-found-items.ensures c.loop-found-test.true ∙ ap Some c.in-Output.is in
     let few = output_few c.args.plan.now.file.now c.args.plan.now.graph.now c.args.plan.now.order.now c.requires.plan k c.in-Output.literal at in
     omega (arith, few, c.loop-found.invariant.count)
+
+pub returns : goal.returns
+returns c =
+    let rs = c.args.plan.now.file.now.records in
+    let past = subst (λ (rs : List Record). length rs ≤ c.loop-found.found-index) c.as_slice-found-items.ensures c.loop-found-test.false in
+    subst (λ (rs : List Record). HasOutputs c.args.plan.now.file.now c.args.plan.now.order.now (output_literals rs) c.loop-found.self.maker.net c.loop-found.self.signals.items) (take_all c.loop-found.found-index rs past) c.loop-found.invariant.made

@@ -1,4 +1,4 @@
-use Rattle.std.proofs.Common.{◌≡◌, ◌+◌, ◌∙◌, List, Bool, false, None, Some, Option, take, sym, subst}
+use Rattle.std.proofs.Common.{◌≡◌, ◌∙◌, List, false, take, sym, subst}
 use Rattle.proof_check.specs.Literals.{Literal}
 use Rattle.lrat_core.specs.Logs.{is_met, first_open}
 use Rattle.lrat_core.proofs.Outsides.{one_further}

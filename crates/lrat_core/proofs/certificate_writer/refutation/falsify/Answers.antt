@@ -1,4 +1,4 @@
-use Rattle.std.proofs.Common.{◌∙◌, List, length, get_or, take, sym, ap, subst, arith}
+use Rattle.std.proofs.Common.{◌∙◌, List, length, get_or, sym, ap, subst, arith}
 use Rattle.proof_check.specs.Literals.{Literal}
 use Rattle.clause_watch.specs.Trails.{FreeBefore}
 use Rattle.lrat_core.proofs.certificate_writer.Trails.{clause_free}

@@ -1,4 +1,4 @@
-use Rattle.std.proofs.Common.{◌≡◌, ◌+◌, ◌∙◌, ◌++◌, List, length, take, get_or, refl, sym, ap, arith}
+use Rattle.std.proofs.Common.{◌+◌, ◌∙◌, ◌++◌, List, length, take, get_or, refl, sym, ap, arith}
 use Rattle.std.proofs.lemmas.List.{length-take-le}
 use Rattle.proof_check.specs.Literals.{Literal}
 use Rattle.proof_check.specs.declared.derivation.Chain.{Chain}

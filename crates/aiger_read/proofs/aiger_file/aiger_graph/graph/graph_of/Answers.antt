@@ -1,8 +1,8 @@
-use Rattle.std.proofs.Common.{◌∙◌, ◌+◌, ◌*◌, ◌-◌, ◌<◌, ap, sym, subst, arith, length, drop, get_or}
+use Rattle.std.proofs.Common.{◌≡◌, ℕ, ◌∙◌, ◌+◌, ◌*◌, ◌-◌, ◌<◌, ap, sym, subst, arith, length, drop, get_or}
 use Rattle.std.proofs.lemmas.List.FromFn.{length-map-range_with_len}
 use Rattle.std.proofs.lemmas.Option.{slice_get-get_or, get_or_from_slice_get}
 use Rattle.aiger_records.specs.declared.record.Record.TheVariants.{Input}
-use Rattle.aiger_read.specs.aiger_file.aiger_graph.Literals.{reads_among, AreUsed}
+use Rattle.aiger_read.specs.aiger_file.aiger_graph.Literals.{reads_among, graph_among, AreUsed}
 use Rattle.aiger_read.proofs.aiger_file.aiger_graph.ReadLiterals.{all_well}
 use Rattle.aiger_read.proofs.aiger_file.aiger_graph.GraphSteps.{reads_start, reads_step}
 use Rattle.aiger_read.proofs.aiger_file.aiger_graph.graph.graph_of.Goals as goal
@@ -27,3 +27,9 @@ loop-back-preserved c =
 
 pub put_reads-requires-clause-marks : goal.put_reads-requires-clause-marks
 put_reads-requires-clause-marks c = ap length c.deref.ensures.value ∙ c.in_ok-used.ensures.count
+
+pub returns : goal.returns
+returns c =
+    let rs = c.args.records.now in
+    let done : length rs - c.loop-back.back ≡ 0 = omega (arith, c.loop-back-test.false) in
+    c.loop-back.invariant ∙ ap (λ (n : ℕ). graph_among rs (drop n rs) (2 * c.args.header.now.greatest + 2)) done

@@ -1,6 +1,6 @@
 use Rattle.std.proofs.Common.{◌∙◌, List, get_or, ap, arith}
 use Rattle.proof_check.specs.Literals.{Literal}
-use Rattle.lrat_core.proofs.certificate_writer.Numbers.{first_known, later_known, none_known}
+use Rattle.lrat_core.proofs.certificate_writer.Numbers.{first_known}
 use Rattle.lrat_core.proofs.certificate_writer.known.Known.clause.Goals as goal
 
 pub returns-then-number-len : goal.returns-then-number-len
