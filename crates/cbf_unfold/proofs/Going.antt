@@ -35,10 +35,6 @@ Memo = List ((ℕ × ℕ) × Lit)
 abbrev AnyEntry : (ℕ × ℕ) × Lit → Type 0
 AnyEntry e = Unit {0}
 
--- a result isn't both
-pub not_both : {T E : Type 0} {x : T} {e : E} → Ok x ≡ Err e → ⊥
-not_both h = cc
-
 -- nothing happened
 pub later_none : (u : UnfolderView) (g : List Node) (places : List (ℕ × ℕ)) → u.weight ≤ u.cap → IsLater u u g g places places
 later_none u g places small = record {

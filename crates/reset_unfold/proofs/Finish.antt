@@ -265,6 +265,9 @@ module _ (u : ResetView) (n : NetView) (os : List ℕ) (base : ℕ) (net : n ≡
   cone_here k is =
       subst (λ (m : NetView). IsCone m os base k) (sym net) (subst (λ (o : List ℕ). IsCone u.net o base k) (sym order) (subst (λ (b : ℕ). IsCone u.net u.order b k) (sym based) is))
 
+  pub cone_there : (k : ConeView) → IsCone n os base k → IsCone u.net u.order u.base k
+  cone_there k is = subst (λ (m : NetView). IsCone m u.order u.base k) net (subst (λ (o : List ℕ). IsCone n o u.base k) order (subst (λ (b : ℕ). IsCone n os b k) based is))
+
   -- the leaves of a cone that has gone on are those of the cycle before
   pub leaves_now : (k v : ConeView) → IsCone n os base v → v.next ≡ k.next + 1 → v.signal ≡ k.signal → AreLeavesAt (circuit_of u.net) u.order u.base (k.next, k.signal) v.found
   leaves_now k v is next signal =

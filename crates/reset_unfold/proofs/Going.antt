@@ -33,10 +33,6 @@ use Rattle.reset_unfold.proofs.Weighing.{over_from, weight_from}
 abbrev AnyEntry : (ℕ × ℕ) × Lit → Type 0
 AnyEntry e = Unit {0}
 
--- a result isn't both
-pub not_both : {T E : Type 0} {x : T} {e : E} → Ok x ≡ Err e → ⊥
-not_both h = cc
-
 -- nothing happened
 pub later_none : (u : ResetView) (g : List Node) (places : List (ℕ × ℕ)) → u.weight ≤ u.cap → IsLaterReset u u g g places places
 later_none u g places small = record {

@@ -23,6 +23,14 @@ module _ (c : Circuit ℕ) (order : List ℕ) (base : ℕ) (places : List (ℕ �
   more : (i : ℕ) (d : ℕ × ℕ) → i < length places → take i places ++ get_or places i d ∷ [] ≡ take (i + 1) places
   more i d inside = sym (take_more places i d inside)
 
+  -- no place has been looked at
+  pub leaves_none : (found : List (ℕ × ℕ)) → found ≡ [] → AreLeavesOf c order base (take 0 places) found
+  leaves_none found none = subst (AreLeavesOf c order base (take 0 places)) (sym none) (record {
+    from = λ x h. absurd (omega (arith, h.1));
+    all = λ p number h is. absurd (omega (arith, h.1));
+    differ = λ i j d below within. absurd (omega (arith, within));
+  })
+
   module _ (i : ℕ) (d : ℕ × ℕ) (found : List (ℕ × ℕ)) (inside : i < length places) (are : AreLeavesOf c order base (take i places) found) where
     -- one place more, for which no variable stands
     pub leaves_skip : ((number : ℕ) → IsLeafAt c order base (get_or places i d) number → ⊥) → AreLeavesOf c order base (take (i + 1) places) found

@@ -1,9 +1,9 @@
 -- The inputs among some places, and their numbers in a table.
-use Rattle.std.proofs.Common.{◌≡◌, ◌≢◌, ◌+◌, ◌-◌, ◌<◌, ◌≤◌, ℕ, suc, List, [], ◌∷◌, ◌++◌, length, take, map, get_or, slice_get, Some, refl, sym, ap, subst, arith, inl, inr}
+use Rattle.std.proofs.Common.{◌≡◌, ◌≢◌, ◌+◌, ◌-◌, ◌<◌, ◌≤◌, ℕ, List, [], ◌∷◌, ◌++◌, length, take, map, get_or, slice_get, Some, sym, ap, subst, arith, inl, inr}
 use Rattle.std.specs.Prelude.{◌⊎◌, IsPermutation}
 use Rattle.std.specs.List.{AllPairs, AllZip, Contains}
 use Rattle.std.proofs.lemmas.List.{take_more}
-use Rattle.std.proofs.lemmas.List.Elements.{All-push, All-contains, Contains-append_left, Contains-push, Contains-push_cases}
+use Rattle.std.proofs.lemmas.List.Elements.{All-push, Contains-append_left, Contains-push, Contains-push_cases}
 use Rattle.std.proofs.lemmas.List.Kept.{AllPairs-cons}
 use Rattle.std.proofs.lemmas.List.Sorted.{IsPermutation-sym, Contains-permutation}
 use Rattle.std.proofs.lemmas.Option.{slice_get-get_or}
@@ -40,6 +40,14 @@ zip_more R xs ys i d x inside zip here = subst (AllZip R (xs ++ x ∷ [])) (sym 
 module _ (c : Circuit ℕ) (order : List ℕ) (places : List (ℕ × ℕ)) where
   more : (i : ℕ) (d : ℕ × ℕ) → i < length places → take i places ++ get_or places i d ∷ [] ≡ take (i + 1) places
   more i d inside = sym (take_more places i d inside)
+
+  -- no place has been looked at
+  pub inputs_none : (found : List (ℕ × ℕ)) → found ≡ [] → AreInputsOf c order (take 0 places) found
+  inputs_none found none = subst (AreInputsOf c order (take 0 places)) (sym none) (record {
+    from = λ x h. absurd (omega (arith, h.1));
+    all = λ p number h is. absurd (omega (arith, h.1));
+    differ = λ i j d below within. absurd (omega (arith, within));
+  })
 
   module _ (i : ℕ) (d : ℕ × ℕ) (found : List (ℕ × ℕ)) (inside : i < length places) (are : AreInputsOf c order (take i places) found) where
     -- one place more that no input drives

@@ -1,5 +1,5 @@
 -- Lists that grow at their end, and pairs of elements.
-use Rattle.std.proofs.Common.{◌≡◌, ◌∙◌, ◌+◌, ◌<◌, ◌≤◌, ℕ, zero, suc, List, [], ◌∷◌, ◌++◌, length, take, map, slice_get, Some, refl, sym, ap, subst, arith, inl, inr, length-append, append-nil, append_assoc}
+use Rattle.std.proofs.Common.{◌≡◌, ◌∙◌, ◌+◌, ◌<◌, ◌≤◌, ℕ, zero, suc, List, [], ◌∷◌, ◌++◌, length, take, map, slice_get, Some, refl, sym, ap, subst, arith, inl, inr, length-append, append-nil, append_assoc, Ok, Err}
 use Rattle.std.specs.Prelude.{◌⊎◌}
 use Rattle.std.specs.List.{All, AllPairs, Contains, sum_by}
 use Rattle.std.proofs.lemmas.List.{take-append-le}
@@ -7,12 +7,16 @@ use Rattle.std.proofs.lemmas.List.Elements.{All-nil, All-append, All-push, All-w
 use Rattle.std.proofs.lemmas.List.Kept.{AllPairs-cons}
 use Rattle.std.proofs.lemmas.List.Sums.{sum_by-cons}
 use Rattle.std.proofs.lemmas.Option.{slice_get_within, same_Some}
-use Rattle.circuit_theory.proofs.Lists.{Contains-head, Contains-tail, Contains-cases, All-from_each, at_of, of_at}
+use Rattle.circuit_theory.proofs.Lists.{Contains-head, Contains-tail, All-from_each, at_of, of_at}
 use Rattle.circuit_theory.proofs.Sums.{AllPairs-head, AllPairs-tail}
 use Rattle.flat_net.proofs.Growth.{slice_get-append}
 use Rattle.flat_net.proofs.Places.{All-at}
 use Rattle.aig.specs.declared.node.Lit.{Lit}
 use Rattle.unfold_places.specs.Reach.{Adds, IsThere}
+
+-- a result isn't both
+pub not_both : {T E : Type 0} {x : T} {e : E} → Ok x ≡ Err e → ⊥
+not_both h = cc
 
 pub adds_none : {X : Type 0} (P : X → Type 0) (xs ys : List X) → ys ≡ xs → Adds P xs ys
 adds_none P xs ys same = record { more = []; is = same ∙ sym (append-nil xs); each = All-nil P }

@@ -6,7 +6,7 @@ use Rattle.std.specs.Int.{bit_at}
 use Rattle.std.proofs.lemmas.Bool.{cases_lt}
 use Rattle.std.proofs.lemmas.Nat.Bits.{bit_at-pow_same}
 use Rattle.std.proofs.lemmas.Option.{slice_get_within, slice_get-get_or, same_Some}
-use Rattle.circuit_theory.specs.Circuit.{Circuit, IsLatch}
+use Rattle.circuit_theory.specs.Circuit.{Circuit}
 use Rattle.circuit_theory.specs.Sizes.{Visits}
 use Rattle.circuit_theory.proofs.Lists.{All-from_each, at_of, of_at}
 use Rattle.unfold_places.proofs.Zips.{zip_to, zip_back}

@@ -6,9 +6,12 @@ use Rattle.flat_net.proofs.Nets.{sound_is_net}
 use Rattle.reset_laws.proofs.reset_nets.Starts.{nets_have_starts}
 use Rattle.unfold_places.proofs.Order.{differ_permuted, strictly}
 use Rattle.reset_unfold.specs.Reach.{AreLeavesOf}
-use Rattle.reset_unfold.proofs.LeafLists.{leaves_skip, leaves_push, leaves_permuted}
+use Rattle.reset_unfold.proofs.LeafLists.{leaves_none, leaves_skip, leaves_push, leaves_permuted}
 use Rattle.reset_unfold.proofs.Numbers.{one_leaf, one_signal}
 use Rattle.reset_unfold.proofs.leaves.leaves_of.Goals as goal
+
+pub loop-place-init : goal.loop-place-init
+loop-place-init c = leaves_none (circuit_of c.args.net.now) c.args.order.now c.args.base c.args.places.now c.new-found.result.items c.new-found.ensures.items
 
 pub loop-place-preserved-in_default : goal.loop-place-preserved-in_default
 loop-place-preserved-in_default c =

@@ -3,9 +3,12 @@ use Rattle.std.proofs.Common.{◌+◌, ℕ, List, sym, subst, take}
 use Rattle.std.proofs.lemmas.List.{take_all}
 use Rattle.flat_net.specs.View.{circuit_of}
 use Rattle.unfold_places.specs.Reach.{AreInputsOf}
-use Rattle.unfold_places.proofs.InputLists.{inputs_skip, inputs_push, inputs_permuted}
+use Rattle.unfold_places.proofs.InputLists.{inputs_none, inputs_skip, inputs_push, inputs_permuted}
 use Rattle.unfold_places.proofs.Order.{differ_permuted, strictly}
 use Rattle.unfold_places.proofs.variables.inputs_of.Goals as goal
+
+pub loop-place-init : goal.loop-place-init
+loop-place-init c = inputs_none (circuit_of c.args.net.now) c.args.order.now c.args.places.now c.new-found.result.items c.new-found.ensures.items
 
 pub loop-place-preserved-in_default : goal.loop-place-preserved-in_default
 loop-place-preserved-in_default c = inputs_skip (circuit_of c.args.net.now) c.args.order.now c.args.places.now c.loop-place.place-index (0, 0) _ c.loop-place-test.true c.loop-place.invariant c.in_default.ensures.none

@@ -1,9 +1,9 @@
 -- One signal more has its bit.
-use Rattle.std.proofs.Common.{◌≡◌, ◌<◌, ℕ, get_or, subst, arith}
+use Rattle.std.proofs.Common.{◌≡◌, ◌<◌, ℕ, get_or, subst, arith, length}
 use Rattle.std.proofs.lemmas.Nat.{one_shl}
 use Rattle.std.proofs.lemmas.Option.{slice_get-get_or, slice_get_within}
 use Rattle.flat_net.specs.View.{circuit_of}
-use Rattle.unfold_places.specs.Visitors.{Gives}
+use Rattle.unfold_places.specs.Visitors.{AreMarked, Gives}
 use Rattle.unfold_places.proofs.Passing.{marked_root, root_met}
 use Rattle.unfold_places.proofs.visitors.mark_roots.Goals as goal
 
@@ -19,3 +19,8 @@ loop-k-preserved c =
     let here = slice_get-get_or c.args.signals.now c.loop-k.k (record { 0 = 0 }) c.loop-k-test.true in
     marked_root (circuit_of c.args.net.now) c.args.last c.args.signals.now c.args.memo.now c.loop-k.k (get_or c.args.signals.now c.loop-k.k (record { 0 = 0 })) c.loop-k.words c.give.new.words here c.loop-k.invariant c.keeps.ensures
     c.number.result c.number.ensures.0 c.number.ensures.1 (subst (λ (w : ℕ). Gives (λ n. n ≡ c.number.result) w c.loop-k.words c.give.new.words) (one_shl c.loop-k.k 64 few) c.give.ensures)
+
+pub returns : goal.returns
+returns c =
+    let all : c.loop-k.k ≡ length c.args.signals.now = omega (arith, c.loop-k-test.false, c.loop-k.auto.k-end) in
+    subst (λ (m : ℕ). AreMarked (circuit_of c.args.net.now) c.args.last c.args.signals.now c.args.memo.now m c.loop-k.words) all c.loop-k.invariant

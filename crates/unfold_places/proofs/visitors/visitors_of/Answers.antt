@@ -19,6 +19,11 @@ mark_roots-requires-clause-none c =
     (marked_none (circuit_of c.args.net.now) c.args.last c.args.signals.now c.args.memo.now (replicate n 0) (length-replicate n 0 ∙ c.len.ensures)
     (λ i h. get_or-replicate n i 0 0 (subst (λ (m : ℕ). i < m) (length-replicate n 0) h)))
 
+pub pass_all-requires-clause-marked : goal.pass_all-requires-clause-marked
+pass_all-requires-clause-marked c =
+    subst (AreMarked (circuit_of c.args.net.now) c.args.last c.args.signals.now c.args.memo.now (length c.args.signals.now))
+    (sym (c.as_mut_slice-2.ensures.value ∙ written_back c.mark_roots.new.words _ c.in_ok-words.words.len (omega (arith, c.mark_roots.ensures.size, c.in_ok-words.ensures.len, c.len.ensures)))) c.mark_roots.ensures
+
 pub returns : goal.returns
 returns c =
     subst (AreVisitors (circuit_of c.args.net.now) c.args.last c.args.signals.now c.args.memo.now) (sym (written_back c.pass_all.new.words _ c.in_ok-words.words.len (omega (arith, c.pass_all.ensures.marked.size, c.in_ok-words.ensures.len, c.len.ensures))))

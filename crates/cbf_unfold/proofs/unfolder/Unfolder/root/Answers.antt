@@ -3,9 +3,10 @@ use Rattle.std.proofs.Common.{◌≡◌, ◌∙◌, ◌<◌, ℕ, List, [], ◌�
 use Rattle.std.specs.List.{Contains}
 use Rattle.flat_net.specs.View.{NetView}
 use Rattle.flat_net.specs.Sound.{IsSound}
+use Rattle.unfold_places.proofs.Lists.{not_both}
 use Rattle.cbf_unfold.specs.View.{UnfolderView}
 use Rattle.cbf_unfold.specs.Building.{IsMet, IsLater}
-use Rattle.cbf_unfold.proofs.Going.{later_none, met_later, not_both}
+use Rattle.cbf_unfold.proofs.Going.{later_none, met_later}
 use Rattle.cbf_unfold.proofs.Finish.{begun, reach_is, reach_begun, holds_from, room_from, over_begun, over_walk, later_begun, there_met, fits_from}
 use Rattle.cbf_unfold.proofs.unfolder.Unfolder.root.Goals as goal
 

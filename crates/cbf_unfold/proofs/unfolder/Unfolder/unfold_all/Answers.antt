@@ -5,10 +5,10 @@ use Rattle.flat_net.specs.declared.signals.Signal.{Signal}
 use Rattle.flat_net.specs.Sound.{IsSound}
 use Rattle.circuit_theory.proofs.Lists.{zip_weaker}
 use Rattle.unfold_places.specs.declared.signal_function.Unfolded.{Unfolded}
+use Rattle.unfold_places.proofs.Lists.{not_both}
 use Rattle.cbf_unfold.specs.Unfolded.{IsUnfolded, Fits}
 use Rattle.cbf_unfold.specs.Building.{IsLater}
 use Rattle.cbf_unfold.specs.Found.{IsFound}
-use Rattle.cbf_unfold.proofs.Going.{not_both}
 use Rattle.cbf_unfold.proofs.Finish.{room_first, unfolded_from, are_done}
 use Rattle.cbf_unfold.proofs.unfolder.Unfolder.unfold_all.Goals as goal
 

@@ -69,3 +69,15 @@ returns-clause-cone c =
     let leaves : AreLeavesOf (circuit_of n) c.args.order.now c.args.base block here = subst (λ (l : List (ℕ × ℕ)). AreLeavesOf (circuit_of n) c.args.order.now c.args.base l here) c.as_slice-2.ensures.value c.in_ok-found.ensures.leaves in
     let later : HasLater i.found.items c.args.base here c.add_later.new.found.items = subst (λ (l : List (ℕ × ℕ)). HasLater l c.args.base here c.add_later.new.found.items) c.as_slice-3.ensures.value c.in_ok-add_later.ensures.later in
     cone_next n c.args.order.now c.args.base k is next_in (i.last - i.next) (omega (arith, next_in)) block b c.requires.base here _ leaves refl refl refl refl (omega (arith, c.len.ensures, c.in_ok-block.block.ok.0, c.in_ok-block.block.ok)) later c.in_ok-add_later.ensures.ordered
+
+pub leaves_of-requires-clause-base : goal.leaves_of-requires-clause-base
+leaves_of-requires-clause-base c = c.requires.base
+
+pub overflow_add-self : goal.overflow_add-self
+overflow_add-self c = omega (arith, c.requires.next, ap (λ (v : ConeView). v.next) c.self.view_is, ap (λ (v : ConeView). v.last) c.self.view_is, c.self.invariant)
+
+pub returns-clause-next : goal.returns-clause-next
+returns-clause-next c = ap (λ (v : ConeView). v.next + 1) c.self.view_is
+
+pub returns-clause-same : goal.returns-clause-same
+returns-clause-same c = (ap (λ (v : ConeView). v.signal) c.self.view_is, ap (λ (v : ConeView). v.last) c.self.view_is)

@@ -1,9 +1,10 @@
 -- The place was met before, it weighs too much, or its literal is kept.
 use Rattle.std.proofs.Common.{◌+◌, ℕ, List, sym, subst, arith, ap}
 use Rattle.aig.specs.declared.node.Lit.{Lit}
+use Rattle.unfold_places.proofs.Lists.{not_both}
 use Rattle.reset_unfold.specs.Building.{IsLaterReset}
 use Rattle.reset_unfold.specs.View.{ResetView}
-use Rattle.reset_unfold.proofs.Going.{later_none, ready_weight, holds_at, ready_as, room_at, over_at, weight_later, put_holds, put_met, put_later, not_both}
+use Rattle.reset_unfold.proofs.Going.{later_none, ready_weight, holds_at, ready_as, room_at, over_at, weight_later, put_holds, put_met, put_later}
 use Rattle.reset_unfold.proofs.unfolder.ResetUnfolder.build_place.Goals as goal
 
 pub returns-in-Some-clause-later : goal.returns-in-Some-clause-later

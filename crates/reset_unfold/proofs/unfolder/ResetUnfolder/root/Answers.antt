@@ -2,9 +2,10 @@
 use Rattle.std.proofs.Common.{◌≡◌, ◌∙◌, ◌<◌, ℕ, List, [], ◌∷◌, length, sym, ap, subst, arith, rules}
 use Rattle.flat_net.specs.View.{NetView, circuit_of}
 use Rattle.flat_net.specs.Sound.{IsSound}
+use Rattle.unfold_places.proofs.Lists.{not_both}
 use Rattle.reset_unfold.specs.View.{ResetView}
 use Rattle.reset_unfold.specs.Building.{IsLaterReset}
-use Rattle.reset_unfold.proofs.Going.{later_none, met_later, not_both}
+use Rattle.reset_unfold.proofs.Going.{later_none, met_later}
 use Rattle.reset_unfold.proofs.Finish.{begun, room_first, reach_is, reach_begun, holds_from, room_from, over_begun, over_more, over_walk, later_begun, there_met, fits_from}
 use Rattle.reset_unfold.proofs.unfolder.ResetUnfolder.root.Goals as goal
 

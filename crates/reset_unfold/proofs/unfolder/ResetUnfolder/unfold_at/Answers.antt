@@ -5,10 +5,10 @@ use Rattle.std.proofs.lemmas.List.Elements.{Contains-push}
 use Rattle.reset_laws.specs.Weight.{IsResetOver}
 use Rattle.flat_net.specs.View.{NetView, circuit_of}
 use Rattle.flat_net.specs.Sound.{IsSound}
+use Rattle.unfold_places.proofs.Lists.{not_both}
 use Rattle.reset_unfold.specs.Places.{starts_of}
 use Rattle.reset_unfold.specs.Unfolded.{IsResetUnfolded, FitsReset}
 use Rattle.reset_unfold.specs.Building.{IsLaterReset}
-use Rattle.reset_unfold.proofs.Going.{not_both}
 use Rattle.reset_unfold.proofs.Finish.{over_more, leaves_listed, numbered_from}
 use Rattle.reset_unfold.proofs.unfolder.ResetUnfolder.unfold_at.Goals as goal
 

@@ -5,13 +5,13 @@ use Rattle.std.proofs.lemmas.List.Elements.{Contains-push}
 use Rattle.reset_laws.specs.Weight.{IsResetOver}
 use Rattle.flat_net.specs.View.{NetView, circuit_of}
 use Rattle.flat_net.specs.Sound.{IsSound}
+use Rattle.unfold_places.proofs.Lists.{not_both}
 use Rattle.reset_unfold.specs.Places.{starts_of}
 use Rattle.reset_unfold.specs.Reach.{AreLeavesAt}
 use Rattle.reset_unfold.specs.Unfolded.{IsResetUnfolded, FitsReset}
 use Rattle.reset_unfold.specs.Building.{IsLaterReset}
 use Rattle.reset_unfold.specs.Cone.{ConeView, IsCone}
-use Rattle.reset_unfold.proofs.Going.{not_both}
-use Rattle.reset_unfold.proofs.Finish.{order_here, base_here, room_here, leaves_here, leaves_listed, numbered_from, cone_here, leaves_now}
+use Rattle.reset_unfold.proofs.Finish.{order_here, base_here, room_here, leaves_here, leaves_listed, numbered_from, cone_here, cone_there, leaves_now}
 use Rattle.reset_unfold.proofs.unfolder.ResetUnfolder.unfold_next.Goals as goal
 
 pub root-requires : goal.root-requires
@@ -69,3 +69,16 @@ returns-clause-unfolded c =
 
 pub returns-clause-over : goal.returns-clause-over
 returns-clause-over c = λ e. absurd (not_both e)
+
+pub returns-clause-fits : goal.returns-clause-fits
+returns-clause-fits c = subst (λ (t : List (ℕ × ℕ)). FitsReset c.root.new.self c.root.new.aig t) (sym c.numbers_of.ensures.same) c.in_ok-lit.ensures.fits
+
+pub returns-clause-later : goal.returns-clause-later
+returns-clause-later c = subst (λ (t : List (ℕ × ℕ)). IsLaterReset c.args.self.now c.root.new.self c.args.aig.now c.root.new.aig c.args.places.now t) (sym c.numbers_of.ensures.same) c.root.ensures.later
+
+pub returns-clause-done : goal.returns-clause-done
+returns-clause-done c = subst (λ (p : ℕ × ℕ). c.root.new.self.done ≡ c.args.self.now.done ++ p ∷ []) c.start.ensures c.in_ok-lit.ensures.done
+
+pub returns-clause-cone : goal.returns-clause-cone
+returns-clause-cone c =
+    cone_there c.root.new.self c.net-net.result.now c.order.result.now c.base.result (c.net-net.ensures ∙ sym c.root.ensures.later.net) c.order.ensures c.base.ensures c.advance.new.self c.in_ok-advance.ensures.cone
