@@ -85,23 +85,31 @@ fn roles_of(
     if variables(alloc, aig)?.len() <= NARROW {
         return Ok(roles);
     }
-    let all = aig.cone(alloc, tried)?;
-    mark(roles.as_mut_slice(), all.as_slice(), Role::Tried);
+    mark(alloc, aig, tried, Role::Tried, roles.as_mut_slice())?;
     if searches {
-        let others = aig.cone(alloc, kept)?;
-        mark(roles.as_mut_slice(), others.as_slice(), Role::Kept);
+        mark(alloc, aig, kept, Role::Kept, roles.as_mut_slice())?;
     }
     Ok(roles)
 }
 
-/// Gives these nodes the role.
-fn mark(roles: &mut [Role], nodes: &[u32], role: Role) {
-    for i in 0..nodes.len() {
-        let n = nodes[i] as usize;
+/// Gives the nodes that these literals reach the role.
+fn mark(
+    alloc: Global,
+    aig: &Aig,
+    lits: &[Lit],
+    role: Role,
+    roles: &mut [Role],
+) -> Result<(), NoMemory>
+    requires { All (λ l. l.0 < 2 * length aig.now) lits.now }
+{
+    let nodes = aig.cone(alloc, lits)?;
+    for n in nodes.as_slice() {
+        let n = *n as usize;
         if n < roles.len() {
             roles[n] = role;
         }
     }
+    Ok(())
 }
 
 /// The literals for these of the old graph.
