@@ -13,7 +13,7 @@ use Rattle.aig.proofs.Growth.{vars_of-append}
 use Rattle.aig.proofs.Literals.{parity}
 use Rattle.node_agreement.specs.Standing.{StandsFor, AreStandIns, plainly, literal_in}
 use Rattle.node_agreement.specs.Agreeing.{Agree}
-use Rattle.swept_queries.specs.sweep.Swept.{AreLiteralsFor}
+use Rattle.swept_queries.specs.sweep.Swept.{AreLiteralsFor, IsSwept}
 use Rattle.node_agreement.specs.Leads.{HasFewInputs, AreLeads}
 use Rattle.node_agreement.proofs.Stood.{stands-even, stands-odd, stands-trans, AreStandIns-grows, AreStandIns-push}
 
@@ -66,7 +66,7 @@ take-whole : {X : Type 0} (xs : List X) → take (length xs) xs ≡ xs
 take-whole [] = refl
 take-whole (x ∷ xs) = ap (λ ys. x ∷ ys) (take-whole xs)
 
-pub vars-whole : (g h : List Node) → vars_of h ≡ vars_of (take (length g) g) → vars_of h ≡ vars_of g
+vars-whole : (g h : List Node) → vars_of h ≡ vars_of (take (length g) g) → vars_of h ≡ vars_of g
 vars-whole g h e = e ∙ ap vars_of (take-whole g)
 
 -- the literal for one of the old graph
@@ -101,13 +101,13 @@ module _ (g h : List Node) (roots leads lits map : List Lit) (are : AreLeads g r
       let small : (get_or leads i y).0 < 2 * length map = omega (arith, are.within i (get_or leads i y) (lead-at i y at), all) in
       subst (StandsFor plainly g h (get_or leads i y).0) (sym (made.is i (get_or leads i y) y (lead-at i y at) at)) (literal-stands g h map stand (get_or leads i y).0 small)
 
-  pub swept-each : length lits ≡ length roots
+  swept-each : length lits ≡ length roots
   swept-each = made.each ∙ are.each
 
-  pub swept-within : (i : ℕ) (y : Lit) → slice_get lits i ≡ Some y → y.0 < 2 * length h
+  swept-within : (i : ℕ) (y : Lit) → slice_get lits i ≡ Some y → y.0 < 2 * length h
   swept-within i y at = (literal-at i y at).within
 
-  pub swept-values : (i : ℕ) (x y : Lit) → slice_get roots i ≡ Some x → slice_get lits i ≡ Some y → (a : ℕ → Bool) → value h a y.0 ≡ value g a x.0
+  swept-values : (i : ℕ) (x y : Lit) → slice_get roots i ≡ Some x → slice_get lits i ≡ Some y → (a : ℕ → Bool) → value h a y.0 ≡ value g a x.0
   swept-values i x y there at a = (literal-at i y at).same a ∙ are.values i x (get_or leads i y) there (lead-at i y at) a
 
   one-literal : (i j : ℕ) (y z : Lit) → slice_get lits i ≡ Some y → slice_get lits j ≡ Some z → get_or leads i y ≡ get_or leads j z → y ≡ z
@@ -116,9 +116,13 @@ module _ (g h : List Node) (roots leads lits map : List Lit) (are : AreLeads g r
       let wrap : ℕ → Lit = λ n. record { 0 = n } in
       ap wrap same
 
-  pub swept-equal : (i j : ℕ) (x y z : Lit) → slice_get roots i ≡ Some x → slice_get roots j ≡ Some x → slice_get lits i ≡ Some y → slice_get lits j ≡ Some z → y ≡ z
+  swept-equal : (i j : ℕ) (x y z : Lit) → slice_get roots i ≡ Some x → slice_get roots j ≡ Some x → slice_get lits i ≡ Some y → slice_get lits j ≡ Some z → y ≡ z
   swept-equal i j x y z one other at there = one-literal i j y z at there (are.equal i j x (get_or leads i y) (get_or leads j z) one other (lead-at i y at) (lead-at j z there))
 
-  pub swept-narrow : HasFewInputs g → (i j : ℕ) (x w y z : Lit) → slice_get roots i ≡ Some x → slice_get roots j ≡ Some w → Agree g x.0 w.0 → slice_get lits i ≡ Some y → slice_get lits j ≡ Some z → y ≡ z
+  swept-narrow : HasFewInputs g → (i j : ℕ) (x w y z : Lit) → slice_get roots i ≡ Some x → slice_get roots j ≡ Some w → Agree g x.0 w.0 → slice_get lits i ≡ Some y → slice_get lits j ≡ Some z → y ≡ z
   swept-narrow few i j x w y z one other agree at there =
       one-literal i j y z at there (are.narrow few i j x w (get_or leads i y) (get_or leads j z) one other agree (lead-at i y at) (lead-at j z there))
+
+  -- the graph that was grown from all of the other, with these literals
+  pub is_swept : vars_of h ≡ vars_of (take (length g) g) → IsSwept g roots (record { aig = h; lits = lits })
+  is_swept vars = record { each = swept-each; within = swept-within; values = swept-values; equal = swept-equal; narrow = swept-narrow; vars = vars-whole g h vars }
