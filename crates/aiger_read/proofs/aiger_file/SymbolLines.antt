@@ -1,6 +1,8 @@
 -- Symbols, line by line.
-use Rattle.std.proofs.Common.{◌≡◌, ℕ, zero, suc, ◌+◌, ◌<◌, ◌≤◌, Bool, true, false, cond, ltb, List, [], ◌∷◌, ◌++◌, map, length, take, Option, Some, None, refl, sym, ◌∙◌, ap, subst, arith, append_assoc, append-nil}
+use Rattle.std.proofs.Common.{◌≡◌, ℕ, zero, suc, ◌+◌, ◌<◌, ◌≤◌, Bool, true, false, cond, ltb, List, [], ◌∷◌, ◌++◌, map, length, take, Option, Some, None, refl, sym, ◌∙◌, ap, subst, arith, append_assoc, append-nil, ◌-◌, get_or, drop, ap₂}
 use Rattle.std.specs.List.{slice_split, onto_first, position_or_len, before_first, after_first}
+use Rattle.std.specs.Prelude.{option_and_then}
+use Rattle.std.proofs.lemmas.List.{take_rest}
 use Rattle.std.proofs.lemmas.List.Splits.{slice_split_first, slice_split_none, length-slice_split}
 use Rattle.std.proofs.lemmas.List.Sums.{fails_before_first}
 use Rattle.std.proofs.lemmas.Bool.Decides.{Decides-eqb, Decides-ltb}
@@ -10,7 +12,9 @@ use Rattle.aiger_records.specs.declared.header.Header.{Header}
 use Rattle.aiger_records.specs.declared.error.AigerKind.{AigerKind}
 use Rattle.aiger_read.specs.declared.aiger_file.symbol.Named.{Named}
 use Rattle.aiger_records.specs.Lines.{Cut, cut_at, is_line_feed}
-use Rattle.aiger_read.specs.aiger_file.Symbols.{Symbol, symbol_of, symbols_in, symbols_of, is_end, is_comment, symbol_fault}
+use Rattle.aiger_records.specs.Numbers.{is_blank, number_of}
+use Rattle.aiger_records.specs.declared.record.Section.{Section}
+use Rattle.aiger_read.specs.aiger_file.Symbols.{section_named, symbol_parted, symbol_with, Symbol, symbol_of, symbols_in, symbols_of, is_end, is_comment, symbol_fault}
 use Rattle.aiger_read.specs.aiger_file.Reading.{first_symbol_fault, fault_at, at, those_there, named_by}
 use Rattle.aiger_read.specs.aiger_file.State.{SymbolsTo}
 
@@ -87,3 +91,13 @@ symbols_end h place next whole left before none to =
     let now : SymbolsTo h place whole [] next before = subst P none to in
     let made : List (List ℕ) → List (List ℕ) → Named = λ (ks : List (List ℕ)) (ns : List (List ℕ)). record { keys = ks; names = ns } in
     (now.fault, sym (ap (λ ks. made ks (map (λ s. s.name) (those_there whole))) (now.keys ∙ append-nil before.keys) ∙ ap (λ ns. made before.keys ns) (now.names ∙ append-nil before.names)))
+
+-- the symbol of a line by its parts, or none
+pub symbol_is : (line key name : List ℕ) (section : Option Section) (number : Option ℕ) → cut_at is_blank line ≡ Some (record { before = key; after = name }) → 1 ≤ length key → section ≡ section_named (get_or key 0 0) →
+    number ≡ number_of (take (length key - 1) (drop 1 key)) → symbol_of line ≡ symbol_with key name section number
+unfolding symbol_of
+symbol_is line key name section number cut some is_section is_number = ap (option_and_then (λ (c : Cut). symbol_parted c.before c.after)) cut ∙ parted key some is_section is_number
+  where
+    parted : (word : List ℕ) → 1 ≤ length word → section ≡ section_named (get_or word 0 0) → number ≡ number_of (take (length word - 1) (drop 1 word)) → symbol_parted word name ≡ symbol_with word name section number
+    parted [] h i n = absurd (omega (arith, h))
+    parted (letter ∷ digits) h i n = sym (ap₂ (symbol_with (letter ∷ digits) name) i (n ∙ ap number_of (take_rest (letter ∷ digits) 1)))
