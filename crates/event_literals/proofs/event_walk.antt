@@ -6,5 +6,4 @@ pub mod Opening
 pub mod Exact
 pub mod Stepping
 pub mod InFrames
-pub mod Walked
 mod FrameKeys

@@ -137,6 +137,14 @@ refused_memory {X} n children counted = record {
 pub refused_ok : {X : Type 0} (n : NetView) (children counted : List (ℕ × ℕ)) (v : X) → IsRefused {X = X} n children counted (Ok v)
 refused_ok n children counted v = record { many = λ q. cc; large = λ q. cc }
 
+-- from what a call says of its refusals, whatever it gives otherwise
+pub refused_on : {X Y : Type 0} (n : NetView) (children counted : List (ℕ × ℕ)) (e : EventUnfoldError) → (◌≡◌ {A = Result X EventUnfoldError} (Err e) (Err unfold_error.TooManyEvents) → 10000 ≤ length children) →
+    (◌≡◌ {A = Result X EventUnfoldError} (Err e) (Err unfold_error.TooLarge) → 2000000 < places_weight n counted) → IsRefused {X = Y} n children counted (Err e)
+refused_on {X} {Y} n children counted e many large = record {
+  many = λ q. many (ap Err (same_error {X = Y} e unfold_error.TooManyEvents q));
+  large = λ q. large (ap Err (same_error {X = Y} e unfold_error.TooLarge q));
+}
+
 -- from what a call says of its refusals
 pub refused_by : {X : Type 0} (n : NetView) (children counted : List (ℕ × ℕ)) (r : Result X EventUnfoldError) → (r ≡ Err unfold_error.TooManyEvents → 10000 ≤ length children) → (r ≡ Err unfold_error.TooLarge → 2000000 < places_weight n counted) → IsRefused n children counted r
 refused_by n children counted r many large = record { many = many; large = large }

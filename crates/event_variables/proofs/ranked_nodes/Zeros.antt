@@ -1,5 +1,5 @@
 -- Entries that are put one after the other, and nodes in their order.
-use Rattle.std.proofs.Common.{◌≡◌, ◌∙◌, ℕ, ◌+◌, ◌<◌, ◌≤◌, List, [], ◌∷◌, ◌++◌, length, reverse, take, get_or, slice_get, Some, refl, sym, ap, subst, arith, length-append, append-nil, inl, inr}
+use Rattle.std.proofs.Common.{◌≡◌, ◌∙◌, ℕ, ◌+◌, ◌<◌, ◌≤◌, List, [], ◌∷◌, ◌++◌, length, reverse, take, get_or, slice_get, Some, refl, sym, ap, subst, arith, length-append, append-nil, inl, inr, set, length-set, get_or-set_same, get_or-set_other, ◌≢◌}
 use Rattle.std.specs.Prelude.{◌⊎◌, ◌↔◌}
 use Rattle.std.specs.List.{All, AllPairs, Contains}
 use Rattle.std.proofs.lemmas.List.{take_more}
@@ -17,6 +17,7 @@ use Rattle.event_nodes.specs.Nodes.{EventGraphView, named_places, path_of}
 use Rattle.event_nodes.proofs.Lists.{pairs_at}
 use Rattle.event_variables.specs.Order.{IsOrderOf}
 use Rattle.event_variables.specs.Variables.{variable_of, GoesBefore, PathBefore, AreInOrder}
+use Rattle.flat_net.proofs.Places.{All-at}
 use Rattle.event_variables.specs.ranked_nodes.Ranks.{HasZeros}
 
 -- one entry more of a list without doubles
@@ -114,3 +115,26 @@ module _ (children : List (ℕ × ℕ)) (w : EventGraphView) (numbers nodes : Li
       let h = (order.same n).1 ((below n).1 (omega (arith, low))) in
       let at : slice_get nodes h.0 ≡ Some n = slice_get-get_or nodes h.0 n h.1 ∙ ap Some h.2 in
       (h.0, placed h.0 n at, at)
+
+-- one number's place more
+pub placed_next : (numbers places : List ℕ) (i v count : ℕ) → slice_get numbers i ≡ Some v → All (λ n. n < count) numbers → ((j k n : ℕ) → slice_get numbers j ≡ Some n → slice_get numbers k ≡ Some n → j ≡ k) → length places ≡ count → ((k n : ℕ) → k < i → slice_get numbers k ≡ Some n → slice_get places n ≡ Some k) →
+    (k n : ℕ) → k < i + 1 → slice_get numbers k ≡ Some n → slice_get (set places v i) n ≡ Some k
+placed_next numbers places i v count at_i within apart each so_far k n low at = go (below_or_here low)
+  where
+    below_or_here : k < i + 1 → (k < i) ⊎ (k ≡ i)
+    below_or_here h = grind arith
+
+    inside : v < length places
+    inside = let h = All-at (λ m. m < count) numbers i v at_i within in omega (arith, h, each)
+
+    long : (m : ℕ) → m < length places → m < length (set places v i)
+    long m h = omega (arith, h, length-set places v i)
+
+    go : (k < i) ⊎ (k ≡ i) → slice_get (set places v i) n ≡ Some k
+    go (inl below) =
+        let old = so_far k n below at in
+        let other : n ≢ v = λ e. (let same = apart k i v (at ∙ ap Some e) at_i in omega (arith, below, same)) in
+        slice_get-get_or (set places v i) n 0 (long n (slice_get_within places n k old)) ∙ ap Some (get_or-set_other places v n i 0 other ∙ get_or_from_slice_get places n k 0 old)
+    go (inr here) =
+        let same : v ≡ n = same_Some v n (sym at_i ∙ (ap (slice_get numbers) (sym here) ∙ at)) in
+        subst (λ m. slice_get (set places v i) m ≡ Some k) same (slice_get-get_or (set places v i) v 0 (long v inside) ∙ ap Some (get_or-set_same places v i 0 inside ∙ sym here))

@@ -66,3 +66,9 @@ returns c =
     (rest_done c.args.events.now left right c.requires.left.ordered c.requires.right.ordered i j c.loop-i.merged.items
     (elim c.loop-i-test.branch [ then-loop-i-test+else-j-right w ↦ inr w.if-j-right.false | else-loop-i-test w ↦ inl w.loop-i-test.false ])
     c.loop-i.invariant.rest)
+
+pub variable_order-requires-clause-left : goal.variable_order-requires-clause-left
+variable_order-requires-clause-left c = c.requires.left.within c.loop-i.i 0 c.loop-i-test.true
+
+pub variable_order-requires-clause-right : goal.variable_order-requires-clause-right
+variable_order-requires-clause-right c = c.requires.right.within c.loop-i.j 0 c.if-j-right.true

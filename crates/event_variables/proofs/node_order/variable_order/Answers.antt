@@ -1,7 +1,7 @@
 -- At two event nodes.
 use Rattle.std.proofs.Common.{ℕ, ◌≤◌, length}
 use Rattle.flat_net.proofs.Places.{All-at}
-use Rattle.event_variables.proofs.NodePaths.{at_two_nodes}
+use Rattle.event_variables.proofs.NodePaths.{at_two_nodes, at_one_node}
 use Rattle.event_variables.proofs.node_order.variable_order.Goals as goal
 
 pub returns : goal.returns
@@ -18,3 +18,6 @@ place-left_input-requires c = c.requires.left
 
 pub place-right_input-requires : goal.place-right_input-requires
 place-right_input-requires c = c.requires.right
+
+pub returns-then-left_node-right_node : goal.returns-then-left_node-right_node
+returns-then-left_node-right_node c = at_one_node c.args.events.now c.keeps.ensures.events c.args.u c.args.v c.place-left_input.result c.place-right_input.result c.place-left_input.ensures c.place-right_input.ensures c.if-left_node-right_node.true c.cmp.result c.cmp.ensures

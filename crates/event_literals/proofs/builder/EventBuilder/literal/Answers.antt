@@ -1,5 +1,5 @@
 -- What drives the signal says which literal its step has.
-use Rattle.std.proofs.Common.{◌∙◌, ◌<◌, length, sym, ap, subst, arith}
+use Rattle.std.proofs.Common.{◌∙◌, ◌<◌, length, sym, ap, subst, arith, ◌≤◌}
 use Rattle.std.proofs.lemmas.Option.{slice_get_within}
 use Rattle.event_nodes.specs.flat_net.Driver.TheVariants as driver
 use Rattle.event_nodes.specs.flat_net.View.{NetView}
@@ -7,6 +7,8 @@ use Rattle.event_nodes.specs.View.{EventCircuitView}
 use Rattle.event_nodes.proofs.flat_net.Drivers.{driven_gate, driven_latch}
 use Rattle.event_literals.proofs.event_walk.Lent.{drives_of, latch_of_lent, sound_of, order_of}
 use Rattle.event_literals.proofs.Lits.{grown_none, input_is, gate_is, gate_met, put_is, latch_met, latch_is}
+use Rattle.event_nodes.proofs.flat_net.Places.{one_at}
+use Rattle.event_literals.specs.declared.event_walk.frames.Frame.{Frame}
 use Rattle.event_literals.proofs.builder.EventBuilder.literal.Goals as goal
 
 pub input_literal-requires-clause-input : goal.input_literal-requires-clause-input
@@ -105,3 +107,39 @@ returns-in-None-clause-grown c = grown_none c.args.events.now _
 
 pub returns-in-Some-clause-grown : goal.returns-in-Some-clause-grown
 returns-in-Some-clause-grown c = grown_none c.args.events.now _
+
+pub returns-in-Input-clause-grown : goal.returns-in-Input-clause-grown
+returns-in-Input-clause-grown c =
+    let u = c.args.self.now in
+    let lent = c.circuit-circuit.result.now in
+    let drives = drives_of u.circuit lent c.circuit-circuit.ensures c.net.result.now c.net.ensures c.args.step.signal c.driver.result (driver.Input c.in-Input.i) c.driver.ensures c.in-Input.is in
+    rw drives c.input_literal.ensures.grown
+
+pub returns-in-Gate-clause-grown : goal.returns-in-Gate-clause-grown
+returns-in-Gate-clause-grown c =
+    let u = c.args.self.now in
+    let lent = c.circuit-circuit.result.now in
+    let drives = drives_of u.circuit lent c.circuit-circuit.ensures c.net.result.now c.net.ensures c.args.step.signal c.driver.result (driver.Gate c.in-Gate.j) c.driver.ensures c.in-Gate.is in
+    rw drives c.gate_literal.ensures.grown
+
+pub input_literal-requires-clause-nodes : goal.input_literal-requires-clause-nodes
+input_literal-requires-clause-nodes c =
+    let u = c.args.self.now in
+    let lent = c.circuit-circuit.result.now in
+    let drives = drives_of u.circuit lent c.circuit-circuit.ensures c.net.result.now c.net.ensures c.args.step.signal c.driver.result (driver.Input c.in-Input.i) c.driver.ensures c.in-Input.is in
+    rw drives at c.requires.nodes
+
+pub input_literal-requires-clause-node : goal.input_literal-requires-clause-node
+input_literal-requires-clause-node c =
+    let ready = c.requires.ready in
+    subst (λ (f : Frame). f.node ≤ length c.args.events.now.children) (one_at c.args.self.now.frames c.args.step.frame ready.frame c.frame-frame.result ready.at c.frame-frame.ensures) ready.node
+
+pub gate_literal-requires-clause-nodes : goal.gate_literal-requires-clause-nodes
+gate_literal-requires-clause-nodes c =
+    let u = c.args.self.now in
+    let lent = c.circuit-circuit.result.now in
+    let drives = drives_of u.circuit lent c.circuit-circuit.ensures c.net.result.now c.net.ensures c.args.step.signal c.driver.result (driver.Gate c.in-Gate.j) c.driver.ensures c.in-Gate.is in
+    rw drives at c.requires.nodes
+
+pub driver-requires : goal.driver-requires
+driver-requires c = subst (λ (n : NetView). c.args.step.signal < length n.drivers) (sym (c.net.ensures ∙ ap (λ (e : EventCircuitView). e.net) c.circuit-circuit.ensures)) c.requires.ready.within

@@ -1,7 +1,8 @@
 -- All that the walk met is built, so that the root's literal was met.
-use Rattle.std.proofs.Common.{◌∙◌, ℕ, List, length, refl, ap, sym, subst, arith}
+use Rattle.std.proofs.Common.{◌∙◌, ℕ, List, length, refl, ap, sym, subst, arith, ◌<◌}
+use Rattle.std.proofs.lemmas.Result.{err_from_is_err_and}
 use Rattle.event_nodes.specs.View.{EventCircuitView}
-use Rattle.event_nodes.specs.Visited.{IsWeighed}
+use Rattle.event_nodes.specs.Visited.{IsWeighed, places_weight}
 use Rattle.event_nodes.proofs.Growing.{grows_refl, grows_trans}
 use Rattle.event_nodes.proofs.Lists.{adds_none}
 use Rattle.event_literals.specs.Known.{EventUnfolderView, unfolder_of}
@@ -10,7 +11,8 @@ use Rattle.event_literals.specs.event_walk.Walk.{IsCounting}
 use Rattle.event_literals.proofs.Going.{later_within}
 use Rattle.event_literals.proofs.Rooted.{frame_known, opened_known, root_known, walked_to, unfolded_from, walk_expanded, walk_weighs}
 use Rattle.event_literals.proofs.event_walk.Rooting.{root_visited}
-use Rattle.event_literals.proofs.event_walk.Stepping.{nodes_none, refused_ok}
+use Rattle.event_literals.proofs.event_walk.Stepping.{nodes_none, refused_ok, refused_memory, refused_on}
+use Rattle.event_literals.proofs.event_walk.InFrames.{interned_frame}
 use Rattle.event_literals.proofs.builder.EventBuilder.unfold_in.Goals as goal
 
 pub returns-in_err-table-clause-counting : goal.returns-in_err-table-clause-counting
@@ -102,3 +104,34 @@ returns-in_err-intern-clause-counting c = (
     counted = λ starts there all. all;
   },
 )
+
+pub visited-requires-clause-seen : goal.visited-requires-clause-seen
+visited-requires-clause-seen c =
+    let circuit = ap (λ (k : EventWalkerView). k.circuit) c.intern.ensures.same ∙ ap (λ (k : EventUnfolderView). k.circuit) c.self.view_is in
+    (c.args.frame, c.in_ok-intern.ensures.here, omega (arith, c.requires.root), subst (λ (e : EventCircuitView). c.args.s.0 < length e.net.drivers) (sym circuit) c.requires.signal)
+
+pub visited-requires-clause-frames : goal.visited-requires-clause-frames
+visited-requires-clause-frames c =
+    let few = (interned_frame _ _ _ c.in_ok-intern.ensures.grown).1 in
+    omega (arith, few, ap (λ (k : EventUnfolderView). length k.frames) c.self.view_is, c.requires.room.has.frames)
+
+pub visited-requires-clause-weighed : goal.visited-requires-clause-weighed
+visited-requires-clause-weighed c =
+    let circuit = ap (λ (k : EventWalkerView). k.circuit) c.intern.ensures.same ∙ ap (λ (k : EventUnfolderView). k.circuit) c.self.view_is in
+    subst (λ (e : EventCircuitView). IsWeighed e.net c.args.counter.now) (sym circuit) c.requires.room.weighed
+
+pub returns-in_err-build_all-clause-refused : goal.returns-in_err-build_all-clause-refused
+returns-in_err-build_all-clause-refused c =
+    let p = err_from_is_err_and c.from_residual-in_err-build_all.result c.from_residual-in_err-build_all.ensures.1 in
+    rw (p.1, p.2) (refused_memory c.args.self.now.circuit.net c.build_all.new.events.children c.visited.new.counter.places)
+
+pub returns-in_err-table-clause-refused : goal.returns-in_err-table-clause-refused
+returns-in_err-table-clause-refused c =
+    let circuit = ap (λ (k : EventWalkerView). k.circuit) c.intern.ensures.same ∙ ap (λ (k : EventUnfolderView). k.circuit) c.self.view_is in
+    let refused = c.in_err-table.ensures.refused in
+    let p = err_from_is_err_and c.from_residual-in_err-table.result c.from_residual-in_err-table.ensures.1 in
+    rw (p.1, p.2) (refused_on c.args.self.now.circuit.net c.visited.new.events.children c.visited.new.counter.places c.in_err-table.field-0.0 refused.many
+    (λ is. subst (λ (e : EventCircuitView). 2000000 < places_weight e.net c.visited.new.counter.places) circuit (refused.large is)))
+
+pub returns-clause-known : goal.returns-clause-known
+returns-clause-known c = c.build_all.ensures.known

@@ -1,11 +1,12 @@
 -- A variable whose node is so many steps of class 0, or isn't.
-use Rattle.std.proofs.Common.{◌≡◌, ◌∙◌, ℕ, List, sym, ap, subst}
+use Rattle.std.proofs.Common.{◌≡◌, ◌∙◌, ℕ, List, sym, ap, subst, ◌≤◌, length}
 use Rattle.circuit_theory.specs.Query.{Variable}
 use Rattle.circuit_theory.specs.Frame.{always_node}
 use Rattle.event_variables.specs.Variables.{variable_of}
 use Rattle.event_variables.proofs.NodePaths.{variable_is}
 use Rattle.event_variables.specs.frame_sequences.Frames.{HasPut}
 use Rattle.event_variables.proofs.frame_sequences.Filling.{put_none}
+use Rattle.event_variables.proofs.flat_net.Places.{All-at}
 use Rattle.event_variables.proofs.frame_sequences.table.put_variable.Goals as goal
 
 pub returns-in-Some : goal.returns-in-Some
@@ -19,3 +20,6 @@ pub returns-in_default : goal.returns-in_default
 returns-in_default c =
     let here = variable_is c.args.events.now c.keeps.ensures.events c.args.variable c.place-input.result c.place-input.ensures in
     put_none c.args.last c.args.count (variable_of c.args.events.now c.args.variable) c.args.bit c.args.rows.now.items (λ k early at inside. c.in_default.ensures k (sym (ap (λ (x : Variable (List ℕ)). x.at) here) ∙ at))
+
+pub always_steps-requires : goal.always_steps-requires
+always_steps-requires c = All-at (λ (p : ℕ × ℕ). p.1 ≤ length c.args.events.now.children) c.args.events.now.places c.args.variable c.place-input.result c.place-input.ensures c.keeps.ensures.events.placed

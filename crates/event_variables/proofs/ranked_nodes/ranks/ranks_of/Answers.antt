@@ -1,6 +1,6 @@
 -- The nodes in the order of the input 0 at each.
 use Rattle.std.proofs.Common.{◌≡◌, ℕ, ◌+◌, ◌<◌, ◌↔◌, List, length, slice_get, Some, sym, ◌∙◌, ap, subst, arith}
-use Rattle.std.specs.List.{Contains}
+use Rattle.std.specs.List.{Contains, All}
 use Rattle.circuit_theory.proofs.Lists.{All-from_each}
 use Rattle.event_variables.specs.ranked_nodes.Ranks.{HasZeros}
 use Rattle.event_variables.proofs.ranked_nodes.Zeros.{ranked_within, ranked_order, ranked_apart, ranked_there}
@@ -30,3 +30,8 @@ returns c =
       in_order = ranked_order children c.in_ok-alone.alone c.in_ok-numbers.numbers.items c.in_ok-nodes.nodes c.in_ok-alone.ensures.children zeros below c.in_ok-nodes.ensures;
       there = ranked_there children c.in_ok-alone.alone c.in_ok-numbers.numbers.items c.in_ok-nodes.nodes c.in_ok-alone.ensures.children zeros below c.in_ok-nodes.ensures c.in_ok-ranks.ranks.items placed;
     }
+
+pub places_among-requires-clause-within : goal.places_among-requires-clause-within
+places_among-requires-clause-within c =
+    subst (All (λ n. n < c.nodes-count.result + 1)) (sym c.as_slice.ensures)
+    (All-from_each (λ n. n < c.nodes-count.result + 1) c.in_ok-nodes.nodes (λ n h. (c.in_ok-numbers.ensures n).0 ((c.in_ok-nodes.ensures.same n).0 h)))

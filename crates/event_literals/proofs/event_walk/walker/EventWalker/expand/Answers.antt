@@ -72,3 +72,26 @@ returns-in-Input-clause-many c = λ is. ok_apart _ _ is
 
 pub returns-in-Input-clause-large : goal.returns-in-Input-clause-large
 returns-in-Input-clause-large c = λ is. ok_apart _ _ is
+
+pub driver-requires : goal.driver-requires
+driver-requires c = subst (λ (n : NetView). c.args.place.1 < length n.drivers) (sym (c.net.ensures ∙ ap (λ (e : EventCircuitView). e.net) c.circuit-circuit.ensures)) c.requires.seen.3
+
+pub returns-in-Latch-clause-many : goal.returns-in-Latch-clause-many
+returns-in-Latch-clause-many c = c.expand_latch.ensures.many
+
+pub returns-in-Latch-clause-large : goal.returns-in-Latch-clause-large
+returns-in-Latch-clause-large c = c.expand_latch.ensures.large
+
+pub returns-in-Latch-clause-few : goal.returns-in-Latch-clause-few
+returns-in-Latch-clause-few c =
+    let u = c.args.self.now in
+    let lent = c.circuit-circuit.result.now in
+    let drives = drives_of u.circuit lent c.circuit-circuit.ensures c.net.result.now c.net.ensures c.args.place.1 c.driver.result (driver.Latch c.in-Latch.j) c.driver.ensures c.in-Latch.is in
+    rw drives c.expand_latch.ensures.few
+
+pub expand_latch-requires-clause-table : goal.expand_latch-requires-clause-table
+expand_latch-requires-clause-table c =
+    let u = c.args.self.now in
+    let lent = c.circuit-circuit.result.now in
+    let drives = drives_of u.circuit lent c.circuit-circuit.ensures c.net.result.now c.net.ensures c.args.place.1 c.driver.result (driver.Latch c.in-Latch.j) c.driver.ensures c.in-Latch.is in
+    rw drives at c.requires.table

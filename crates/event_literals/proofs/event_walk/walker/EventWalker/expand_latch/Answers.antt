@@ -1,5 +1,5 @@
 -- A latch that is put takes over nothing. Another one takes over its data in the frames in which it goes on, at its child.
-use Rattle.std.proofs.Common.{◌≡◌, ◌∙◌, ◌+◌, ◌^◌, ◌<◌, ℕ, length, slice_get, Some, sym, ap, subst, rules}
+use Rattle.std.proofs.Common.{◌≡◌, ◌∙◌, ◌+◌, ◌^◌, ◌<◌, ℕ, length, slice_get, Some, sym, ap, subst, rules, ◌≤◌}
 use Rattle.std.proofs.lemmas.Option.{slice_get_within}
 use Rattle.event_nodes.specs.flat_net.Driver.TheVariants as driver
 use Rattle.event_nodes.specs.flat_net.Sound.{IsSound}
@@ -17,6 +17,7 @@ use Rattle.event_literals.proofs.event_walk.Expanding.{latch_expanded, put_expan
 use Rattle.event_literals.proofs.event_walk.Lent.{sound_of}
 use Rattle.event_literals.proofs.event_walk.Opening.{opened_one, seen_later}
 use Rattle.event_literals.proofs.event_walk.Stepping.{step_child, step_latch, step_none, step_same, ok_apart, many_apart}
+use Rattle.event_nodes.proofs.flat_net.Places.{one_at}
 use Rattle.event_literals.proofs.event_walk.walker.EventWalker.expand_latch.Goals as goal
 
 pub class-requires : goal.class-requires
@@ -129,3 +130,8 @@ returns-in-Some-clause-many c = λ is. ok_apart _ _ is
 
 pub returns-in-Some-clause-large : goal.returns-in-Some-clause-large
 returns-in-Some-clause-large c = λ is. ok_apart _ _ is
+
+pub child-requires-clause-node : goal.child-requires-clause-node
+child-requires-clause-node c =
+    let seen = c.requires.seen in
+    subst (λ (f : Frame). f.node ≤ length c.args.events.now.children) (one_at c.args.self.now.frames c.args.place.0 seen.0 c.frame-frame.result seen.1 c.frame-frame.ensures) seen.2

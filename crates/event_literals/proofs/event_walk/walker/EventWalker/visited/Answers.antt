@@ -1,10 +1,11 @@
 -- The walk ends where each place in the table was expanded, or where it is refused.
 use Rattle.std.proofs.Common.{◌≡◌, ◌∙◌, ◌+◌, ◌-◌, ◌<◌, ℕ, List, length, refl, sym, ap, subst, arith}
+use Rattle.std.proofs.lemmas.Result.{err_from_is_err_and}
 use Rattle.event_nodes.specs.flat_net.View.{NetView}
 use Rattle.event_nodes.specs.flat_net.Sound.{IsSound}
 use Rattle.event_nodes.proofs.flat_net.Places.{All-at}
 use Rattle.event_nodes.specs.View.{EventCircuitView}
-use Rattle.event_nodes.specs.Visited.{IsWeighed, AreNodesFrom}
+use Rattle.event_nodes.specs.Visited.{IsWeighed, AreNodesFrom, places_weight}
 use Rattle.event_nodes.specs.flat_net.Weights.{weight_at}
 use Rattle.event_nodes.proofs.flat_net.Drivers.{weight_positive}
 use Rattle.event_nodes.proofs.Growing.{grows_refl, grows_trans}
@@ -13,7 +14,7 @@ use Rattle.event_literals.specs.declared.event_walk.frames.Ways.{Ways}
 use Rattle.event_literals.specs.event_walk.Walk.{IsSeen, IsVisitedPlace, IsWalk}
 use Rattle.event_literals.proofs.event_walk.Exact.{exact_first, exact_more, counting_more, counting_on}
 use Rattle.event_literals.proofs.event_walk.Opening.{walk_first, walk_more}
-use Rattle.event_literals.proofs.event_walk.Stepping.{refused_memory, refused_ok, nodes_none}
+use Rattle.event_literals.proofs.event_walk.Stepping.{refused_memory, refused_ok, nodes_none, refused_on}
 use Rattle.event_literals.proofs.event_walk.walker.EventWalker.visited.Goals as goal
 
 pub loop-at-init : goal.loop-at-init
@@ -140,3 +141,36 @@ returns-clause-refused c = refused_ok _ _ _ _
 
 pub returns-in_default-clause-refused : goal.returns-in_default-clause-refused
 returns-in_default-clause-refused c = refused_memory _ _ _
+
+pub add-requires : goal.add-requires
+add-requires c = omega (arith, ap length c.new-table.ensures)
+
+pub pair-place-requires : goal.pair-place-requires
+pair-place-requires c = omega (arith, c.loop-at-test.true, c.len.ensures)
+
+pub overflow_add-weight : goal.overflow_add-weight
+overflow_add-weight c = omega (arith, c.in-Some.ensures.room, c.loop-at.invariant.walk.small, c.requires.cap)
+
+pub overflow_add-at : goal.overflow_add-at
+overflow_add-at c = omega (arith, c.loop-at.invariant.walk.passed, c.loop-at.invariant.walk.small, c.requires.cap)
+
+pub returns-in_err-count-clause-refused : goal.returns-in_err-count-clause-refused
+returns-in_err-count-clause-refused c =
+    let p = err_from_is_err_and c.from_residual-in_err-count.result c.from_residual-in_err-count.ensures.1 in
+    rw (p.1, p.2) (refused_on c.args.self.now.circuit.net c.loop-at.events.children c.count.new.counter.places c.in_err-count.field-0.0 (λ is. absurd (c.in_err-count.ensures.many is))
+    (λ is. subst (λ (e : EventCircuitView). 2000000 < places_weight e.net c.count.new.counter.places) c.loop-at.invariant.walk.opened.circuit (c.in_err-count.ensures.large is)))
+
+pub returns-in_err-next-clause-refused : goal.returns-in_err-next-clause-refused
+returns-in_err-next-clause-refused c =
+    let p = err_from_is_err_and c.from_residual-in_err-next.result c.from_residual-in_err-next.ensures.1 in
+    rw (p.1, p.2) (refused_on c.args.self.now.circuit.net c.expand.new.events.children c.count.new.counter.places c.in_err-next.field-0.0 c.in_err-next.ensures.many (λ is. absurd (c.in_err-next.ensures.large is)))
+
+pub returns-in_err-push-clause-refused : goal.returns-in_err-push-clause-refused
+returns-in_err-push-clause-refused c =
+    let p = err_from_is_err_and c.from_residual-in_err-push.result c.from_residual-in_err-push.ensures.1 in
+    rw (p.1, p.2) (refused_memory c.args.self.now.circuit.net c.expand.new.events.children c.count.new.counter.places)
+
+pub returns-in_err-add-clause-refused : goal.returns-in_err-add-clause-refused
+returns-in_err-add-clause-refused c =
+    let p = err_from_is_err_and c.from_residual.result c.from_residual.ensures.1 in
+    rw (p.1, p.2) (refused_memory c.args.self.now.circuit.net c.args.events.now.children c.args.counter.now.places)
