@@ -1,4 +1,5 @@
 pub mod Nodes
 pub mod Going
 pub mod Over
+pub mod EnableCovering
 pub use Rattle.event_functions.proofs.Covering

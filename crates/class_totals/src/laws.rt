@@ -1,6 +1,7 @@
-//! Totals over the latches of two circuits that have classes. None of these functions does anything: each contract is a law.
+//! Totals over the latches of two circuits that have classes, and what the variables of an enable are. None of these functions does anything: each contract is a law.
 
 ghost use Rattle.class_totals.specs.Laws.{TotalsBegin, TotalsStay, TotalsGoOn, TotalsAreWithin, ManyNodesAreOver, HeavyIsOver, FewNodesAreWithin};
+ghost use Rattle.class_totals.specs.EnableFunctions.{EnablesAreCovered};
 
 /// Where no latch is taken, nothing is counted.
 pub fn totals_begin()
@@ -35,4 +36,9 @@ pub fn heavy_is_over()
 /// Where the next latch is refused for its weight alone, no more than 10,000 event nodes are reached with it.
 pub fn few_nodes_are_within()
     ensures { FewNodesAreWithin }
+{}
+
+/// The variables of an enable are all that its value and its care read.
+pub fn enables_are_covered()
+    ensures { EnablesAreCovered }
 {}

@@ -25,8 +25,9 @@ use Rattle.circuit_theory.specs.Joined.{Either, Left, Right}
 use Rattle.class_totals.specs.Totals.{HaveCounted}
 use Rattle.class_totals.proofs.Going.{totals_go_on}
 use Rattle.event_order.specs.Order.{IsTagOf, place_of}
-use Rattle.class_totals.specs.Functions.{IsEnableFunctionOf}
-use Rattle.class_totals.proofs.Covering.{two_roots, own_enable_supports, care_supports}
+use Rattle.class_totals.specs.EnableFunctions.{IsEnableFunctionOf}
+use Rattle.class_totals.proofs.Covering.{two_roots, care_supports}
+use Rattle.class_totals.proofs.EnableCovering.{own_enable_supports}
 use Rattle.class_search.specs.declared.compare.Enable.{Enable}
 use Rattle.class_search.specs.Comparing.{IsReadyEnable}
 use Rattle.class_queries.specs.Enables.{both_of, class_map, IsEnableFunction}

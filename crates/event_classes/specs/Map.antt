@@ -14,7 +14,7 @@ use Rattle.event_nodes.specs.Nodes.{EventGraphView}
 use Rattle.event_nodes.specs.View.{EventCircuitView}
 use Rattle.event_nodes.specs.Visited.{IsWeighed}
 use Rattle.event_order.specs.Order.{place_of}
-use Rattle.class_totals.specs.Functions.{IsEnableFunctionOf}
+use Rattle.class_totals.specs.EnableFunctions.{IsEnableFunctionOf}
 use Rattle.class_search.specs.declared.compare.Enable.{Enable}
 use Rattle.class_queries.specs.Enables.{both_of, IsEnableFunction}
 use Rattle.class_fits.specs.class_joining.Joining.{with_class}

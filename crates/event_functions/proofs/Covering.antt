@@ -22,7 +22,6 @@ use Rattle.event_variables.specs.aig.Cone.{IsReached}
 use Rattle.event_variables.specs.event_nodes.Nodes.{EventGraphView, IsEventGraph, named_places, path_of}
 use Rattle.event_variables.specs.event_nodes.Reach.{IsBegun}
 use Rattle.event_variables.specs.event_nodes.View.{EventCircuitView, IsEventCircuit, side_of, Enabled}
-use Rattle.event_literals.specs.Walk.{enable_start}
 use Rattle.event_literals.specs.Known.{IsKnownAt, IsEnableLit}
 use Rattle.edbf_unfold.specs.Care.{IsCareLit, IsEnableOnward, IsAndOfAll}
 use Rattle.event_variables.specs.Variables.{variable_of}
@@ -62,7 +61,8 @@ module _ (e : EventCircuitView) (w : EventGraphView) (x : Start ℕ) (vars : Lis
   pub own_supports : (put : Option (ℕ × Bool)) (lit : ℕ) → put_latch put ≡ x.left_out → IsKnownAt e w put x.place [] lit → Supports w.graph is.is_graph (Contains vars) lit
   own_supports put lit fits k = tree_supports put x.place [] lit k (own_leaf e w x vars sound circuit are put k.tree fits k.unfolds)
 
-  enable_supports : (path : List ℕ) (l : LatchAt) (lit : ℕ) → ((put : Option (ℕ × Bool)) (tree : Tree (List ℕ)) → (bit : Bool) → put ≡ Some (l.out.0, bit) → EventUnfolds (side_of e) (Enabled e) put l.next.0 path tree → (y : Variable (List ℕ)) → HasLeaf y tree → IsVisitedLeaf (side_of e) (Enabled e) (x ∷ []) y) →
+  -- what the enable of a latch at a node reads
+  pub enable_supports : (path : List ℕ) (l : LatchAt) (lit : ℕ) → ((put : Option (ℕ × Bool)) (tree : Tree (List ℕ)) → (bit : Bool) → put ≡ Some (l.out.0, bit) → EventUnfolds (side_of e) (Enabled e) put l.next.0 path tree → (y : Variable (List ℕ)) → HasLeaf y tree → IsVisitedLeaf (side_of e) (Enabled e) (x ∷ []) y) →
       IsEnableLit e w path l lit → Supports w.graph is.is_graph (Contains vars) lit
   enable_supports path l lit visits k =
       supports_short_or w.graph is.is_graph (Contains vars) k.f0 (flip k.f1) lit k.or_is
@@ -95,9 +95,3 @@ module _ (e : EventCircuitView) (w : EventGraphView) (x : Start ℕ) (vars : Lis
   -- what its care reads
   pub care_supports : (lit : ℕ) → IsCareLit e w x lit → Supports w.graph is.is_graph (Contains vars) lit
   care_supports lit k = all_supports k.enables lit (λ y h. let o = k.each y h in onward_supports o.0 o.1 y o.2 o.3) k.is
-
-  -- what the start's own enable reads
-  pub own_enable_supports : (l : LatchAt) (lit : ℕ) → x ≡ enable_start l → IsEnableLit e w [] l lit → Supports w.graph is.is_graph (Contains vars) lit
-  own_enable_supports l lit same k =
-      enable_supports [] l lit
-      (λ put tree bit put_is unfolds y leaf. own_leaf e w x vars sound circuit are put tree (ap put_latch put_is ∙ ap (λ (z : Start ℕ). z.left_out) (sym same)) (subst (λ (z : Start ℕ). EventUnfolds (side_of e) (Enabled e) put z.place [] tree) (sym same) unfolds) y leaf) k

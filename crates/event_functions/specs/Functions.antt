@@ -1,16 +1,13 @@
 -- When an event function is right.
 use Rattle.std.specs.Prelude.{ℕ, [], None}
 use Rattle.circuit_theory.specs.EventSizes.{Start}
-use Rattle.event_variables.specs.flat_net.LatchAt.{LatchAt}
 use Rattle.event_variables.specs.event_nodes.Nodes.{EventGraphView}
 use Rattle.event_variables.specs.event_nodes.View.{EventCircuitView}
-use Rattle.event_literals.specs.Walk.{enable_start}
-use Rattle.event_literals.specs.Known.{IsKnownAt, IsEnableLit}
+use Rattle.event_literals.specs.Known.{IsKnownAt}
 use Rattle.edbf_unfold.specs.Care.{IsCareLit}
 use Rattle.edbf_unfold.specs.Reached.{IsReachOf}
 use Rattle.event_variables.specs.Inputs.{AreVisitedInputs}
 use Rattle.event_functions.specs.declared.signals.SignalFunction.{SignalFunction}
-use Rattle.event_functions.specs.declared.enables.EnableFunction.{EnableFunction}
 
 -- the start of a signal's function
 abbrev pub signal_start : ℕ → Start ℕ
@@ -22,9 +19,3 @@ pub record IsFunctionOf (e : EventCircuitView) (w : EventGraphView) (p : ℕ) (r
   pub care : IsCareLit e w (signal_start p) r.care.0
   pub vars : AreVisitedInputs e w (signal_start p) r.vars
   pub reach : IsReachOf e w.children (signal_start p) r.nodes r.only_always
-
--- the value, the care and the variables are those of the latch's enable
-pub record IsEnableFunctionOf (e : EventCircuitView) (w : EventGraphView) (l : LatchAt) (r : EnableFunction) : Type 0 where
-  pub value : IsEnableLit e w [] l r.value.0
-  pub care : IsCareLit e w (enable_start l) r.care.0
-  pub vars : AreVisitedInputs e w (enable_start l) r.vars

@@ -1,14 +1,12 @@
--- What the variables of event functions are. Each law is the contract of a function of this crate.
+-- What the variables of event functions are. The law is the contract of a function of this crate.
 use Rattle.std.specs.Prelude.{◌≡◌, ℕ, List, [], ◌∷◌, slice_get, Some, Contains}
-use Rattle.event_variables.specs.flat_net.LatchAt.{LatchAt}
 use Rattle.event_variables.specs.flat_net.Sound.{IsSound}
 use Rattle.event_variables.specs.aig.Node.TheVariants.{Input}
 use Rattle.event_variables.specs.aig.Cone.{IsReached}
 use Rattle.event_variables.specs.event_nodes.Nodes.{EventGraphView, IsEventGraph}
 use Rattle.event_variables.specs.event_nodes.View.{EventCircuitView, IsEventCircuit}
 use Rattle.event_functions.specs.declared.signals.SignalFunction.{SignalFunction}
-use Rattle.event_functions.specs.declared.enables.EnableFunction.{EnableFunction}
-use Rattle.event_functions.specs.Functions.{IsFunctionOf, IsEnableFunctionOf}
+use Rattle.event_functions.specs.Functions.{IsFunctionOf}
 
 -- each variable that one of both literals reads is in the list
 abbrev pub AreCovered : EventGraphView → List ℕ → ℕ → ℕ → Type 0
@@ -17,7 +15,3 @@ AreCovered w vars x y = (n v : ℕ) → IsReached w.graph (x ∷ y ∷ []) n →
 -- The variables of a signal's function are all that its value and its care read.
 abbrev pub SignalsAreCovered : Type 0
 SignalsAreCovered = (e : EventCircuitView) (w : EventGraphView) (p : ℕ) (r : SignalFunction) → IsSound e.net → IsEventCircuit e → IsEventGraph w → IsFunctionOf e w p r → AreCovered w r.vars r.value.0 r.care.0
-
--- The variables of an enable are all that its value and its care read.
-abbrev pub EnablesAreCovered : Type 0
-EnablesAreCovered = (e : EventCircuitView) (w : EventGraphView) (l : LatchAt) (r : EnableFunction) → IsSound e.net → IsEventCircuit e → IsEventGraph w → IsEnableFunctionOf e w l r → AreCovered w r.vars r.value.0 r.care.0

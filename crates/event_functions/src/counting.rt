@@ -15,7 +15,7 @@ const PLACES: u32 = 67_108_864;
 const NODES: u32 = 1_073_741_800;
 
 /// For how many places there is room.
-pub(crate) fn room_in(events: &EventGraph) -> Result<u32, NoMemory>
+pub fn room_in(events: &EventGraph) -> Result<u32, NoMemory>
     ensures small { IfOk result (λ room. room ≤ 67108864) }
     ensures nodes { IfOk result (λ room. length events.now.graph + (9 * room + 4) < 2 ^ 30) }
     ensures places { IfOk result (λ room. length events.now.places + (9 * room + 4) < 2 ^ 31) }
@@ -28,11 +28,7 @@ pub(crate) fn room_in(events: &EventGraph) -> Result<u32, NoMemory>
 }
 
 /// Counts all these places too. `TooLarge` comes where all then weigh more than 2,000,000.
-pub(crate) fn count_all(
-    net: &Net,
-    total: &mut Counter,
-    visits: &Counter,
-) -> Result<(), EventUnfoldError>
+pub fn count_all(net: &Net, total: &mut Counter, visits: &Counter) -> Result<(), EventUnfoldError>
     requires weighed { IsWeighed net.now total.old }
     requires signals { All (λ p. p.1 < length net.now.drivers) visits.now.places }
     ensures adds { Adds (Contains visits.now.places) total.old.places total.new.places }

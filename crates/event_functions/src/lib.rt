@@ -1,12 +1,10 @@
-//! Event functions with their variables, counted: signals and load enables of a circuit whose latches have classes as functions of inputs
-//! at event nodes (after the event-driven Boolean functions of Ranjan, Singhal, Somenzi and Brayton, DATE 1999).
+//! Event functions with their variables, counted: signals of a circuit whose latches have classes as functions of inputs
+//! at event nodes, and what load enables take of it (after the event-driven Boolean functions of Ranjan, Singhal, Somenzi and Brayton, DATE 1999).
 #![tactic(auto)]
 
-mod counting;
-mod enables;
+pub mod counting;
 pub mod laws;
-mod refusal;
+pub mod refusal;
 mod signals;
 
-pub use enables::{EnableFunction, unfold_enable};
 pub use signals::{SignalFunction, unfold_signal};

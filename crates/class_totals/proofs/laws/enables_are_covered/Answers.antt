@@ -1,7 +1,8 @@
 use Rattle.std.proofs.Common.{refl}
 use Rattle.event_literals.specs.Walk.{enable_start}
-use Rattle.event_functions.proofs.Covering.{two_roots, own_enable_supports, care_supports}
-use Rattle.event_functions.proofs.laws.enables_are_covered.Goals as goal
+use Rattle.event_functions.proofs.Covering.{two_roots, care_supports}
+use Rattle.class_totals.proofs.EnableCovering.{own_enable_supports}
+use Rattle.class_totals.proofs.laws.enables_are_covered.Goals as goal
 
 pub returns : goal.returns
 returns c = λ e w l r sound circuit is k.

@@ -8,12 +8,12 @@ ghost use Rattle.event_variables.specs.event_nodes.Visited.{IsWeighed};
 ghost use Rattle.event_literals.specs.Walk.{HasCountedStart, IsCounting, enable_start};
 ghost use Rattle.edbf_unfold.specs.Care.{IsCareLit};
 ghost use Rattle.event_literals.specs.Known.{IsEnableLit};
-ghost use Rattle.event_functions.specs.Functions.{IsEnableFunctionOf};
+ghost use Rattle.class_totals.specs.EnableFunctions.{IsEnableFunctionOf};
 ghost use Rattle.event_functions.specs.Refused.{HasFewNodes, IsTooHeavy, IsRefusal};
 
-use crate::counting::{count_all, room_in};
-use crate::refusal::enable_refusal;
+use crate::enable_refusal::enable_refusal;
 use edbf_unfold::{EventLits, EventUnfolder};
+use event_functions::counting::{count_all, room_in};
 use event_variables::{
     Counter, EventCircuit, EventGraph, EventUnfoldError, Ids, Lit, visited_variables,
 };
@@ -30,7 +30,8 @@ pub struct EnableFunction {
     pub vars: Ids,
 }
 
-/// The enable of the latch with this position as an event function, where what it visits is counted too. The refusals come as for a signal.
+/// The enable of the latch with this position as an event function, where what it visits is counted too. `TooManyEvents` comes where more than
+/// 10,000 event nodes are reached, and else `TooLarge` where all that was counted then weighs more than 2,000,000.
 pub fn unfold_enable(
     alloc: Global,
     circuit: &EventCircuit,

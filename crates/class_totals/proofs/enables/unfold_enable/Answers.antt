@@ -14,7 +14,7 @@ use Rattle.event_functions.specs.Refused.{IsOverweight}
 use Rattle.event_functions.proofs.Refusing.{error_is}
 use Rattle.event_functions.proofs.Growing.{care_lit_later}
 use Rattle.event_functions.proofs.Totaling.{own_visited, signals_of, nodes_of, total_counting, total_counted, total_over, children_same}
-use Rattle.event_functions.proofs.enables.unfold_enable.Goals as goal
+use Rattle.class_totals.proofs.enables.unfold_enable.Goals as goal
 
 pub count_all-requires-clause-weighed : goal.count_all-requires-clause-weighed
 count_all-requires-clause-weighed c =

@@ -2,7 +2,7 @@
 use Rattle.event_variables.proofs.event_nodes.Growing.{grows_refl}
 use Rattle.event_reach.proofs.Making.{no_nodes}
 use Rattle.event_literals.specs.Walk.{enable_start}
-use Rattle.event_functions.proofs.refusal.enable_refusal.Goals as goal
+use Rattle.class_totals.proofs.enable_refusal.enable_refusal.Goals as goal
 
 pub returns-in-TooLarge-clause-large : goal.returns-in-TooLarge-clause-large
 returns-in-TooLarge-clause-large c = λ is l at. (record { distinct = c.keeps.ensures; weight = c.requires.large c.in-TooLarge.is }, c.enable_nodes.ensures.large is l at)

@@ -4,7 +4,7 @@ use Rattle.event_variables.proofs.event_nodes.Growing.{grows_refl}
 use Rattle.event_reach.proofs.Making.{no_nodes}
 use Rattle.event_literals.specs.Walk.{enable_start}
 use Rattle.event_functions.proofs.Refusing.{from_ok}
-use Rattle.event_functions.proofs.refusal.enable_nodes.Goals as goal
+use Rattle.class_totals.proofs.enable_refusal.enable_nodes.Goals as goal
 
 pub returns-clause-many : goal.returns-clause-many
 returns-clause-many c = λ is. (let k = c.refusal.ensures.many is in omega (arith, k, c.nodes-2.ensures))

@@ -11,7 +11,7 @@ use Rattle.event_reach.proofs.Making.{no_nodes}
 use Rattle.event_functions.proofs.Refusing.{error_is}
 use Rattle.event_functions.proofs.Totaling.{visits_over}
 use Rattle.event_functions.proofs.Visiting.{fresh_circuit, fresh_known, fresh_ready, counting_on}
-use Rattle.event_functions.proofs.enables.visit_enable.Goals as goal
+use Rattle.class_totals.proofs.enables.visit_enable.Goals as goal
 
 pub enable-requires-clause-latch : goal.enable-requires-clause-latch
 enable-requires-clause-latch c =
