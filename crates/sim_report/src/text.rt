@@ -1,27 +1,12 @@
 //! The lines of a simulation's report, as text.
 
 ghost use Rattle.std.specs.Prelude.{◌≡◌, ◌++◌, map, OnOk};
-ghost use Rattle.witness_report.specs.Text.{digit_of, names_text, row_text};
+ghost use Rattle.witness_report.specs.Text.{names_text, row_text};
 ghost use Rattle.sim_report.specs.Report.{cycle_line};
 
 use flat_net::Port;
-use sec_base::{NoMemory, put, put_number};
+use sec_base::{NoMemory, put, put_digits, put_number};
 use std::alloc::Global;
-
-fn digit_of(bit: bool) -> u8
-    ensures { result ≡ digit_of bit }
-{
-    if bit { b'1' } else { b'0' }
-}
-
-fn put_digits(text: &mut Vec<u8>, bits: &[bool]) -> Result<(), NoMemory>
-    ensures { OnOk result (text.new.items ≡ text.old.items ++ map digit_of bits.now) }
-{
-    for bit in bits {
-        text.push(digit_of(*bit))?;
-    }
-    Ok(())
-}
 
 /// Puts one digit for each bit, or a dash where there are none.
 fn put_bits(text: &mut Vec<u8>, bits: &[bool]) -> Result<(), NoMemory>
