@@ -1,4 +1,5 @@
-use Rattle.std.proofs.Common.{◌≡◌, ◌∙◌, ℕ, [], ◌∷◌, sym, ap, subst}
+use Rattle.std.proofs.Common.{◌≡◌, ◌<◌, ◌∙◌, ℕ, List, length, [], ◌∷◌, sym, ap, subst}
+use Rattle.std.specs.Prelude.{All}
 use Rattle.elaborate.specs.Flat.{kind_of}
 use Rattle.connectivity.specs.Wiring.{control_by, some_of}
 use Rattle.connectivity.specs.Tables.{IsOpenIn}
@@ -30,3 +31,8 @@ returns-in-None c =
     (subst (λ zs. FirstOf zs (λ (n : ℕ). n) M c.first_open-found.result) c.as_slice.ensures c.first_open-found.ensures) in
     let one : control_by (kind_of [] s.kind) ≡ [] = c.control_of.ensures ∙ ap some_of c.in-None.is in
     never_control s.reads (control_by (kind_of [] s.kind)) M one none
+
+pub first_open-requires : goal.first_open-requires
+first_open-requires c =
+    let one : control_by (kind_of [] c.args.statement.now.kind) ≡ c.in-Some.control ∷ [] = c.control_of.ensures ∙ ap some_of c.in-Some.is in
+    subst (λ (zs : List ℕ). All (λ n. n < length c.args.sources.now) zs) one c.requires.control

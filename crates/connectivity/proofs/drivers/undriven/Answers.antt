@@ -1,4 +1,4 @@
-use Rattle.std.proofs.Common.{◌∙◌, ◌<◌, length, sym, subst}
+use Rattle.std.proofs.Common.{◌∙◌, ◌<◌, ℕ, List, length, sym, subst}
 use Rattle.std.specs.Prelude.{All}
 use Rattle.connectivity.specs.Tables.{IsOpenIn}
 use Rattle.connectivity.proofs.Rows.{inputs_are}
@@ -33,3 +33,8 @@ pub returns-clause-within : goal.returns-clause-within
 returns-clause-within c =
     let flat = c.args.flat.now in
     signal_within (length flat.names) c.as_slice.result.now (subst (λ zs. All (λ n. n < length flat.names) zs) (sym c.as_slice.ensures) c.keeps.ensures.outputs) (IsOpenIn c.args.sources.now) c.first_open.result c.first_open.ensures
+
+pub first_open-requires : goal.first_open-requires
+first_open-requires c =
+    let flat = c.args.flat.now in
+    subst (λ (zs : List ℕ). All (λ n. n < length c.args.sources.now) zs) (sym c.as_slice.ensures) (subst (λ (k : ℕ). All (λ n. n < k) flat.outputs) (sym c.requires.len) c.keeps.ensures.outputs)

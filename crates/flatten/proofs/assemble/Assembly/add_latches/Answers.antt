@@ -1,10 +1,11 @@
-use Rattle.std.proofs.Common.{◌≡◌, ◌<◌, ◌++◌, false, length, take, arith, sym, ◌∙◌, ap, subst}
-use Rattle.std.proofs.lemmas.List.{length-append}
+use Rattle.std.proofs.Common.{◌≡◌, ◌<◌, ◌≤◌, ◌++◌, List, false, length, take, arith, sym, ◌∙◌, ap, subst}
+use Rattle.std.proofs.lemmas.List.{length-append, take_all}
 use Rattle.base_tables.specs.Table.{is_among}
 use Rattle.elaborate.specs.declared.flat.FlatKind.{FlatKind}
+use Rattle.elaborate.specs.declared.flat.FlatStatement.{FlatStatement}
 use Rattle.flat_net.specs.View.{NetView}
 use Rattle.flat_net.specs.Makes.{MakerView, with_latch}
-use Rattle.net_assembly.specs.Built.{latch_out, latch_outs, with_latch_of}
+use Rattle.net_assembly.specs.Built.{IsBuilt, latch_out, latch_outs, with_latch_of}
 use Rattle.net_assembly.proofs.Building.{statement_at, out_within, not_latch, name_in, latch_fresh, latches_pass, latches_take, room_for, new_name}
 use Rattle.flatten.proofs.assemble.Assembly.add_latches.Goals as goal
 
@@ -57,3 +58,8 @@ add_latch-requires-clause-number c =
     let l = out_within (length c.args.flat.now.names) c.args.flat.now.statements c.loop-statement.statement-index c.statement-item.result c.args.flat.now.within at in
     let has = c.loop-statement.invariant.0 c.requires.0 c.requires.1 in
     subst (λ n. c.statement-item.result.out < n) (sym has.built.size) l
+
+pub returns-clause-built : goal.returns-clause-built
+returns-clause-built c = λ made can.
+    let past = subst (λ (ss : List FlatStatement). length ss ≤ c.loop-statement.statement-index) c.as_slice-statement-items.ensures c.loop-statement-test.false in
+    subst (λ (ss : List FlatStatement). IsBuilt c.args.flat.now.names (made ++ latch_outs ss) c.loop-statement.self.maker.net c.loop-statement.self.signals.items) (take_all c.loop-statement.statement-index c.args.flat.now.statements past) (c.loop-statement.invariant.0 made can).built

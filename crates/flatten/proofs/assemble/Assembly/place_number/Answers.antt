@@ -166,3 +166,14 @@ returns-in_ok-fanins-in-Gate-clause-has c =
     c.in_ok-fanins-in-Gate.fanins c.as_slice-in-Gate.result.now c.name.result.now c.in_ok-cover-in-Gate.ensures.covers c.in_ok-cover-in-Gate.ensures.grown c.in_ok-cover-in-Gate.ensures.few c.in_ok-cover-in-Gate.ensures.cover
     (ap (λ (m : MakerView). m.net) c.in_ok-cover-in-Gate.ensures.net) c.in_ok-cover-in-Gate.ensures.signals c.as_slice-in-Gate.ensures c.in_ok-fanins-in-Gate.ensures (name_in c.args.flat.now.names n c.name.result.now c.name.ensures)
     (ap (λ (m : MakerView). m.net) en) es))
+
+pub name-requires : goal.name-requires
+name-requires c = c.requires.numbers c.args.place 0 c.requires.place
+
+pub add_gate-requires-clause-number : goal.add_gate-requires-clause-number
+add_gate-requires-clause-number c =
+    subst (λ (k : ℕ). slice_index_or c.args.order.now c.args.place 0 < k) (sym (ap length c.in_ok-cover-in-Gate.ensures.signals ∙ c.requires.has.built.size)) (c.requires.numbers c.args.place 0 c.requires.place)
+
+pub join-requires-clause-number : goal.join-requires-clause-number
+join-requires-clause-number c =
+    subst (λ (k : ℕ). slice_index_or c.args.order.now c.args.place 0 < k) (sym c.requires.has.built.size) (c.requires.numbers c.args.place 0 c.requires.place)

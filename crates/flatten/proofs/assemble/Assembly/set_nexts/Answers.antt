@@ -7,7 +7,7 @@ use Rattle.flat_net.specs.Makes.{with_next}
 use Rattle.elaborate.specs.declared.flat.FlatStatement.{FlatStatement}
 use Rattle.elaborate.specs.declared.flat.FlatKind.{FlatKind}
 use Rattle.net_assembly.specs.Built.{latch_out}
-use Rattle.net_assembly.specs.Shown.{signal_at, latch_data, latch_nexts}
+use Rattle.net_assembly.specs.Shown.{with_nexts, signal_at, latch_data, latch_nexts}
 use Rattle.net_assembly.proofs.Building.{statement_at, out_within}
 use Rattle.net_assembly.proofs.Nexts.{nexts_start, nexts_pass, nexts_take, no_data, read_within, first_is, latch_there, next_within, all_set, latch_count, take_whole, read_at}
 use Rattle.flatten.proofs.assemble.Assembly.set_nexts.Goals as goal
@@ -91,3 +91,18 @@ returns-clause-set c =
     let count = latch_count c.args.flat.now.statements c.args.self.now.signals.items c.args.self.now.maker.net.latches c.requires.outs in
     subst (All (λ (b : Bool). b ≡ true)) (sym (has.set ∙ ap (λ (ss : List FlatStatement). replicate (length (latch_nexts c.args.self.now.signals.items ss)) true ++ drop (length (latch_nexts c.args.self.now.signals.items ss)) c.args.self.now.maker.set) whole))
     (all_set (length (latch_nexts c.args.self.now.signals.items c.args.flat.now.statements)) c.args.self.now.maker.set (c.keeps.ensures.set ∙ count))
+
+pub index-latch-requires : goal.index-latch-requires
+index-latch-requires c =
+    let s : FlatStatement = c.statement-item.result in
+    let at = statement_at c.args.flat.now.statements c.as_slice-statement-items.result.now c.loop-statement.statement-index s c.as_slice-statement-items.ensures c.loop-statement-test.true c.statement-item.is in
+    let low = out_within (length c.args.flat.now.names) c.args.flat.now.statements c.loop-statement.statement-index s c.args.flat.now.within at in
+    let k = ap length c.loop-statement.invariant.1 in
+    omega (arith, low, k, c.requires.size)
+
+pub returns-clause-net : goal.returns-clause-net
+returns-clause-net c =
+    let before = c.args.self.now.maker.net in
+    let e = ap length c.as_slice-statement-items.ensures in
+    let whole = take_whole c.loop-statement.statement-index c.args.flat.now.statements (λ l. omega (arith, l, e, c.loop-statement-test.false)) in
+    c.loop-statement.invariant.0.net ∙ ap (λ (ss : List FlatStatement). record before { latches = with_nexts before.latches (latch_nexts c.args.self.now.signals.items ss) }) whole
