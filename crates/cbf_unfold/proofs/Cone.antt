@@ -1,7 +1,6 @@
 -- Each variable in the cone of an unfolded signal's literal is one of its variables.
 use Rattle.std.proofs.Common.{◌≡◌, ◌≢◌, ℕ, List, [], ◌∷◌, slice_get, Some}
 use Rattle.std.specs.List.{AllPairs, Contains}
-use Rattle.circuit_theory.specs.Query.{HasLeaf}
 use Rattle.circuit_theory.proofs.Lists.{Contains-head}
 use Rattle.base_tables.specs.Table.{AreDistinct}
 use Rattle.flat_net.specs.View.{NetView}

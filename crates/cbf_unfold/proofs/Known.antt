@@ -1,9 +1,9 @@
 -- How the literals of places follow from those of the places that they read, and stay while the graph and the table grow.
-use Rattle.std.proofs.Common.{◌≡◌, ◌-◌, ◌*◌, ◌<◌, ◌≤◌, ℕ, suc, max, List, [], ◌∷◌, length, map, slice_get, Some, refl, sym, subst, arith}
+use Rattle.std.proofs.Common.{◌≡◌, ◌-◌, ◌*◌, ◌<◌, ◌≤◌, ℕ, suc, max, List, [], ◌∷◌, length, map, slice_get, Some, refl, subst, arith}
 use Rattle.std.specs.List.{AllZip, Contains}
 use Rattle.circuit_theory.specs.Cover.{Cover}
 use Rattle.circuit_theory.specs.Circuit.{Gate as gate_equation, IsLatch}
-use Rattle.circuit_theory.specs.Tree.{Tree, Trees, Leaf, Branch, Nil, Cons, Unfolds, UnfoldsAll, IsInputNumber}
+use Rattle.circuit_theory.specs.Tree.{Trees, Leaf, Branch, Nil, Cons, Unfolds, UnfoldsAll, IsInputNumber}
 use Rattle.circuit_theory.proofs.Lists.{zip_weaker}
 use Rattle.flat_net.specs.declared.signals.Signal.{Signal}
 use Rattle.flat_net.specs.View.{NetView, circuit_of}
@@ -12,8 +12,8 @@ use Rattle.aig.specs.declared.node.Node.{Node}
 use Rattle.aig.specs.declared.node.Node.TheVariants.{Input}
 use Rattle.aig.specs.Graph.{Grows, IsLitOf}
 use Rattle.aig.specs.Rules.{IsCoverOf}
-use Rattle.aig.specs.Builds.{Builds, BuildsAll}
-use Rattle.aig.proofs.Growth.{Grows-length, Builds-grows}
+use Rattle.aig.specs.Builds.{BuildsAll}
+use Rattle.aig.proofs.Growth.{Grows-length}
 use Rattle.unfold_places.specs.Reach.{Adds}
 use Rattle.cbf_unfold.specs.View.{UnfolderView}
 use Rattle.cbf_unfold.specs.Unfolded.{IsKnown, IsNumberOf, IsUnfolded, IsLiteralOf, Fits, Holds}

@@ -1,35 +1,25 @@
 -- The literal of a place, by what drives its signal.
-use Rattle.std.proofs.Common.{◌≡◌, ◌∙◌, ◌+◌, ◌-◌, ◌*◌, ◌<◌, ◌≤◌, max, ℕ, List, [], ◌∷◌, ◌++◌, length, map, slice_get, Some, Result, Ok, Err, IfOk, IfSome, refl, sym, ap, subst, arith}
-use Rattle.std.specs.List.{All, AllZip, Contains}
-use Rattle.std.proofs.lemmas.List.Elements.{All-nil, All-cons}
-use Rattle.std.proofs.Math.Nat.{mul-le-mul_right}
+use Rattle.std.proofs.Common.{◌≡◌, ◌∙◌, ◌-◌, ℕ, List, map, slice_get, Some, Result, Ok, Err, IfOk, refl, ap, subst}
+use Rattle.std.specs.List.{Contains}
 use Rattle.circuit_theory.specs.Tree.{IsInputNumber}
-use Rattle.circuit_theory.specs.Cover.{Cover}
-use Rattle.circuit_theory.proofs.Lists.{All-from_each, zip_weaker}
+use Rattle.circuit_theory.proofs.Lists.{zip_weaker}
 use Rattle.circuit_theory.proofs.Numbers.{at_beside, slice_get-map}
-use Rattle.flat_net.specs.declared.signals.Signal.{Signal}
-use Rattle.flat_net.specs.declared.parts.Gate.{Gate}
 use Rattle.flat_net.specs.declared.parts.LatchAt.{LatchAt}
 use Rattle.flat_net.specs.declared.parts.Driver.TheVariants as driver
 use Rattle.flat_net.specs.View.{named, circuit_of, cover_of}
 use Rattle.flat_net.specs.Sound.{IsSound}
 use Rattle.aig.specs.declared.node.Lit.{Lit}
 use Rattle.aig.specs.declared.node.Node.{Node}
-use Rattle.aig.specs.Graph.{Grows, IsLitOf}
-use Rattle.aig.specs.declared.node.Node.TheVariants.{Input}
-use Rattle.aig.specs.Rules.{IsCoverOf, cover_room}
-use Rattle.aig.proofs.Growth.{Grows-refl}
-use Rattle.flat_net.specs.Weights.{weight_at, driver_weight, gate_weight}
+use Rattle.aig.specs.Graph.{Grows}
 use Rattle.cbf_unfold.specs.View.{UnfolderView, IsOrderOf}
 use Rattle.cbf_unfold.specs.Unfolded.{IsKnown}
 use Rattle.unfold_places.specs.Literals.{IsVariableLit, IsGateLit}
 use Rattle.cbf_unfold.specs.Building.{AreKnown, IsMet, IsReady}
-use Rattle.unfold_places.proofs.Lists.{adds_none, adds_weaker}
-use Rattle.unfold_places.proofs.Table.{interned}
+use Rattle.unfold_places.proofs.Lists.{adds_none}
 pub use Rattle.unfold_places.proofs.Zips.{zip_more_left}
 pub use Rattle.unfold_places.proofs.Growing.{zip_all, grown_none, cover_within_weight, input_grown, gate_grown, grown_as}
-use Rattle.flat_net.proofs.Drivers.{driven_gate, gate_equation_stands, latch_equation_stands}
-use Rattle.unfold_places.proofs.Steps.{gate_steps_to, latch_steps_to}
+use Rattle.flat_net.proofs.Drivers.{gate_equation_stands, latch_equation_stands}
+use Rattle.unfold_places.proofs.Steps.{latch_steps_to}
 use Rattle.cbf_unfold.proofs.Known.{Any, known_later, known_input, known_latch, known_gate}
 
 module _ (u : UnfolderView) (sound : IsSound u.net) (order : IsOrderOf u.net u.order) (p : ℕ × ℕ) where

@@ -1,6 +1,6 @@
 -- When a literal and its variables are the unfolding of a signal, and when what an unfolder keeps is right for a graph
 -- and a table.
-use Rattle.std.specs.Prelude.{◌≡◌, ℕ, ◌-◌, ◌*◌, ◌<◌, ◌≤◌, List, [], ◌∷◌, length, slice_get, Some, All, Contains}
+use Rattle.std.specs.Prelude.{◌≡◌, ℕ, ◌-◌, ◌*◌, ◌<◌, ◌≤◌, List, [], ◌∷◌, length, All, Contains}
 use Rattle.std.specs.List.{AllZip, sum_by}
 use Rattle.circuit_theory.specs.Tree.{Tree, Unfolds}
 use Rattle.circuit_theory.specs.Query.{Variable, AreVariables, ShiftBefore}

@@ -21,7 +21,7 @@ use Rattle.unfold_places.proofs.InputLists.{pairs_push}
 use Rattle.unfold_places.proofs.Lists.{pairs_at}
 use Rattle.reset_unfold.specs.Places.{IsLeafAt}
 use Rattle.reset_unfold.specs.Reach.{AreVisited, IsReach, AreLeavesOf, AreLeavesAt}
-use Rattle.reset_unfold.specs.Cone.{ConeView, IsCone, IsStart, IsBlock, IsLaterLeaf, HasLater}
+use Rattle.reset_unfold.specs.Cone.{ConeView, IsCone, IsBlock, IsLaterLeaf, HasLater}
 use Rattle.reset_unfold.proofs.LeafLists.{reach_all}
 
 module _ (c : Circuit ℕ) (s : ℕ) where

@@ -1,24 +1,18 @@
 -- The literal of a place, by what drives its signal.
-use Rattle.std.proofs.Common.{◌≡◌, ◌+◌, ◌-◌, ◌*◌, ◌<◌, ℕ, List, length, map, slice_get, Some, None, Result, Ok, Err, IfOk, IfSome, Bool, if◌then◌else◌, refl, sym, ap, subst, inr}
-use Rattle.std.specs.List.{All, AllZip, Contains}
-use Rattle.circuit_theory.specs.Cover.{Cover}
-use Rattle.circuit_theory.proofs.Lists.{All-from_each, zip_weaker}
-use Rattle.flat_net.specs.declared.signals.Signal.{Signal}
-use Rattle.flat_net.specs.declared.parts.Gate.{Gate}
+use Rattle.std.proofs.Common.{◌≡◌, ◌+◌, ◌-◌, ◌<◌, ℕ, List, length, slice_get, Some, None, Result, Ok, Err, IfOk, Bool, if◌then◌else◌, refl, sym, subst, inr}
+use Rattle.std.specs.List.{Contains}
+use Rattle.circuit_theory.proofs.Lists.{zip_weaker}
 use Rattle.flat_net.specs.declared.parts.LatchAt.{LatchAt}
 use Rattle.flat_net.specs.declared.parts.Driver.TheVariants as driver
 use Rattle.flat_net.specs.View.{cover_of, start_of}
 use Rattle.flat_net.specs.Sound.{IsSound}
 use Rattle.aig.specs.declared.node.Lit.{Lit}
 use Rattle.aig.specs.declared.node.Node.{Node}
-use Rattle.aig.specs.declared.node.Node.TheVariants.{Input}
-use Rattle.aig.specs.Graph.{Grows, IsLitOf}
-use Rattle.aig.specs.Rules.{IsCoverOf}
-use Rattle.flat_net.specs.Weights.{weight_at, driver_weight, gate_weight}
+use Rattle.aig.specs.Graph.{Grows}
 use Rattle.unfold_places.specs.Reach.{IsMet}
 use Rattle.unfold_places.proofs.Lists.{adds_none}
-use Rattle.flat_net.proofs.Drivers.{driven_gate, gate_equation_stands, latch_equation_stands}
-use Rattle.unfold_places.proofs.Steps.{gate_steps_to, latch_steps_to}
+use Rattle.flat_net.proofs.Drivers.{gate_equation_stands, latch_equation_stands}
+use Rattle.unfold_places.proofs.Steps.{latch_steps_to}
 use Rattle.unfold_places.proofs.Growing.{Any}
 use Rattle.reset_unfold.specs.View.{ResetView}
 use Rattle.reset_unfold.specs.Unfolded.{IsKnown}

@@ -1,6 +1,5 @@
 -- What a walk comes to is what the unfolding of its signal visits.
-use Rattle.std.proofs.Common.{◌≡◌, ◌+◌, ◌<◌, ◌≤◌, ℕ, suc, List, [], ◌∷◌, length, sym, subst, arith, inl, inr}
-use Rattle.std.specs.List.{Contains}
+use Rattle.std.proofs.Common.{◌≡◌, ℕ, suc, List, [], ◌∷◌, length, sym, subst, arith, inl, inr}
 use Rattle.circuit_theory.specs.Circuit.{Circuit}
 use Rattle.circuit_theory.proofs.Lists.{Contains-head}
 use Rattle.flat_net.specs.View.{NetView, circuit_of}

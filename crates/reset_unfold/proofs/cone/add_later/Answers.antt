@@ -1,5 +1,5 @@
 -- One leaf more, where it is an input's.
-use Rattle.std.proofs.Common.{◌<◌, ◌≤◌, ℕ, List, subst, arith}
+use Rattle.std.proofs.Common.{ℕ, List, subst, arith}
 use Rattle.std.proofs.lemmas.List.{take_all}
 use Rattle.reset_unfold.specs.Cone.{HasLater}
 use Rattle.reset_unfold.proofs.CycleLeaves.{later_none, later_skip, later_push, push_ordered}

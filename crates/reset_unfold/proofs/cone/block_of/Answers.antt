@@ -1,5 +1,5 @@
 -- One place more.
-use Rattle.std.proofs.Common.{◌≡◌, ◌∙◌, ◌+◌, ◌<◌, length, get_or, ap, arith}
+use Rattle.std.proofs.Common.{◌<◌, length, get_or, ap, arith}
 use Rattle.flat_net.proofs.Growth.{length-push}
 use Rattle.reset_unfold.proofs.CycleLeaves.{front_next}
 use Rattle.reset_unfold.proofs.cone.block_of.Goals as goal

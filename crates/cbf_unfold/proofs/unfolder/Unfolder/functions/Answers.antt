@@ -1,10 +1,9 @@
 -- Block after block, until all signals have their variables.
-use Rattle.std.proofs.Common.{◌≡◌, ◌∙◌, ◌-◌, ◌<◌, ◌≤◌, ℕ, List, length, take, sym, ap, subst, arith, rules, refl}
+use Rattle.std.proofs.Common.{◌∙◌, ℕ, List, length, take, sym, ap, subst, arith}
 use Rattle.std.specs.List.{AllZip}
 use Rattle.std.proofs.lemmas.List.{take_all}
 use Rattle.flat_net.specs.declared.signals.Signal.{Signal}
 use Rattle.flat_net.specs.View.{circuit_of}
-use Rattle.unfold_places.specs.declared.signal_function.Unfolded.{Unfolded}
 use Rattle.cbf_unfold.specs.Unfolded.{Fits}
 use Rattle.unfold_places.specs.Visitors.{AreLinks, AreInputNumbers}
 use Rattle.cbf_unfold.specs.Found.{IsFound}

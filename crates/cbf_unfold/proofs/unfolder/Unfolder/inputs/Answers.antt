@@ -1,7 +1,7 @@
 -- The net, the numbers and the places are the unfolder's own.
-use Rattle.std.proofs.Common.{◌<◌, ℕ, List, length, sym, subst, IfOk}
+use Rattle.std.proofs.Common.{◌<◌, ℕ, length, subst, IfOk}
 use Rattle.std.specs.List.{All}
-use Rattle.flat_net.specs.View.{NetView, circuit_of}
+use Rattle.flat_net.specs.View.{circuit_of}
 use Rattle.flat_net.specs.Sound.{IsSound}
 use Rattle.aig.specs.declared.node.Lit.{Lit}
 use Rattle.cbf_unfold.specs.View.{IsOrderOf}

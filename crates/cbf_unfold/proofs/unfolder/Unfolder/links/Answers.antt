@@ -1,7 +1,7 @@
 -- The net and the places are the unfolder's own.
-use Rattle.std.proofs.Common.{◌<◌, ℕ, List, length, refl, sym, subst, arith, IfOk, ◌^◌, ap}
+use Rattle.std.proofs.Common.{◌<◌, ℕ, length, refl, subst, arith, IfOk, ap}
 use Rattle.std.specs.List.{All}
-use Rattle.flat_net.specs.View.{NetView, circuit_of}
+use Rattle.flat_net.specs.View.{circuit_of}
 use Rattle.flat_net.specs.Sound.{IsSound}
 use Rattle.aig.specs.declared.node.Lit.{Lit}
 use Rattle.unfold_places.specs.Planned.{IsPlanned}

@@ -1,5 +1,5 @@
 -- The only signal of its list.
-use Rattle.std.proofs.Common.{◌≡◌, ◌∙◌, ◌<◌, ℕ, List, [], ◌∷◌, length, slice_get, Some, sym, ap, subst, arith, refl}
+use Rattle.std.proofs.Common.{◌≡◌, ◌∙◌, ℕ, List, [], ◌∷◌, length, slice_get, Some, sym, ap, subst, refl}
 use Rattle.std.specs.List.{Contains}
 use Rattle.std.proofs.lemmas.Result.{IfOk-weaker}
 use Rattle.flat_net.specs.declared.signals.Signal.{Signal}

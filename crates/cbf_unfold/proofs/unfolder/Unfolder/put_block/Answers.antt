@@ -1,17 +1,15 @@
 -- The block's signals have their variables by the words of the places.
-use Rattle.std.proofs.Common.{◌≡◌, ◌∙◌, ◌+◌, ◌-◌, ◌^◌, ◌<◌, ◌≤◌, ℕ, List, length, take, drop, get_or, slice_get, Some, sym, ap, subst, arith, rules, refl}
-use Rattle.std.specs.List.{All, AllZip, Contains}
+use Rattle.std.proofs.Common.{◌≡◌, ◌∙◌, ◌+◌, ◌-◌, ◌^◌, ◌<◌, ℕ, List, length, take, drop, slice_get, sym, ap, subst, arith, refl}
+use Rattle.std.specs.List.{All, Contains}
 use Rattle.std.proofs.lemmas.Option.{slice_get-get_or}
 use Rattle.circuit_theory.proofs.Lists.{zip_length}
 use Rattle.flat_net.specs.declared.signals.Signal.{Signal}
 use Rattle.flat_net.proofs.Growth.{length-push}
 use Rattle.flat_net.specs.View.{circuit_of}
 use Rattle.aig.specs.declared.node.Lit.{Lit}
-use Rattle.unfold_places.specs.declared.signal_function.Unfolded.{Unfolded}
 use Rattle.cbf_unfold.specs.Unfolded.{Fits}
 use Rattle.cbf_unfold.specs.Building.{AreNumbered}
 use Rattle.unfold_places.specs.Visitors.{AreVisitors, AreCandidates, with_bits}
-use Rattle.cbf_unfold.specs.Found.{IsFound}
 use Rattle.unfold_places.proofs.Candidates.{candidates_near}
 use Rattle.cbf_unfold.proofs.Listing.{part_at, part_length, drop_at, take_at, found_more, found_push}
 use Rattle.cbf_unfold.proofs.unfolder.Unfolder.put_block.Goals as goal

@@ -1,6 +1,6 @@
 -- One signal more has its literal, and the others keep theirs.
-use Rattle.std.proofs.Common.{◌≡◌, ◌∙◌, ◌+◌, ◌<◌, ◌++◌, ℕ, List, length, map, take, get_or, sym, ap, subst, arith, rules}
-use Rattle.std.specs.List.{All, AllZip, Contains}
+use Rattle.std.proofs.Common.{◌∙◌, ◌+◌, ◌<◌, ◌++◌, List, length, map, take, get_or, sym, ap, subst, rules}
+use Rattle.std.specs.List.{AllZip, Contains}
 use Rattle.std.proofs.lemmas.List.{take_all, append-nil}
 use Rattle.std.proofs.lemmas.List.Elements.{All-get_or}
 use Rattle.flat_net.specs.declared.signals.Signal.{Signal}

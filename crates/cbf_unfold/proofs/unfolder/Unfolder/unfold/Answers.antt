@@ -1,5 +1,5 @@
 -- The signal's literal, and its variables, which the table has.
-use Rattle.std.proofs.Common.{◌≡◌, ◌∙◌, ℕ, List, sym, subst, arith}
+use Rattle.std.proofs.Common.{◌∙◌, ℕ, List, sym, subst, arith}
 use Rattle.std.specs.List.{Contains}
 use Rattle.std.proofs.lemmas.List.Elements.{Contains-push}
 use Rattle.flat_net.specs.Sound.{IsSound}

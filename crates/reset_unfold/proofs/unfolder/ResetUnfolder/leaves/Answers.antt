@@ -1,5 +1,5 @@
 -- The leaves among all places that the signal visits.
-use Rattle.std.proofs.Common.{◌+◌, ◌<◌, ◌^◌, ℕ, List, [], length, sym, subst}
+use Rattle.std.proofs.Common.{◌<◌, ℕ, List, [], length, sym, subst}
 use Rattle.std.specs.List.{All, AllPairs}
 use Rattle.flat_net.specs.View.{NetView, circuit_of}
 use Rattle.unfold_places.specs.Places.{PlaceBefore}

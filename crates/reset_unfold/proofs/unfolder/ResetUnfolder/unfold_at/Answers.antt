@@ -1,6 +1,6 @@
 -- The signal's literal, and its variables, which the table has.
-use Rattle.std.proofs.Common.{◌≡◌, ◌∙◌, ◌+◌, ◌<◌, ℕ, List, [], ◌∷◌, length, sym, ap, subst, arith, rules}
-use Rattle.std.specs.List.{All, AllZip, Contains}
+use Rattle.std.proofs.Common.{◌∙◌, ◌<◌, ℕ, List, [], ◌∷◌, length, sym, subst, arith, rules}
+use Rattle.std.specs.List.{All, Contains}
 use Rattle.std.proofs.lemmas.List.Elements.{Contains-push}
 use Rattle.reset_laws.specs.Weight.{IsResetOver}
 use Rattle.flat_net.specs.View.{NetView, circuit_of}

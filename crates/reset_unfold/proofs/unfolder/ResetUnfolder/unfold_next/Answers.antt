@@ -1,17 +1,15 @@
 -- The signal's literal, and its variables, which the table has.
-use Rattle.std.proofs.Common.{◌≡◌, ◌∙◌, ◌+◌, ◌<◌, ℕ, List, [], ◌∷◌, ◌++◌, length, Err, refl, sym, ap, subst, arith, rules}
-use Rattle.std.specs.List.{All, AllZip, Contains}
+use Rattle.std.proofs.Common.{◌≡◌, ◌∙◌, ◌<◌, ℕ, List, [], ◌∷◌, ◌++◌, length, sym, subst, rules}
+use Rattle.std.specs.List.{All, Contains}
 use Rattle.std.proofs.lemmas.List.Elements.{Contains-push}
 use Rattle.reset_laws.specs.Weight.{IsResetOver}
-use Rattle.flat_net.specs.View.{NetView, circuit_of}
+use Rattle.flat_net.specs.View.{circuit_of}
 use Rattle.flat_net.specs.Sound.{IsSound}
 use Rattle.unfold_places.proofs.Lists.{not_both}
 use Rattle.reset_unfold.specs.Places.{starts_of}
-use Rattle.reset_unfold.specs.Reach.{AreLeavesAt}
 use Rattle.reset_unfold.specs.Unfolded.{IsResetUnfolded, FitsReset}
 use Rattle.reset_unfold.specs.Building.{IsLaterReset}
-use Rattle.reset_unfold.specs.Cone.{ConeView, IsCone}
-use Rattle.reset_unfold.proofs.Finish.{order_here, base_here, room_here, leaves_here, leaves_listed, numbered_from, cone_here, cone_there, leaves_now}
+use Rattle.reset_unfold.proofs.Finish.{order_here, base_here, room_here, leaves_listed, numbered_from, cone_here, cone_there, leaves_now}
 use Rattle.reset_unfold.proofs.unfolder.ResetUnfolder.unfold_next.Goals as goal
 
 pub root-requires : goal.root-requires

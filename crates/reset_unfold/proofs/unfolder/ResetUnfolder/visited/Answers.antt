@@ -1,5 +1,5 @@
 -- All places are visited, as none has been met.
-use Rattle.std.proofs.Common.{◌≡◌, ◌+◌, ◌<◌, ◌≤◌, ℕ, List, [], ◌∷◌, length, sym, subst, arith, rules}
+use Rattle.std.proofs.Common.{◌<◌, length, sym, subst, arith}
 use Rattle.flat_net.specs.View.{NetView}
 use Rattle.reset_unfold.proofs.Finish.{reach_alone, over_walk}
 use Rattle.reset_unfold.proofs.unfolder.ResetUnfolder.visited.Goals as goal
