@@ -13,7 +13,7 @@ use crate::fitting::first_unlike;
 use crate::told::{Difference, Told, told_by};
 use event_variables::{EventGraph, MAX_CONFLICTS, NoMemory};
 use pair_decide::{Decision, Proof};
-use std::alloc::{AllocError, AllocFailed, Global};
+use std::alloc::{AllocFailed, Global};
 
 /// The most nodes of the event graph while classes are made.
 const NODES: usize = 536_870_912;
@@ -47,17 +47,6 @@ impl From<NoMemory> for Unfit {
     ghost from_gives = { λ _ e. e ≡ unfit.NoMemory };
 
     fn from(_error: NoMemory) -> Unfit {
-        Unfit::NoMemory
-    }
-}
-
-impl From<AllocError> for Unfit {
-    ghost use Rattle.std.specs.Prelude.{◌≡◌};
-    ghost use Rattle.class_search.specs.declared.search.Unfit.TheVariants as unfit;
-
-    ghost from_gives = { λ _ e. e ≡ unfit.NoMemory };
-
-    fn from(_error: AllocError) -> Unfit {
         Unfit::NoMemory
     }
 }

@@ -23,11 +23,21 @@ use std::alloc::Global;
 use std::marker::Model;
 
 /// A literal, and the places that its unfolding visits, each with its ways.
-#[derive(Drop)]
 pub struct Unfolding {
     pub lit: Lit,
     pub table: PlaceTable,
     pub ways: Vec<Ways>,
+}
+
+/// It is let go by one call: an owner isn't taken apart field by field at each way out.
+impl Drop for Unfolding {
+    fn drop(self) {
+        let Unfolding {
+            lit: _,
+            table: _,
+            ways: _,
+        } = self;
+    }
 }
 
 /// Makes the literals of signals of one circuit. Each signal in a frame, an event node with a latch that may be put there, gets its

@@ -1,9 +1,9 @@
 -- Assignments of the variables that a literal reads.
-use Rattle.std.proofs.Common.{◌≡◌, ◌≢◌, ◌∙◌, ℕ, suc, ◌+◌, ◌*◌, ◌<◌, ◌≤◌, Bool, true, false, List, [], ◌∷◌, length, set, get_or, slice_get, Some, refl, sym, ap, arith}
+use Rattle.std.proofs.Common.{◌≡◌, ◌≢◌, ◌∙◌, ℕ, suc, ◌+◌, ◌*◌, ◌<◌, ◌≤◌, Bool, true, false, List, [], ◌∷◌, length, set, get_or, slice_get, Some, refl, sym, ap, arith, ◌++◌, take, drop, append-nil}
 use Rattle.std.specs.Prelude.{◌==◌, Contains}
 use Rattle.std.specs.List.{AllPairs}
 use Rattle.std.proofs.lemmas.Bool.Decides.{Decides-eqb}
-use Rattle.std.proofs.lemmas.List.{length-set, get_or-set_same, get_or-set_other}
+use Rattle.std.proofs.lemmas.List.{length-set, get_or-set_same, get_or-set_other, take_all, drop_all}
 use Rattle.std.proofs.lemmas.Option.{slice_get-get_or, slice_get_within, get_or_from_slice_get}
 use Rattle.circuit_theory.proofs.Lists.{at_of, of_at, only, Contains-head}
 use Rattle.aig.specs.declared.node.Node.{Node}
@@ -96,3 +96,7 @@ value_is g graph x within c is vars bits assignment distinct each covers size ha
         let j = at_of vars v (covers n v reach at) in
         let low = vars_of-member g n (Input v) at in
         has j.0 v (slice_get_within vars j.0 v j.1) j.1 (omega (arith, low, size)) ∙ assigned_to-at vars bits distinct each j.0 v j.1
+
+-- a list that is written over as a whole is what was written
+pub written_over : (old new : List Bool) (n : ℕ) → length new ≡ length old → length new ≤ n → take n (new ++ drop (length new) old) ≡ new
+written_over old new n long fits = ap (λ (rest : List Bool). take n (new ++ rest)) (drop_all (length new) old (omega (arith, long))) ∙ (ap (take n) (append-nil new) ∙ take_all n new fits)

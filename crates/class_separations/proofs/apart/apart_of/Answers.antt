@@ -1,5 +1,5 @@
 -- The member of the class, and the value of its enable.
-use Rattle.std.proofs.Common.{◌≡◌, ◌≢◌, ◌∙◌, ◌*◌, ◌<◌, ℕ, List, [], ◌∷◌, length, Some, refl, sym, ap, subst}
+use Rattle.std.proofs.Common.{◌≡◌, ◌≢◌, ◌∙◌, ◌*◌, ◌<◌, ℕ, List, [], ◌∷◌, length, Some, refl, sym, ap, subst, arith}
 use Rattle.std.specs.List.{AllPairs}
 use Rattle.std.proofs.lemmas.Option.{slice_get-get_or, slice_get_within}
 use Rattle.class_search.proofs.flat_net.Places.{one_at}
@@ -39,3 +39,9 @@ returns c =
       left = c.in_ok-left.ensures ∙ (λ i. value (c.aig.ensures i) (assigned_to (c.as_slice-vars.ensures i) (c.as_slice-bits.ensures i)) ((sym same i).value.0));
       right = refl;
     }
+
+pub index-requires : goal.index-requires
+index-requires c = let inside = slice_get_within c.args.class.now.tags.items c.args.told.now.member c.requires.tag c.requires.tag_at in omega (arith, inside, c.args.class.now.tags.ok)
+
+pub index-enable-requires : goal.index-enable-requires
+index-enable-requires c = let inside = slice_get_within c.args.class.now.enables.items c.args.told.now.member c.requires.enable c.requires.enable_at in omega (arith, inside, c.args.class.now.enables.ok)

@@ -3,7 +3,7 @@ use Rattle.std.proofs.Common.{◌∙◌, sym, arith}
 use Rattle.event_variables.proofs.event_nodes.Growing.{grows_refl}
 use Rattle.event_reach.proofs.Making.{no_nodes}
 use Rattle.event_literals.specs.Walk.{enable_start}
-use Rattle.event_functions.proofs.Refusing.{from_ok}
+use Rattle.event_functions.proofs.Refusing.{from_ok, many_or_large}
 use Rattle.class_totals.proofs.enable_refusal.enable_nodes.Goals as goal
 
 pub returns-clause-many : goal.returns-clause-many
@@ -19,3 +19,6 @@ returns-then-nodes-ge-NODES-clause-made c = λ l at. no_nodes c.args.circuit.now
 
 pub returns-then-nodes-ge-NODES-clause-grows : goal.returns-then-nodes-ge-NODES-clause-grows
 returns-then-nodes-ge-NODES-clause-grows c = grows_refl c.args.events.now
+
+pub returns-then-nodes-ge-NODES-clause-large : goal.returns-then-nodes-ge-NODES-clause-large
+returns-then-nodes-ge-NODES-clause-large c = λ is. many_or_large is

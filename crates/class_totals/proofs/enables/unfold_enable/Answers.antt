@@ -11,7 +11,7 @@ use Rattle.event_literals.specs.Walk.{HasCountedStart, IsCounting, enable_start}
 use Rattle.edbf_unfold.proofs.Caring.{enable_later}
 use Rattle.event_variables.proofs.Meaning.{visited_inputs}
 use Rattle.event_functions.specs.Refused.{IsOverweight}
-use Rattle.event_functions.proofs.Refusing.{error_is}
+use Rattle.event_functions.proofs.Refusing.{error_is, refused_memory, refused_value}
 use Rattle.event_functions.proofs.Growing.{care_lit_later}
 use Rattle.event_functions.proofs.Totaling.{own_visited, signals_of, nodes_of, total_counting, total_counted, total_over, children_same}
 use Rattle.class_totals.proofs.enables.unfold_enable.Goals as goal
@@ -94,3 +94,11 @@ returns-in_err-count_all-clause-grows c = c.visit_enable.ensures.grows
 
 pub returns-in_err-vars-clause-grows : goal.returns-in_err-vars-clause-grows
 returns-in_err-vars-clause-grows c = grows_trans c.args.events.now c.visit_enable.new.events c.visited_variables.new.events c.visit_enable.ensures.grows c.visited_variables.ensures.grows
+
+pub returns-in_err-vars-clause-refused : goal.returns-in_err-vars-clause-refused
+returns-in_err-vars-clause-refused c =
+    let p = err_from_is_err_and c.from_residual-in_err-vars.result c.from_residual-in_err-vars.ensures.1 in
+    λ l at. rw (p.1, p.2) (refused_memory c.args.circuit.now c.args.events.now.children c.visited_variables.new.events.children (enable_start l) c.args.total.now.places)
+
+pub returns-clause-refused : goal.returns-clause-refused
+returns-clause-refused c = λ l at. refused_value _ _ _ _ _ _

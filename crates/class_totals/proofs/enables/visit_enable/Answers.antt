@@ -8,7 +8,7 @@ use Rattle.event_variables.specs.event_nodes.Visited.{places_weight}
 use Rattle.event_variables.proofs.event_nodes.Growing.{grows_refl, grows_trans}
 use Rattle.event_variables.proofs.event_nodes.Lists.{adds_none}
 use Rattle.event_reach.proofs.Making.{no_nodes}
-use Rattle.event_functions.proofs.Refusing.{error_is}
+use Rattle.event_functions.proofs.Refusing.{error_is, value_apart}
 use Rattle.event_functions.proofs.Totaling.{visits_over}
 use Rattle.event_functions.proofs.Visiting.{fresh_circuit, fresh_known, fresh_ready, counting_on}
 use Rattle.class_totals.proofs.enables.visit_enable.Goals as goal
@@ -74,3 +74,9 @@ returns-clause-grows c = grows_trans c.args.events.now c.enable.new.events c.ena
 
 pub returns-in_err-room-clause-grows : goal.returns-in_err-room-clause-grows
 returns-in_err-room-clause-grows c = grows_refl c.args.events.now
+
+pub returns-in-Ok-clause-many : goal.returns-in-Ok-clause-many
+returns-in-Ok-clause-many c = λ is. value_apart is
+
+pub returns-in-Ok-clause-large : goal.returns-in-Ok-clause-large
+returns-in-Ok-clause-large c = λ is. value_apart is

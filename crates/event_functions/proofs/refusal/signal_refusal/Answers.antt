@@ -2,6 +2,7 @@
 use Rattle.event_variables.proofs.event_nodes.Growing.{grows_refl}
 use Rattle.event_reach.proofs.Making.{no_nodes}
 use Rattle.event_functions.specs.Functions.{signal_start}
+use Rattle.event_functions.proofs.Refusing.{memory_or_many, memory_or_large, many_or_large}
 use Rattle.event_functions.proofs.refusal.signal_refusal.Goals as goal
 
 pub returns-in-TooLarge-clause-large : goal.returns-in-TooLarge-clause-large
@@ -21,3 +22,12 @@ returns-in-NoMemory-clause-made c = no_nodes c.args.circuit.now c.args.events.no
 
 pub returns-in-NoMemory-clause-grows : goal.returns-in-NoMemory-clause-grows
 returns-in-NoMemory-clause-grows c = grows_refl c.args.events.now
+
+pub returns-in-NoMemory-clause-many : goal.returns-in-NoMemory-clause-many
+returns-in-NoMemory-clause-many c = λ is. memory_or_many is
+
+pub returns-in-NoMemory-clause-large : goal.returns-in-NoMemory-clause-large
+returns-in-NoMemory-clause-large c = λ is. memory_or_large is
+
+pub returns-in-TooManyEvents-clause-large : goal.returns-in-TooManyEvents-clause-large
+returns-in-TooManyEvents-clause-large c = λ is. many_or_large is

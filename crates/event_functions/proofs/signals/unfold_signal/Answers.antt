@@ -12,7 +12,7 @@ use Rattle.event_variables.proofs.Meaning.{visited_inputs}
 use Rattle.event_literals.proofs.Known.{known_at_later}
 use Rattle.event_functions.specs.Functions.{signal_start}
 use Rattle.event_functions.specs.Refused.{IsOverweight}
-use Rattle.event_functions.proofs.Refusing.{error_is}
+use Rattle.event_functions.proofs.Refusing.{error_is, refused_memory, refused_value}
 use Rattle.event_functions.proofs.Growing.{care_lit_later}
 use Rattle.event_functions.proofs.Totaling.{own_visited, signals_of, nodes_of, total_counting, total_counted, total_over, children_same}
 use Rattle.event_functions.proofs.signals.unfold_signal.Goals as goal
@@ -96,3 +96,11 @@ returns-in_err-count_all-clause-grows c = c.visit_signal.ensures.grows
 
 pub returns-in_err-vars-clause-grows : goal.returns-in_err-vars-clause-grows
 returns-in_err-vars-clause-grows c = grows_trans c.args.events.now c.visit_signal.new.events c.visited_variables.new.events c.visit_signal.ensures.grows c.visited_variables.ensures.grows
+
+pub returns-in_err-vars-clause-refused : goal.returns-in_err-vars-clause-refused
+returns-in_err-vars-clause-refused c =
+    let p = err_from_is_err_and c.from_residual-in_err-vars.result c.from_residual-in_err-vars.ensures.1 in
+    rw (p.1, p.2) (refused_memory c.args.circuit.now c.args.events.now.children c.visited_variables.new.events.children (signal_start c.args.s.0) c.args.total.now.places)
+
+pub returns-clause-refused : goal.returns-clause-refused
+returns-clause-refused c = refused_value _ _ _ _ _ _

@@ -10,7 +10,7 @@ use Rattle.event_variables.specs.event_nodes.Visited.{places_weight}
 use Rattle.event_variables.proofs.event_nodes.Growing.{grows_refl, grows_trans}
 use Rattle.event_variables.proofs.event_nodes.Lists.{adds_none}
 use Rattle.event_reach.proofs.Making.{no_nodes}
-use Rattle.event_functions.proofs.Refusing.{error_is}
+use Rattle.event_functions.proofs.Refusing.{error_is, value_apart}
 use Rattle.event_functions.proofs.Totaling.{visits_over}
 use Rattle.event_functions.proofs.Visiting.{fresh_circuit, fresh_known, fresh_ready, counting_on}
 use Rattle.event_functions.proofs.signals.visit_signal.Goals as goal
@@ -80,3 +80,9 @@ returns-clause-grows c = grows_trans c.args.events.now c.unfold.new.events c.sig
 
 pub returns-in_err-room-clause-grows : goal.returns-in_err-room-clause-grows
 returns-in_err-room-clause-grows c = grows_refl c.args.events.now
+
+pub returns-in-Ok-clause-many : goal.returns-in-Ok-clause-many
+returns-in-Ok-clause-many c = λ is. value_apart is
+
+pub returns-in-Ok-clause-large : goal.returns-in-Ok-clause-large
+returns-in-Ok-clause-large c = λ is. value_apart is

@@ -30,3 +30,6 @@ returns c =
     ∙ (ap (λ (nodes : List Node). lit_bit (node_bits nodes (assigned c.as_slice-2.result.now)) c.in_ok-cones.cones.left.0) c.as_slice.ensures
     ∙ (ap (λ (bits : List Bool). lit_bit (node_bits c.in_ok-cones.cones.part (assigned bits)) c.in_ok-cones.cones.left.0) c.as_slice-2.ensures.value
     ∙ value_is c.args.aig.now c.keeps.ensures.graph c.args.l.0 c.requires.literal c.in_ok-cones.cones c.in_ok-cones.ensures c.args.vars.now c.args.bits.now c.in_ok-assignment.assignment.items c.requires.distinct c.requires.each c.requires.covers (c.in_ok-assignment.ensures.size ∙ c.vars.ensures) c.in_ok-assignment.ensures.bits))
+
+pub bit_in-requires-clause-places : goal.bit_in-requires-clause-places
+bit_in-requires-clause-places c = omega (arith, ap length c.as_mut_slice.ensures.value, ap length c.as_slice.ensures, c.in_ok-scratch.ensures.len, c.in_ok-scratch.scratch.ok, c.len.ensures)

@@ -37,3 +37,7 @@ pub returns-clause-here : goal.returns-clause-here
 returns-clause-here c =
     let whole : length c.args.table.now ≤ c.loop-number.number = omega (arith, c.loop-number-test.false, c.len-number-end.ensures) in
     subst (λ (ps : List (ℕ × ℕ)). IsCareOf c.args.self.now.circuit c.loop-number.events c.args.self.now.frames ps c.loop-number.care.0) (take_all c.loop-number.number c.args.table.now whole) c.loop-number.invariant.care
+
+pub returns-in_err-care-clause-grown : goal.returns-in_err-care-clause-grown
+returns-in_err-care-clause-grown c =
+    grown_trans c.args.events.now c.loop-number.events c.with_enable.new.events (2 * c.loop-number.number) 2 (2 * length c.args.table.now) c.loop-number.invariant.grown c.with_enable.ensures.grown (omega (arith, c.loop-number-test.true, c.len-number-end.ensures))

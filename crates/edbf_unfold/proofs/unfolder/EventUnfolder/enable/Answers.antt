@@ -1,11 +1,11 @@
 -- Both functions of the latch are unfolded under it, and the care is that of what the first one's walk met.
-use Rattle.std.proofs.Common.{◌≡◌, ◌∙◌, ◌+◌, ◌*◌, ℕ, List, [], length, slice_get, Some, refl, sym, ap, subst, arith}
+use Rattle.std.proofs.Common.{◌≡◌, ◌∙◌, ◌+◌, ◌*◌, ℕ, List, [], length, slice_get, Some, refl, sym, ap, subst, arith, ◌<◌}
 use Rattle.event_literals.specs.LatchAt.{LatchAt}
 use Rattle.event_literals.specs.Sound.{IsSound}
 use Rattle.event_literals.specs.View.{NetView}
 use Rattle.event_literals.proofs.Places.{one_at}
 use Rattle.event_nodes.specs.View.{EventCircuitView, IsEventCircuit}
-use Rattle.event_nodes.specs.Visited.{IsWeighed}
+use Rattle.event_nodes.specs.Visited.{IsWeighed, places_weight}
 use Rattle.event_nodes.proofs.Growing.{grows_trans}
 use Rattle.event_nodes.proofs.Lists.{adds_trans}
 use Rattle.event_literals.specs.declared.event_walk.frames.Put.TheVariants.{Low}
@@ -16,11 +16,12 @@ use Rattle.event_literals.specs.event_walk.Walk.{IsCounting, HasCountedStart, en
 use Rattle.event_literals.specs.Built.{AreMetOn}
 use Rattle.edbf_unfold.proofs.Caring.{enable_later}
 use Rattle.event_literals.proofs.event_walk.Exact.{counting_trans}
-use Rattle.event_literals.proofs.event_walk.Stepping.{refused_memory, refused_ok}
+use Rattle.event_literals.proofs.event_walk.Stepping.{refused_memory, refused_ok, refused_on}
 use Rattle.std.proofs.lemmas.Result.{err_from_is_err_and}
 use Rattle.edbf_unfold.proofs.Finishing.{ready_less, ready_next, unfolded_more, unfolded_trans, counting_same, finished_care, finished_count}
 use Rattle.event_literals.proofs.Going.{are_known_later}
 use Rattle.event_literals.proofs.Rooted.{next_within, enable_lit, walked_later, walked_met}
+use Rattle.event_nodes.proofs.Growth.{Grows-length}
 use Rattle.edbf_unfold.proofs.unfolder.EventUnfolder.enable.Goals as goal
 
 pub unfold_in-requires-clause-signal : goal.unfold_in-requires-clause-signal
@@ -175,3 +176,27 @@ returns-in_err-care-clause-refused c =
 
 pub returns-clause-refused : goal.returns-clause-refused
 returns-clause-refused c = refused_ok _ _ _ _
+
+pub latch_of-latch-requires : goal.latch_of-latch-requires
+latch_of-latch-requires c = subst (λ (n : NetView). c.args.j < length n.latches) (sym (c.net.ensures ∙ ap (λ (e : EventCircuitView). e.net) c.circuit-circuit.ensures)) c.requires.latch
+
+pub enable_of-requires-clause-low : goal.enable_of-requires-clause-low
+enable_of-requires-clause-low c =
+    let more = Grows-length c.unfold_in.new.events.graph c.unfold_in-2.new.events.graph c.in_ok-high.ensures.unfolded.0.grows.graph in
+    omega (arith, c.in_ok-low.ensures.here.within, more)
+
+pub enable_of-requires-clause-high : goal.enable_of-requires-clause-high
+enable_of-requires-clause-high c = c.in_ok-high.ensures.here.within
+
+pub returns-in_err-low-clause-refused : goal.returns-in_err-low-clause-refused
+returns-in_err-low-clause-refused c =
+    let p = err_from_is_err_and c.from_residual.result c.from_residual.ensures.1 in
+    let refused = c.in_err-low.ensures.refused in
+    rw (p.1, p.2) (refused_on c.args.self.now.circuit.net c.unfold_in.new.events.children c.unfold_in.new.counter.places c.in_err-low.field-0.0 refused.many refused.large)
+
+pub returns-in_err-high-clause-refused : goal.returns-in_err-high-clause-refused
+returns-in_err-high-clause-refused c =
+    let p = err_from_is_err_and c.from_residual-in_err-high.result c.from_residual-in_err-high.ensures.1 in
+    let refused = c.in_err-high.ensures.refused in
+    rw (p.1, p.2) (refused_on c.args.self.now.circuit.net c.unfold_in-2.new.events.children c.unfold_in-2.new.counter.places c.in_err-high.field-0.0 refused.many
+    (λ is. subst (λ (e : EventCircuitView). 2000000 < places_weight e.net c.unfold_in-2.new.counter.places) c.in_ok-low.ensures.unfolded.0.circuit (refused.large is)))

@@ -7,6 +7,7 @@ use Rattle.event_literals.specs.declared.event_walk.frames.Frame.{Frame}
 use Rattle.event_literals.specs.event_walk.Ready.{put_of}
 use Rattle.edbf_unfold.proofs.Caring.{put_not_free}
 use Rattle.event_literals.proofs.event_walk.Lent.{sound_of}
+use Rattle.std.proofs.lemmas.Option.{slice_get_within}
 use Rattle.edbf_unfold.proofs.unfolder.EventUnfolder.open_at.Goals as goal
 
 pub returns-in-Some-clause-none : goal.returns-in-Some-clause-none
@@ -27,3 +28,6 @@ returns-in-None-clause-here c =
         latch = (l.0.name, l.0.next.0, latch_equation_stands u.circuit.net sound c.args.place.1 c.args.j c.requires.latch l.0 l.1);
       },
     )
+
+pub frame-frame-requires : goal.frame-frame-requires
+frame-frame-requires c = slice_get_within c.args.self.now.frames c.args.place.0 c.requires.framed.0 c.requires.framed.1

@@ -10,6 +10,8 @@ use Rattle.event_literals.specs.Built.{AreMetOn}
 use Rattle.edbf_unfold.proofs.Finishing.{root_later, unfolded_more, counting_same, finished_care, finished_count, finished_reach, onward_at, framed_at}
 use Rattle.event_literals.proofs.Going.{are_known_later}
 use Rattle.event_literals.proofs.Rooted.{walked_met}
+use Rattle.std.proofs.lemmas.Result.{err_from_is_err_and}
+use Rattle.event_literals.proofs.event_walk.Stepping.{refused_memory, refused_ok}
 use Rattle.edbf_unfold.proofs.unfolder.EventUnfolder.unfold.Goals as goal
 
 pub returns-in_err-unfolding-clause-counting : goal.returns-in_err-unfolding-clause-counting
@@ -79,3 +81,16 @@ returns-clause-reach c =
     finished_reach c.unfold_in.new.self c.unfold_in.new.events c.care_of.new.events (subst (λ (e : EventCircuitView). IsSound e.net) same c.keeps.ensures.sound) (subst IsEventCircuit same c.keeps.ensures.circuit) c.keeps-3.ensures.events c.care_of.ensures.grown.grows (record { node = 0; put = Free }) refl c.args.s.0 _
     c.args.room c.in_ok-unfolding.unfolding.table c.in_ok-unfolding.unfolding.ways.items c.in_ok-unfolding.ensures.walked (record { place = c.args.s.0; left_out = None }) (refl, refl) c.in_ok-nodes.nodes c.only_always.result
     (subst (λ (ws : List Ways). AreNodesOf c.unfold_in.new.self.circuit c.unfold_in.new.self.frames c.in_ok-unfolding.unfolding.table ws c.in_ok-nodes.nodes) c.as_slice-2.ensures.value c.in_ok-nodes.ensures) c.only_always.ensures.yes c.only_always.ensures.no
+
+pub returns-clause-refused : goal.returns-clause-refused
+returns-clause-refused c = refused_ok _ _ _ _
+
+pub returns-in_err-care-clause-refused : goal.returns-in_err-care-clause-refused
+returns-in_err-care-clause-refused c =
+    let p = err_from_is_err_and c.from_residual-in_err-care.result c.from_residual-in_err-care.ensures.1 in
+    rw (p.1, p.2) (refused_memory c.args.self.now.circuit.net c.care_of.new.events.children c.unfold_in.new.counter.places)
+
+pub returns-in_err-nodes-clause-refused : goal.returns-in_err-nodes-clause-refused
+returns-in_err-nodes-clause-refused c =
+    let p = err_from_is_err_and c.from_residual-in_err-nodes.result c.from_residual-in_err-nodes.ensures.1 in
+    rw (p.1, p.2) (refused_memory c.args.self.now.circuit.net c.care_of.new.events.children c.unfold_in.new.counter.places)

@@ -10,6 +10,7 @@ use Rattle.event_literals.specs.declared.event_walk.frames.Step.{Step}
 use Rattle.edbf_unfold.proofs.Caring.{with_none, put_not_held, with_own, low_met, high_met}
 use Rattle.event_literals.proofs.Going.{are_known_later}
 use Rattle.event_literals.proofs.event_walk.Lent.{sound_of, latch_of_lent}
+use Rattle.event_literals.proofs.Lits.{grown_none}
 use Rattle.edbf_unfold.proofs.unfolder.EventUnfolder.with_latch.Goals as goal
 
 pub is_enabled-requires : goal.is_enabled-requires
@@ -95,3 +96,12 @@ pub returns-in-Some-clause-here : goal.returns-in-Some-clause-here
 returns-in-Some-clause-here c =
     with_none c.args.self.now.circuit c.args.events.now c.args.self.now.frames c.args.care.0 c.args.place c.requires.care
     (put_not_held c.args.self.now.circuit c.args.self.now.frames c.args.place c.frame-frame.result c.frame-frame.ensures c.in-Some.field-0 c.in-Some.ensures.here)
+
+pub frame-frame-requires : goal.frame-frame-requires
+frame-frame-requires c = slice_get_within c.args.self.now.frames c.args.place.0 c.requires.ready.frame c.requires.ready.at
+
+pub returns-else-is_enabled-clause-grown : goal.returns-else-is_enabled-clause-grown
+returns-else-is_enabled-clause-grown c = grown_none c.args.events.now 2
+
+pub returns-in-Some-clause-grown : goal.returns-in-Some-clause-grown
+returns-in-Some-clause-grown c = grown_none c.args.events.now 2

@@ -15,7 +15,7 @@ met-requires c = All-get_or (λ (f : Signal). IsMet c.args.self.now.memo (c.args
 pub loop-fanin-preserved : goal.loop-fanin-preserved
 loop-fanin-preserved c =
     let R : Signal → Lit → Type 0 = λ f y. Contains c.args.self.now.memo ((c.args.frame, f.0), y) in
-    subst (λ (l : List Lit). AllZip R (take (c.loop-fanin.fanin-index + 1) c.args.fanins.now) l) (sym c.in_ok-push.ensures.items)
+    subst (λ (l : List Lit). AllZip R (take (c.loop-fanin.fanin-index + 1) c.args.fanins.now) l) (sym {A = List Lit} c.in_ok-push.ensures.items)
     (zip_more_left R c.args.fanins.now c.loop-fanin.lits.items c.loop-fanin.fanin-index _ _ c.loop-fanin-test.true c.loop-fanin.invariant c.met.ensures)
 
 pub returns : goal.returns

@@ -72,7 +72,7 @@ loop-at-preserved c =
     let some = weight_positive c.net.result.now (subst IsSound (sym c.net.ensures) c.keeps.ensures.sound) c.pair-place.result.1 in
     let seen = All-at (IsSeen c.loop-at.self.circuit c.loop-at.self.frames c.loop-at.events.children) _ _ _ c.pair-place.ensures c.loop-at.invariant.walk.seen in
     record {
-      walk = subst (λ (o : List Ways). IsWalk c.args.self.now c.expand.new.self c.args.events.now c.expand.new.events c.args.root c.expand.new.table o (c.loop-at.at + 1) (c.loop-at.weight + c.in-Some.more) c.args.cap) (sym c.in_ok-push.ensures.items)
+      walk = subst (λ (o : List Ways). IsWalk c.args.self.now c.expand.new.self c.args.events.now c.expand.new.events c.args.root c.expand.new.table o (c.loop-at.at + 1) (c.loop-at.weight + c.in-Some.more) c.args.cap) (sym {A = List Ways} c.in_ok-push.ensures.items)
           (walk_more c.args.self.now c.loop-at.self c.expand.new.self c.args.events.now c.loop-at.events c.expand.new.events c.args.root c.loop-at.table c.expand.new.table c.loop-at.ways.items c.loop-at.at c.loop-at.weight c.in-Some.more c.args.cap c.pair-place.result
           c.in_ok-next.next c.loop-at.invariant.walk c.pair-place.ensures c.expand.ensures.step.opened c.expand.ensures.step.seen c.in_ok-next.ensures.expanded (omega (arith, c.expand.ensures.few, weight, c.in-Some.ensures.here)) (omega (arith, some, c.in-Some.ensures.here)) c.in-Some.ensures.room
           (c.in-Some.ensures.here ∙ weight));
