@@ -1,4 +1,3 @@
-pub mod Standing
 pub mod Naming
 pub mod Ready
 pub mod Setting

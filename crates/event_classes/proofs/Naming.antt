@@ -15,7 +15,7 @@ use Rattle.class_search.specs.declared.told.Told.{Told}
 use Rattle.class_separations.specs.declared.apart.Apart.{Apart}
 use Rattle.class_separations.specs.Telling.{HasKept, IsApartOf, always_apart}
 use Rattle.event_classes.specs.Named.{NamesLatches, AreNamed}
-use Rattle.event_classes.proofs.Standing.{at_set}
+use Rattle.class_fits.proofs.Standing.{at_set}
 
 none_at : {X : Type 0} (i : ℕ) (y : X) → slice_get [] i ≡ Some y → ⊥
 none_at zero y q = cc

@@ -31,7 +31,7 @@ use Rattle.class_fits.specs.Members.{IsAmong, HaveMembers, class_of_fit}
 use Rattle.class_fits.proofs.Fitting.{fit_first}
 use Rattle.event_classes.specs.declared.map.ClassMap.{ClassMap}
 use Rattle.event_classes.specs.Named.{AreNamed}
-use Rattle.event_classes.specs.Stand.{IsStand}
+use Rattle.class_fits.specs.Stand.{IsStand}
 use Rattle.event_classes.specs.Map.{IsWithin, IsMade, IsEnableAt, IsOwnAt, AreToldAt, FitsIn, IsClassSet, GoesOn, places_in, taken_of, with_next}
 use Rattle.event_classes.proofs.Naming.{named_joins, named_founds}
 use Rattle.event_classes.proofs.Ready.{ready_grows}
@@ -45,7 +45,7 @@ use Rattle.circuit_theory.specs.Frame.{EventSide}
 use Rattle.flat_net.proofs.Nets.{some_at}
 use Rattle.circuit_theory.proofs.Lists.{Contains-head}
 use Rattle.event_classes.proofs.Setting.{next_enabled, goes_on_with, next_given, class_now}
-use Rattle.event_classes.proofs.Standing.{stand_grows, classes_ready, class_within, function_moves, at_set, stand_known, stand_always, stand_joined, stand_founded}
+use Rattle.class_fits.proofs.Standing.{stand_grows, classes_ready, class_within, function_moves, at_set, stand_known, stand_always, stand_joined, stand_founded}
 
 -- the map is right while its event graph grows
 pub made_grows : (m n : ClassMap) → n ≡ record m { events = n.events; left_count = n.left_count; right_count = n.right_count } → IsEventGraph m.events → GrowsEvents m.events n.events → (IsWithin m → IsWithin n) → (rest : List (Either ℕ ℕ)) → IsMade m rest → IsMade n rest

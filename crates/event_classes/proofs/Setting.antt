@@ -30,7 +30,7 @@ use Rattle.class_totals.proofs.Going.{totals_stay}
 use Rattle.flat_net.proofs.Nets.{sound_is_net}
 use Rattle.event_classes.specs.declared.map.ClassMap.{ClassMap}
 use Rattle.event_classes.specs.Named.{AreNamed}
-use Rattle.event_classes.specs.Stand.{IsStand}
+use Rattle.class_fits.specs.Stand.{IsStand}
 use Rattle.event_classes.specs.Map.{IsWithin, IsMade, FitsIn, IsSetOn, IsClassSet, Counts, GoesOn, places_in, taken_of, with_next}
 
 pub latch_there : (n : NetView) (j : ℕ) → j < length n.latches → slice_get n.latches j ≡ Some (latch_at n j)

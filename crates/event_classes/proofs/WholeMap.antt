@@ -29,7 +29,7 @@ use Rattle.event_classes.specs.declared.map.ClassMap.{ClassMap}
 use Rattle.class_separations.specs.declared.apart.Apart.{Apart}
 use Rattle.class_separations.specs.Apart.{AreToldApart}
 use Rattle.event_classes.specs.Named.{AreNamed}
-use Rattle.event_classes.specs.Stand.{IsStand}
+use Rattle.class_fits.specs.Stand.{IsStand}
 use Rattle.event_classes.proofs.Naming.{named_none}
 use Rattle.event_classes.specs.Map.{IsMade, GoesOn, IsBegun, IsMadeTo, IsClassMapOf, places_in, taken_of}
 

@@ -1,4 +1,3 @@
-pub mod Stand
 pub mod Named
 pub mod Map
 pub mod Limits

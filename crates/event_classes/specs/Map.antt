@@ -29,7 +29,7 @@ use Rattle.class_separations.specs.Apart.{AreToldApart, AreToldOf}
 use Rattle.class_separations.specs.Telling.{AreToldIn}
 use Rattle.class_totals.specs.Totals.{HaveCounted, AreWithin}
 use Rattle.event_classes.specs.Named.{AreNamed}
-use Rattle.event_classes.specs.Stand.{IsStand}
+use Rattle.class_fits.specs.Stand.{IsStand}
 
 -- all that was counted is within its numbers
 pub record IsWithin (m : ClassMap) : Type 0 where

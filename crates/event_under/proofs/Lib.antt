@@ -3,3 +3,4 @@ pub mod Leaves
 pub mod Pairs
 pub mod Sequences
 pub mod Agreeing
+pub mod Making

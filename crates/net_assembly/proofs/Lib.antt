@@ -9,3 +9,4 @@ pub mod MainPorts
 pub mod ReadBy
 pub mod Rows
 pub mod Searching
+pub mod Begun

@@ -23,7 +23,7 @@ use Rattle.design_laws.proofs.FlatParts.{FlatDesign}
 use Rattle.design_laws.proofs.KeptNames.{latch_names_are}
 use Rattle.design_rows.proofs.Ranking.{is_ranked-sound, no_cycle}
 use Rattle.design_rows.specs.Small.{Small, IsSmall}
-use Rattle.sec_files.proofs.Moving.{single_up}
+use Rattle.net_alike.proofs.Moving.{single_up}
 use Rattle.aiger_read.specs.declared.aiger_file.file.AigerFile.{AigerFile}
 use Rattle.aiger_read.specs.aiger_file.aiger_graph.Circuit.{circuit_of_file}
 use Rattle.aiger_read.specs.aiger_file.aiger_graph.Loops.{HasLoop}

@@ -3,5 +3,4 @@ pub mod OneNamed
 pub mod Portless
 pub mod StimulusTexts
 pub mod Texts
-pub mod Moving
 pub mod NamedNets

@@ -1,6 +1,5 @@
 pub mod Formats
 pub mod Loading
 pub mod Stimuli
-pub mod Named
 pub mod job_files
 pub mod aiger_read

@@ -13,7 +13,7 @@ use Rattle.event_classes.proofs.Stopping.{class_before}
 use Rattle.event_classes.specs.declared.map.ClassMap.{ClassMap}
 use Rattle.event_classes.proofs.NextLatch.{made_grows, within_grows, next_same, fit_place, found_fits_in, enable_grows}
 use Rattle.event_classes.proofs.Found.{told_by, own_grows}
-use Rattle.event_classes.proofs.Standing.{classes_ready}
+use Rattle.class_fits.proofs.Standing.{classes_ready}
 use Rattle.event_classes.proofs.Setting.{goes_on_from}
 use Rattle.event_classes.proofs.joining.join_asked.Goals as goal
 

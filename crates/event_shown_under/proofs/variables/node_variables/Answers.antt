@@ -3,7 +3,7 @@ use Rattle.std.proofs.Common.{◌≡◌, ℕ, ◌<◌, ◌≤◌, List, length, 
 use Rattle.std.proofs.lemmas.Option.{slice_get-get_or}
 use Rattle.event_nodes.specs.Nodes.{EventGraphView}
 use Rattle.flat_net.proofs.Places.{All-at}
-use Rattle.event_shown_under.proofs.Making.{next_made}
+use Rattle.event_under.proofs.Making.{next_made}
 use Rattle.event_shown_under.proofs.variables.node_variables.Goals as goal
 
 pub number-requires-clause-node : goal.number-requires-clause-node

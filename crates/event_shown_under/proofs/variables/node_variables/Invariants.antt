@@ -1,5 +1,5 @@
 use Rattle.std.proofs.Common.{take}
-use Rattle.event_shown_under.proofs.Making.{AreMade}
+use Rattle.event_under.proofs.Making.{AreMade}
 use Rattle.event_shown_under.proofs.variables.node_variables.Given as goal
 
 abbrev pub invariant-loop-i : goal.invariant-loop-i

@@ -3,7 +3,7 @@ use Rattle.std.specs.Prelude.{IfOk}
 use Rattle.elaborate.specs.declared.flat.FlatStatement.{FlatStatement}
 use Rattle.net_assembly.proofs.Building.{statement_at}
 use Rattle.flatten.specs.Graph.{IsSourceWithin, quick_reads}
-use Rattle.flatten.proofs.Begun.{reads_are, quick_other}
+use Rattle.flatten.proofs.SourceReads.{reads_are, quick_other}
 use Rattle.flatten.proofs.loops.reads_of.Goals as goal
 
 pub returns-in-Latch : goal.returns-in-Latch

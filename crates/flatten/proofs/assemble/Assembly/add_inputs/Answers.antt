@@ -4,7 +4,7 @@ use Rattle.base_tables.specs.Table.{is_among}
 use Rattle.flat_net.specs.Makes.{with_input}
 use Rattle.net_assembly.specs.Built.{IsBuilt, unclocked, with_inputs}
 use Rattle.net_assembly.proofs.Building.{input_at, input_within, name_in, input_fresh, inputs_take, room_for, new_name}
-use Rattle.flatten.proofs.Begun.{inputs_pass}
+use Rattle.net_assembly.proofs.Begun.{inputs_pass}
 use Rattle.flatten.proofs.assemble.Assembly.add_inputs.Goals as goal
 
 pub add_input-requires-clause-room : goal.add_input-requires-clause-room

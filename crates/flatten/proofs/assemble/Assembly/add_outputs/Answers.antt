@@ -1,7 +1,7 @@
 use Rattle.std.proofs.Common.{◌<◌, ℕ, get_or, subst, sym}
 use Rattle.net_assembly.proofs.Building.{input_at, input_within, name_in}
 use Rattle.net_assembly.proofs.Nexts.{read_at}
-use Rattle.flatten.proofs.Begun.{outputs_take}
+use Rattle.net_assembly.proofs.Begun.{outputs_take}
 use Rattle.flatten.proofs.assemble.Assembly.add_outputs.Goals as goal
 
 pub loop-output-preserved : goal.loop-output-preserved

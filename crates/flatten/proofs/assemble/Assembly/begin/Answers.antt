@@ -1,6 +1,6 @@
 use Rattle.std.proofs.Common.{ap}
 use Rattle.flat_net.specs.Makes.{MakerView}
-use Rattle.flatten.proofs.Begun.{nothing_built}
+use Rattle.net_assembly.proofs.Begun.{nothing_built}
 use Rattle.flatten.proofs.assemble.Assembly.begin.Goals as goal
 
 pub add_sources-requires-clause-built : goal.add_sources-requires-clause-built

@@ -1,13 +1,8 @@
--- A net without signals, an input that is the clock, one output more, and what a signal reads.
+-- A net without signals, an input that is the clock, and one output more.
 use Rattle.std.proofs.Common.{◌≡◌, ◌+◌, ◌<◌, ◌∙◌, ℕ, Bool, true, cond, map, get_or, slice_index_or, ap₂, append_assoc, List, [], ◌∷◌, ◌++◌, length, take, replicate, slice_get, Option, Some, refl, sym, ap, subst, arith}
 use Rattle.std.specs.Prelude.{not}
 use Rattle.std.proofs.lemmas.List.{length-replicate, take_more, map-append}
 use Rattle.std.proofs.lemmas.Option.{none-some}
-use Rattle.sec_base.specs.declared.basics.Edge.{Edge}
-use Rattle.sec_base.specs.declared.basics.Init.{Init}
-use Rattle.elaborate.specs.declared.flat.FlatKind.{FlatKind}
-use Rattle.elaborate.specs.declared.flat.FlatKind.TheVariants as kind
-use Rattle.elaborate.specs.declared.flat.FlatStatement.{FlatStatement}
 use Rattle.elaborate.specs.Flat.{is_number, name_at}
 use Rattle.flat_net.specs.declared.signals.Signal.{Signal}
 use Rattle.flat_net.specs.View.{NetView}
@@ -17,9 +12,6 @@ use Rattle.flat_net.specs.declared.parts.Port.{Port}
 use Rattle.net_assembly.specs.Shown.{shown_at, with_outputs}
 use Rattle.net_assembly.specs.Built.{IsBuilt, unclocked, with_inputs}
 use Rattle.net_assembly.proofs.Building.{HasInputs}
-use Rattle.connectivity.specs.declared.source.Source.{Source}
-use Rattle.connectivity.specs.declared.source.Source.TheVariants.{Statement}
-use Rattle.flatten.specs.Graph.{quick_reads, reads_in, source_reads}
 
 pub nothing_built : (names : List (List ℕ)) (net : NetView) (signals : List Signal) (size : ℕ) → net ≡ empty_net → signals ≡ replicate size (record { 0 = 0 }) → size ≡ length names → IsBuilt names [] net signals
 nothing_built names net signals size is zeros same = record {
@@ -41,16 +33,6 @@ inputs_pass names clock inputs before after signals i n at e has =
       built = subst (λ (ns : List ℕ). IsBuilt names ns after.net signals) (sym same) has.built;
       net = has.net ∙ ap (λ (ns : List ℕ). record before { net = with_inputs names ns before.net }) (sym same);
     }
-
--- what a signal that a statement drives reads
-pub reads_are : (statements : List FlatStatement) (source : Source) (place : ℕ) (s : FlatStatement) → source ≡ Statement place → slice_get statements place ≡ Some s → source_reads statements source ≡ quick_reads s.reads s.kind
-reads_are statements source place s e at = ap (source_reads statements) e ∙ ap reads_in at
-
--- what isn't a latch reads all
-pub quick_other : (reads : List ℕ) (k : FlatKind) → ((edge : Option Edge) (control : Option ℕ) (init : Init) → k ≡ kind.Latch edge control init → ⊥) → quick_reads reads k ≡ reads
-quick_other reads (kind.Gate model statement) h = refl
-quick_other reads (kind.Latch edge control init) h = absurd (h edge control init refl)
-quick_other reads kind.Port h = refl
 
 -- one output more
 pub outputs_take : (names : List (List ℕ)) (signals : List Signal) (outputs items : List ℕ) (first before after : MakerView) (i : ℕ) (name : List ℕ) (s : Signal) → items ≡ outputs → i < length items →

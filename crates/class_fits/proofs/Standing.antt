@@ -29,7 +29,7 @@ use Rattle.class_search.specs.declared.class.Class.{Class}
 use Rattle.class_search.specs.Search.{AreReadyClasses}
 use Rattle.class_fits.specs.Members.{IsAmong, HasMembers}
 use Rattle.class_fits.proofs.Members.{members_grow_on, members_stay_on, members_join_on}
-use Rattle.event_classes.specs.Stand.{IsStand}
+use Rattle.class_fits.specs.Stand.{IsStand}
 
 -- the stand stays while the graph grows
 pub stand_grows : (a b : EventCircuitView) (w x : EventGraphView) (place : Tag → Either ℕ ℕ) (taken rest : List (Either ℕ ℕ)) (table : List ((ℕ × ℕ) × ℕ)) (classes : List Class) → IsEventGraph w → GrowsEvents w x → AreReadyClasses x classes →
