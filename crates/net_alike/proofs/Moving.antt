@@ -11,7 +11,7 @@ use Rattle.net_alike.specs.FlatCircuit.{HasSignal, IsFlatCircuit}
 use Rattle.net_alike.specs.Renumbered.{latch_rows, AreRenumbered}
 use Rattle.net_alike.proofs.Alike.{portless_is_renumbered}
 use Rattle.net_alike.proofs.Carrying.{map_fixed, latch_row_from}
-use Rattle.net_alike.specs.Named.{circuit_over, IsPortless}
+use Rattle.net_alike.specs.Moved.{circuit_over, IsPortless}
 
 -- the latches move with the equations
 rows_over : {P Q : Type 0} (to : P → Q) (es : List (Equation P)) → latch_rows (map (moved to) es) ≡ map (moved to) (latch_rows es)

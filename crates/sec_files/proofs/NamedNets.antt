@@ -16,7 +16,8 @@ use Rattle.flat_net.specs.Sound.{IsSound}
 use Rattle.flat_net.specs.View.{NetView, circuit_of, start_of}
 use Rattle.flat_net.proofs.Nets.{sound_is_net}
 use Rattle.net_alike.specs.FlatCircuit.{IsFlatCircuit}
-use Rattle.net_alike.specs.Named.{named_circuit, IsPortless, HasNames, NamesArePlaces}
+use Rattle.net_alike.specs.Moved.{IsPortless}
+use Rattle.sec_files.specs.Named.{named_circuit, HasNames, NamesArePlaces}
 use Rattle.net_alike.proofs.Moving.{flat_over, portless_over, single_up}
 
 -- the first place of the name in the list

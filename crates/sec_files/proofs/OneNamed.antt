@@ -18,7 +18,8 @@ use Rattle.net_alike.proofs.Alike.{nets_are_renumbered, place_of, low}
 use Rattle.net_alike.proofs.Carrying.{place, forth, turned, read_carried}
 use Rattle.flatten.proofs.net_assembly.ReadBy.{read_from, read_to, same_names}
 use Rattle.flatten.specs.OneNet.{AreOneNet}
-use Rattle.net_alike.specs.Named.{IsPortless, HasNames}
+use Rattle.net_alike.specs.Moved.{IsPortless}
+use Rattle.sec_files.specs.Named.{HasNames}
 use Rattle.net_alike.proofs.Moving.{stays}
 
 driven_place : (c : Circuit ℕ) (s : ℕ) → IsDriven c s → IsPlace c s

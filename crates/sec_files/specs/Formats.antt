@@ -6,7 +6,7 @@ use Rattle.blif_read.specs.Design.{Place, circuit_of_design, IsClock}
 use Rattle.blif_read.specs.Reading.{first_fault, spelled}
 use Rattle.flat_net.specs.View.{NetView}
 use Rattle.flatten.specs.DesignFaults.{IsSoundDesign, IsFlatOf}
-use Rattle.net_alike.specs.Named.{named_circuit}
+use Rattle.sec_files.specs.Named.{named_circuit}
 use Rattle.aiger_read.specs.declared.aiger_file.file.AigerFile.{AigerFile}
 use Rattle.aiger_read.specs.aiger_file.Files.{fault_of_text}
 use Rattle.aiger_read.specs.aiger_file.Reading.{spelled as spelled_file}

@@ -8,7 +8,7 @@ pub mod job_files;
 mod loader;
 mod stimuli;
 
-ghost use Rattle.net_alike.specs.Named.{NamesArePlaces};
+ghost use Rattle.sec_files.specs.Named.{NamesArePlaces};
 
 pub use aiger_read::{AigerError, AigerKind};
 pub use flatten::FlatError;

@@ -12,7 +12,7 @@ use Rattle.design_laws.proofs.FlatParts.{FlatDesign}
 use Rattle.design_laws.proofs.Kept.{flat_design}
 use Rattle.witness_report.specs.declared.witness.Witness.{Witness}
 use Rattle.witness_report.specs.Shown.{MakesDiffer, MakesCutsDiffer, AgreeFrom}
-use Rattle.net_alike.specs.Named.{named_circuit}
+use Rattle.sec_files.specs.Named.{named_circuit}
 use Rattle.sec_files.proofs.NamedNets.{index_in, named_flat, named_single}
 use Rattle.aiger_read.specs.declared.aiger_file.file.AigerFile.{AigerFile}
 use Rattle.aiger_read.specs.aiger_file.aiger_graph.Circuit.{circuit_of_file}

@@ -1,28 +1,15 @@
 -- A circuit over the names of its signals.
-use Rattle.std.specs.Prelude.{◌≡◌, ℕ, ◌<◌, List, [], ◌∷◌, map, length, slice_get, Some, refl, codes}
-use Rattle.std.specs.List.{Contains}
-use Rattle.circuit_theory.specs.Circuit.{Circuit, Latch, Port, IsSingleDriven}
-use Rattle.circuit_theory.specs.Joined.{moved, moved_name, moved_start}
+use Rattle.std.specs.Prelude.{◌≡◌, ℕ, ◌<◌, List, [], ◌∷◌, length, slice_get, Some, refl, codes}
+use Rattle.circuit_theory.specs.Circuit.{Circuit, Latch, IsSingleDriven}
 use Rattle.blif_read.specs.Design.{Place, top}
 use Rattle.flat_net.specs.Sound.{IsSound}
 use Rattle.flat_net.specs.View.{NetView, circuit_of}
 use Rattle.net_alike.specs.FlatCircuit.{IsFlatCircuit}
-
--- the circuit with each place p as `to p`
-abbrev pub circuit_over : {P Q : Type 0} → (P → Q) → Circuit P → Circuit Q
-circuit_over to c = record {
-  inputs = map (moved_name to) c.inputs;
-  outputs = map (moved_name to) c.outputs;
-  equations = map (moved to) c.equations;
-  starts = map (moved_start to) c.starts;
-}
+use Rattle.net_alike.specs.Moved.{circuit_over, IsPortless}
 
 -- the circuit over the places that have these names and lie in no instance
 abbrev pub named_circuit : (ℕ → List ℕ) → Circuit ℕ → Circuit Place
 named_circuit name c = circuit_over (λ p. top (name p)) c
-
-abbrev pub IsPortless : {P : Type 0} → Circuit P → Type 0
-IsPortless {P} c = (out from : P) → Contains c.equations (Port out from) → ⊥
 
 -- each signal has the name of the place at which it is driven
 abbrev pub HasNames : NetView → (ℕ → ℕ) → (ℕ → List ℕ) → Type 0
