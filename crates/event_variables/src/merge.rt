@@ -24,21 +24,14 @@ pub fn merge_variables(
     let mut i = 0;
     let mut j = 0;
     while i < left.len() && j < right.len() {
-        match variable_order(events, left[i], right[j]) {
-            Ordering::Less => {
-                merged.push(left[i])?;
-                i += 1;
-            }
-            Ordering::Equal => {
-                merged.push(left[i])?;
-                i += 1;
-                j += 1;
-            }
-            Ordering::Greater => {
-                merged.push(right[j])?;
-                j += 1;
-            }
-        }
+        let (next, from_left, from_right) = match variable_order(events, left[i], right[j]) {
+            Ordering::Less => (left[i], i + 1, j),
+            Ordering::Equal => (left[i], i + 1, j + 1),
+            Ordering::Greater => (right[j], i, j + 1),
+        };
+        merged.push(next)?;
+        i = from_left;
+        j = from_right;
     }
     merged.extend_from_slice(&left[i..])?;
     merged.extend_from_slice(&right[j..])?;

@@ -138,3 +138,27 @@ placed_next numbers places i v count at_i within apart each so_far k n low at = 
     go (inr here) =
         let same : v ≡ n = same_Some v n (sym at_i ∙ (ap (slice_get numbers) (sym here) ∙ at)) in
         subst (λ m. slice_get (set places v i) m ≡ Some k) same (slice_get-get_or (set places v i) v 0 (long v inside) ∙ ap Some (get_or-set_same places v i 0 inside ∙ sym here))
+
+-- one zero more
+pub zeros_next : (n : ℕ) (old new : List (ℕ × ℕ)) → HasZeros n old → (more : List (ℕ × ℕ)) → new ≡ old ++ more → length new ≤ length old + 1 → (v : ℕ) → slice_get new v ≡ Some (0, n) → HasZeros (n + 1) new
+zeros_next n old new zeros more is few v here = record { each = omega (arith, inside, last, few, zeros.each); at = λ k low. at_place k (below_or_here k low) }
+  where
+    below_or_here : (k : ℕ) → k < n + 1 → (k < n) ⊎ (k ≡ n)
+    below_or_here k h = grind arith
+
+    kept : (k : ℕ) (p : ℕ × ℕ) → slice_get old k ≡ Some p → slice_get new k ≡ Some p
+    kept k p at = subst (λ (l : List (ℕ × ℕ)). slice_get l k ≡ Some p) (sym is) (slice_get-append old more k p at)
+
+    inside : v < length new
+    inside = slice_get_within new v (0, n) here
+
+    last : v ≡ n
+    last = go (below_or_here v (omega (arith, inside, few, zeros.each)))
+      where
+        go : (v < n) ⊎ (v ≡ n) → v ≡ n
+        go (inl low) = ap (λ (p : ℕ × ℕ). p.1) (same_Some (0, v) (0, n) (sym (kept v (0, v) (zeros.at v low)) ∙ here))
+        go (inr e) = e
+
+    at_place : (k : ℕ) → (k < n) ⊎ (k ≡ n) → slice_get new k ≡ Some (0, k)
+    at_place k (inl low) = kept k (0, k) (zeros.at k low)
+    at_place k (inr e) = subst (λ m. slice_get new m ≡ Some (0, m)) (sym e) (subst (λ m. slice_get new m ≡ Some (0, n)) last here)

@@ -7,6 +7,7 @@ use Rattle.event_nodes.specs.View.{EventCircuitView}
 use Rattle.event_nodes.proofs.flat_net.Drivers.{latch_of_equation}
 use Rattle.edbf_unfold.proofs.Caring.{with_none}
 use Rattle.event_literals.proofs.event_walk.Lent.{drives_of, sound_of}
+use Rattle.event_literals.proofs.Lits.{grown_none}
 use Rattle.edbf_unfold.proofs.unfolder.EventUnfolder.with_enable.Goals as goal
 
 pub with_latch-requires-clause-latch : goal.with_latch-requires-clause-latch
@@ -21,3 +22,6 @@ returns-in_default-clause-here c =
     let on = held.enabled in
     let o = latch_of_equation c.args.self.now.circuit.net sound on.name c.args.place.1 on.next on.latch in
     c.in_default.not-Latch o.j (one_at c.args.self.now.circuit.net.drivers c.args.place.1 c.driver.result (driver.Latch o.j) (subst (λ (n : NetView). slice_get n.drivers c.args.place.1 ≡ Some c.driver.result) (c.net.ensures ∙ ap (λ (e : EventCircuitView). e.net) c.circuit-circuit.ensures) c.driver.ensures) o.owner))
+
+pub returns-in_default-clause-grown : goal.returns-in_default-clause-grown
+returns-in_default-clause-grown c = grown_none c.args.events.now 2
