@@ -23,23 +23,14 @@ pub fn merge_variables(
     let mut i = 0;
     let mut j = 0;
     while i < left.len() && j < right.len() {
-        let u = left[i];
-        let v = right[j];
-        match order_of(places, u, v) {
-            Ordering::Less => {
-                merged.push(u)?;
-                i += 1;
-            }
-            Ordering::Equal => {
-                merged.push(u)?;
-                i += 1;
-                j += 1;
-            }
-            Ordering::Greater => {
-                merged.push(v)?;
-                j += 1;
-            }
-        }
+        let (next, from_left, from_right) = match order_of(places, left[i], right[j]) {
+            Ordering::Less => (left[i], i + 1, j),
+            Ordering::Equal => (left[i], i + 1, j + 1),
+            Ordering::Greater => (right[j], i, j + 1),
+        };
+        merged.push(next)?;
+        i = from_left;
+        j = from_right;
     }
     merged.extend_from_slice(&left[i..])?;
     merged.extend_from_slice(&right[j..])?;

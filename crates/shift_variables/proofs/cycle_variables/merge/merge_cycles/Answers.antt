@@ -1,40 +1,10 @@
 -- One number goes behind, or one that both lists have, and at the end what is left of one list.
-use Rattle.std.proofs.Common.{◌≡◌, ◌+◌, ◌∙◌, ℕ, List, ◌++◌, drop, get_or, sym, ap, subst, arith, inl, inr}
+use Rattle.std.proofs.Common.{◌≡◌, ◌≤◌, ◌∙◌, ℕ, List, [], ◌∷◌, ◌++◌, length, drop, get_or, sym, ap, subst, arith, inl, inr}
 use Rattle.shift_variables.specs.cycle_variables.Cycles.{IsCycleMerge}
 use Rattle.shift_variables.proofs.cycle_variables.MergeCycles.{Rest, rest_less, rest_equal, rest_greater, rest_done}
 use Rattle.shift_variables.proofs.Reading.{number_at, rest_from}
 use Rattle.shift_variables.proofs.cycle_variables.merge.merge_cycles.Goals as goal
-use Rattle.shift_variables.proofs.cycle_variables.merge.merge_cycles.Goals.{then-loop-i-test+else-j-right, else-loop-i-test}
-
-pub loop-i-preserved-in-Less : goal.loop-i-preserved-in-Less
-loop-i-preserved-in-Less c =
-    let left = c.args.left.now in
-    let right = c.args.right.now in
-    let i = c.loop-i.i in
-    let j = c.loop-i.j in
-    record {
-      left_in = omega (arith, c.loop-i-test.true);
-      right_in = c.loop-i.invariant.right_in;
-      rest =
-          subst (Rest c.args.places.now left right (i + 1) j) (sym {A = List ℕ} c.in_ok-push-in-Less.ensures.items)
-          (rest_less c.args.places.now left right c.requires.left.ordered c.requires.right.ordered i j (get_or left i 0) (get_or right j 0) c.loop-i.merged.items
-          (number_at left i 0 c.loop-i-test.true) (number_at right j 0 c.if-j-right.true) c.in-Less.ensures c.loop-i.invariant.rest);
-    }
-
-pub loop-i-preserved-in-Equal : goal.loop-i-preserved-in-Equal
-loop-i-preserved-in-Equal c =
-    let left = c.args.left.now in
-    let right = c.args.right.now in
-    let i = c.loop-i.i in
-    let j = c.loop-i.j in
-    record {
-      left_in = omega (arith, c.loop-i-test.true);
-      right_in = omega (arith, c.if-j-right.true);
-      rest =
-          subst (Rest c.args.places.now left right (i + 1) (j + 1)) (sym {A = List ℕ} c.in_ok-push-in-Equal.ensures.items)
-          (rest_equal c.args.places.now left right c.requires.left.ordered c.requires.right.ordered i j (get_or left i 0) (get_or right j 0) c.loop-i.merged.items
-          (number_at left i 0 c.loop-i-test.true) (number_at right j 0 c.if-j-right.true) c.in-Equal.ensures c.loop-i.invariant.rest);
-    }
+use Rattle.shift_variables.proofs.cycle_variables.merge.merge_cycles.Goals.{then-loop-i-test+else-j-right, else-loop-i-test, in-Less, in-Equal, in-Greater}
 
 pub loop-i-preserved : goal.loop-i-preserved
 loop-i-preserved c =
@@ -42,13 +12,19 @@ loop-i-preserved c =
     let right = c.args.right.now in
     let i = c.loop-i.i in
     let j = c.loop-i.j in
+    let u = number_at left i 0 c.loop-i-test.true in
+    let v = number_at right j 0 c.if-j-right.true in
+    let rest = c.loop-i.invariant.rest in
+    let GoesOn : ℕ × ℕ × ℕ → Type 0 = λ n. (n.1 ≤ length left) × (n.2 ≤ length right) × Rest c.args.places.now left right n.1 n.2 (c.loop-i.merged.items ++ n.0 ∷ []) in
+    let on : GoesOn c.match-order_of.next = elim c.match-order_of.branch [
+      | in-Less w ↦ subst GoesOn (sym w.next-is) (omega (arith, c.loop-i-test.true), c.loop-i.invariant.right_in, rest_less c.args.places.now left right c.requires.left.ordered c.requires.right.ordered i j (get_or left i 0) (get_or right j 0) c.loop-i.merged.items u v w.in-Less.ensures rest)
+      | in-Equal w ↦ subst GoesOn (sym w.next-is) (omega (arith, c.loop-i-test.true), omega (arith, c.if-j-right.true), rest_equal c.args.places.now left right c.requires.left.ordered c.requires.right.ordered i j (get_or left i 0) (get_or right j 0) c.loop-i.merged.items u v w.in-Equal.ensures rest)
+      | in-Greater w ↦ subst GoesOn (sym w.next-is) (c.loop-i.invariant.left_in, omega (arith, c.if-j-right.true), rest_greater c.args.places.now left right c.requires.left.ordered c.requires.right.ordered i j (get_or left i 0) (get_or right j 0) c.loop-i.merged.items u v w.in-Greater.ensures rest)
+    ] in
     record {
-      left_in = c.loop-i.invariant.left_in;
-      right_in = omega (arith, c.if-j-right.true);
-      rest =
-          subst (Rest c.args.places.now left right i (j + 1)) (sym {A = List ℕ} c.in_ok-push-in-Greater.ensures.items)
-          (rest_greater c.args.places.now left right c.requires.left.ordered c.requires.right.ordered i j (get_or left i 0) (get_or right j 0) c.loop-i.merged.items
-          (number_at left i 0 c.loop-i-test.true) (number_at right j 0 c.if-j-right.true) c.in-Greater.ensures c.loop-i.invariant.rest);
+      left_in = on.0;
+      right_in = on.1;
+      rest = subst (Rest c.args.places.now left right c.match-order_of.next.1 c.match-order_of.next.2) (sym {A = List ℕ} c.in_ok-push.ensures.items) on.2;
     }
 
 pub returns : goal.returns
@@ -66,3 +42,9 @@ returns c =
     (rest_done c.args.places.now left right c.requires.left.ordered c.requires.right.ordered i j c.loop-i.merged.items
     (elim c.loop-i-test.branch [ then-loop-i-test+else-j-right w ↦ inr w.if-j-right.false | else-loop-i-test w ↦ inl w.loop-i-test.false ])
     c.loop-i.invariant.rest)
+
+pub order_of-requires-clause-left : goal.order_of-requires-clause-left
+order_of-requires-clause-left c = c.requires.left.within c.loop-i.i 0 c.loop-i-test.true
+
+pub order_of-requires-clause-right : goal.order_of-requires-clause-right
+order_of-requires-clause-right c = c.requires.right.within c.loop-i.j 0 c.if-j-right.true
