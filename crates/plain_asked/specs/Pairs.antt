@@ -5,6 +5,7 @@ use Rattle.circuit_theory.specs.declared.Side.{Side}
 use Rattle.circuit_theory.specs.declared.Side.TheVariants.{A, B}
 use Rattle.circuit_theory.specs.Sizes.{IsWeight, IsOver}
 use Rattle.sec_base.specs.declared.limits.TheConstants.{MAX_WEIGHT}
+use Rattle.flat_net.specs.declared.signals.Signal.{Signal}
 use Rattle.flat_net.specs.View.{NetView, circuit_of}
 use Rattle.aig.specs.declared.node.Node.{Node}
 use Rattle.unfold_places.specs.declared.signal_function.Unfolded.{Unfolded}
@@ -33,6 +34,15 @@ left_signals pairs = map (λ (p : SignalPair). p.left.0) pairs
 
 abbrev pub right_signals : List SignalPair → List ℕ
 right_signals pairs = map (λ (p : SignalPair). p.right.0) pairs
+
+-- the signal of a pair in the circuit of this side
+abbrev pub signal_of : Side → SignalPair → Signal
+signal_of A p = p.left
+signal_of B p = p.right
+
+-- the signals of the pairs there
+abbrev pub side_signals : Side → List SignalPair → List ℕ
+side_signals side pairs = map (λ (p : SignalPair). (signal_of side p).0) pairs
 
 -- the literal and the variables are the signal's function
 abbrev pub IsFunctionOf : NetView → List ℕ → List Node → List (ℕ × ℕ) → ℕ → Unfolded → Type 0

@@ -9,7 +9,7 @@ ghost use Rattle.plain_asked.specs.Apart.{AreChosen, ChoosesOf, IsNew, IsPut, Un
 ghost use Rattle.plain_asked.specs.Pairs.{IsFunctionOf, IsRefusalOf, left_signals, right_signals};
 
 use crate::error::PlainError;
-use crate::functions::{Functions, left_signals, right_signals};
+use crate::functions::{Functions, side_signals};
 use aig::{Aig, Lit};
 use base_tables::PlaceTable;
 use cbf_unfold::{UnfoldError, Unfolded, Unfolder};
@@ -130,10 +130,10 @@ fn choose_pairs(
     requires entries { length places.old ≤ 2 ^ 28 }
     ensures { ChoosesOf a_side.old b_side.old a_side.new b_side.new aig.old aig.new places.old places.new pairs.now result }
 {
-    let lefts = left_signals(alloc, pairs)?;
+    let lefts = side_signals(alloc, Side::A, pairs)?;
     let of_a = lefts.as_slice();
     let xs = literals_of(alloc, Side::A, a_side, aig, places, of_a)?;
-    let rights = right_signals(alloc, pairs)?;
+    let rights = side_signals(alloc, Side::B, pairs)?;
     let of_b = rights.as_slice();
     let ys = literals_of(alloc, Side::B, b_side, aig, places, of_b)?;
     let chosen = choose(alloc, of_a, of_b, xs.as_slice(), ys.as_slice())?;

@@ -1,12 +1,11 @@
 //! The functions of all pairs.
 
-ghost use Rattle.std.specs.Prelude.{◌≡◌, ℕ, ◌+◌, ◌*◌, ◌^◌, ◌<◌, ◌≤◌, List, [], map, length, All, IfOk, IfErr, OnOk};
+ghost use Rattle.std.specs.Prelude.{◌≡◌, ℕ, ◌+◌, ◌*◌, ◌^◌, ◌<◌, ◌≤◌, map, length, All, IfOk, IfErr, OnOk};
 ghost use Rattle.std.specs.List.{AllZip};
-ghost use Rattle.circuit_theory.specs.declared.Side.TheVariants.{A, B};
 ghost use Rattle.aig.specs.Graph.{Grows};
 ghost use Rattle.unfold_places.specs.Reach.{Adds};
 ghost use Rattle.unfold_places.specs.InputOrder.{IsOrderOf};
-ghost use Rattle.plain_asked.specs.Pairs.{IsFunctionOf, AreLight, IsRefusalOf, Unfolds, left_signals, right_signals};
+ghost use Rattle.plain_asked.specs.Pairs.{IsFunctionOf, AreLight, IsRefusalOf, Unfolds, left_signals, right_signals, side_signals, signal_of};
 
 use crate::apart::functions_of;
 use crate::error::PlainError;
@@ -60,8 +59,26 @@ pub fn unfold_pairs(
 {
     let mut aig = Aig::new(alloc)?;
     let mut places = PlaceTable::new(alloc);
-    let left = unfold_left(alloc, a, left, &orders.left, &mut aig, &mut places, pairs)?;
-    let right = unfold_right(alloc, b, right, &orders.right, &mut aig, &mut places, pairs)?;
+    let left = unfold_side(
+        alloc,
+        Side::A,
+        a,
+        left,
+        &orders.left,
+        &mut aig,
+        &mut places,
+        pairs,
+    )?;
+    let right = unfold_side(
+        alloc,
+        Side::B,
+        b,
+        right,
+        &orders.right,
+        &mut aig,
+        &mut places,
+        pairs,
+    )?;
     Ok(Functions {
         aig,
         places,
@@ -70,81 +87,32 @@ pub fn unfold_pairs(
     })
 }
 
-/// Unfolds the left signals of the pairs.
-fn unfold_left(
+/// The signals of the pairs in the circuit of this side.
+pub(crate) fn side_signals(
     alloc: Global,
-    net: &Net,
-    graph: &LatchGraph,
-    order: &Ids,
-    aig: &mut Aig,
-    places: &mut PlaceTable,
+    side: Side,
     pairs: &[SignalPair],
-) -> Result<Vec<Unfolded>, PlainError>
-    requires order { IsOrderOf net.now order.now }
-    requires signals { All (λ s. s < length net.now.drivers) (left_signals pairs.now) }
-    requires nodes { length aig.old ≤ 2 ^ 28 }
-    requires entries { length places.old ≤ 2 ^ 28 }
-    ensures unfolded { IfOk result (λ us. AllZip (λ p u. IsFunctionOf net.now order.now aig.new places.new p.left.0 u) pairs.now us.items) }
-    ensures light { OnOk result (AreLight net.now (left_signals pairs.now)) }
-    ensures refused { IfErr result (IsRefusalOf A net.now (left_signals pairs.now)) }
-    ensures grows { Grows aig.old aig.new }
-    ensures adds { Adds (λ p. Unit {0}) places.old places.new }
-    ensures nodes { length aig.new ≤ length aig.old + MAX_WEIGHT }
-    ensures entries { length places.new ≤ length places.old + MAX_WEIGHT }
-{
-    let signals = left_signals(alloc, pairs)?;
-    let given = signals.as_slice();
-    unfold_side(alloc, Side::A, net, graph, order, aig, places, given)
-}
-
-/// Unfolds the right signals of the pairs.
-fn unfold_right(
-    alloc: Global,
-    net: &Net,
-    graph: &LatchGraph,
-    order: &Ids,
-    aig: &mut Aig,
-    places: &mut PlaceTable,
-    pairs: &[SignalPair],
-) -> Result<Vec<Unfolded>, PlainError>
-    requires order { IsOrderOf net.now order.now }
-    requires signals { All (λ s. s < length net.now.drivers) (right_signals pairs.now) }
-    requires nodes { length aig.old ≤ 2 ^ 28 }
-    requires entries { length places.old ≤ 2 ^ 28 }
-    ensures unfolded { IfOk result (λ us. AllZip (λ p u. IsFunctionOf net.now order.now aig.new places.new p.right.0 u) pairs.now us.items) }
-    ensures light { OnOk result (AreLight net.now (right_signals pairs.now)) }
-    ensures refused { IfErr result (IsRefusalOf B net.now (right_signals pairs.now)) }
-    ensures grows { Grows aig.old aig.new }
-    ensures adds { Adds (λ p. Unit {0}) places.old places.new }
-    ensures nodes { length aig.new ≤ length aig.old + MAX_WEIGHT }
-    ensures entries { length places.new ≤ length places.old + MAX_WEIGHT }
-{
-    let signals = right_signals(alloc, pairs)?;
-    let given = signals.as_slice();
-    unfold_side(alloc, Side::B, net, graph, order, aig, places, given)
-}
-
-pub(crate) fn left_signals(alloc: Global, pairs: &[SignalPair]) -> Result<Vec<Signal>, NoMemory>
-    ensures { IfOk result (λ signals. signals.items ≡ map (λ p. p.left) pairs.now) }
+) -> Result<Vec<Signal>, NoMemory>
+    ensures { IfOk result (λ signals. signals.items ≡ map (λ p. signal_of side p) pairs.now) }
 {
     let mut signals = Vec::new(alloc);
     for pair in pairs {
-        signals.push(pair.left)?;
+        signals.push(signal_of(side, pair))?;
     }
     Ok(signals)
 }
 
-pub(crate) fn right_signals(alloc: Global, pairs: &[SignalPair]) -> Result<Vec<Signal>, NoMemory>
-    ensures { IfOk result (λ signals. signals.items ≡ map (λ p. p.right) pairs.now) }
+/// The signal of a pair in the circuit of this side.
+fn signal_of(side: Side, pair: &SignalPair) -> Signal
+    ensures { result ≡ signal_of side pair.now }
 {
-    let mut signals = Vec::new(alloc);
-    for pair in pairs {
-        signals.push(pair.right)?;
+    match side {
+        Side::A => pair.left,
+        Side::B => pair.right,
     }
-    Ok(signals)
 }
 
-/// Unfolds the signals of one circuit in their order, by one unfolder.
+/// Unfolds the signals of the pairs in one circuit, in their order, by one unfolder.
 fn unfold_side(
     alloc: Global,
     side: Side,
@@ -153,20 +121,22 @@ fn unfold_side(
     order: &Ids,
     aig: &mut Aig,
     places: &mut PlaceTable,
-    signals: &[Signal],
+    pairs: &[SignalPair],
 ) -> Result<Vec<Unfolded>, PlainError>
     requires order { IsOrderOf net.now order.now }
-    requires signals { All (λ s. s.0 < length net.now.drivers) signals.now }
+    requires signals { All (λ s. s < length net.now.drivers) (side_signals side pairs.now) }
     requires nodes { length aig.old ≤ 2 ^ 28 }
     requires entries { length places.old ≤ 2 ^ 28 }
-    ensures unfolded { IfOk result (λ us. AllZip (λ s u. IsFunctionOf net.now order.now aig.new places.new s.0 u) signals.now us.items) }
-    ensures light { OnOk result (AreLight net.now (map (λ s. s.0) signals.now)) }
-    ensures refused { IfErr result (IsRefusalOf side net.now (map (λ s. s.0) signals.now)) }
+    ensures unfolded { IfOk result (λ us. AllZip (λ p u. IsFunctionOf net.now order.now aig.new places.new (signal_of side p).0 u) pairs.now us.items) }
+    ensures light { OnOk result (AreLight net.now (side_signals side pairs.now)) }
+    ensures refused { IfErr result (IsRefusalOf side net.now (side_signals side pairs.now)) }
     ensures grows { Grows aig.old aig.new }
     ensures adds { Adds (λ p. Unit {0}) places.old places.new }
     ensures nodes { length aig.new ≤ length aig.old + MAX_WEIGHT }
     ensures entries { length places.new ≤ length places.old + MAX_WEIGHT }
 {
+    let signals = side_signals(alloc, side, pairs)?;
+    let given = signals.as_slice();
     let mut unfolder = Unfolder::new(alloc, net, graph, order)?;
-    functions_of(alloc, side, &mut unfolder, aig, places, signals)
+    functions_of(alloc, side, &mut unfolder, aig, places, given)
 }

@@ -86,6 +86,5 @@ fn assignment_of(
     ensures bits { IfOk result (λ made. (v : ℕ) → slice_index_or made.items v false ≡ assigned_to vars.now bits.now v) }
 {
     let size = aig.vars().max(places.len());
-    let made = bits_at(alloc, size as usize, vars, bits)?;
-    Ok(made)
+    bits_at(alloc, size as usize, vars, bits)
 }
