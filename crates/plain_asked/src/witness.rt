@@ -38,10 +38,12 @@ pub fn witness_of(
     let vars = query.vars.as_slice();
     let bits = bits.as_slice();
     let (left, right) = sides_at(alloc, functions, query, bits)?;
-    let rows = rows_of(alloc, places, vars, bits, last, names.len())?;
+    let pair = copy_name(name)?;
+    let count = names.len();
     let names = names.copy()?;
+    let rows = rows_of(alloc, places, vars, bits, last, count)?;
     Ok(Witness {
-        pair: copy_name(name)?,
+        pair,
         cycle: last,
         left,
         right,

@@ -39,17 +39,19 @@ pub fn sequence_of(
 {
     let bits = bits.as_slice();
     let (left, right) = sides_at(alloc, functions, query, bits)?;
+    let pair = copy_name(name)?;
+    let count = names.len();
+    let names = names.copy()?;
     let rows = cycle_rows(
         alloc,
         &functions.places,
         query.vars.as_slice(),
         bits,
         last,
-        names.len(),
+        count,
     )?;
-    let names = names.copy()?;
     Ok(Witness {
-        pair: copy_name(name)?,
+        pair,
         cycle: last,
         left,
         right,
@@ -94,6 +96,5 @@ fn assignment_of(
     ensures bits { IfOk result (λ made. (v : ℕ) → slice_index_or made.items v false ≡ assigned_to vars.now bits.now v) }
 {
     let size = aig.vars().max(places.len());
-    let made = bits_at(alloc, size as usize, vars, bits)?;
-    Ok(made)
+    bits_at(alloc, size as usize, vars, bits)
 }

@@ -17,7 +17,7 @@ fits last count a rows size is same =
 pub invariant_of-result : goal.invariant_of-result
 invariant_of-result c = record {
   distinct = subst (λ (ns : List (List ℕ)). AreDistinct ns) (sym c.in_ok-names.ensures) c.requires.distinct;
-  fit = fits c.args.last c.len.result (λ i k. bits_at c.args.functions.now.places c.as_slice.result.now c.as_slice-bits.result.now i (c.args.last - k)) c.in_ok-rows.rows (length c.in_ok-names.names) c.in_ok-rows.ensures (c.len.ensures ∙ ap length (sym c.in_ok-names.ensures));
+  fit = fits c.args.last c.len-count.result (λ i k. bits_at c.args.functions.now.places c.as_slice.result.now c.as_slice-bits.result.now i (c.args.last - k)) c.in_ok-rows.rows (length c.in_ok-names.names) c.in_ok-rows.ensures (c.len-count.ensures ∙ ap length (sym c.in_ok-names.ensures));
 }
 
 pub sides_at-requires-clause-distinct : goal.sides_at-requires-clause-distinct
@@ -28,3 +28,9 @@ cycle_rows-requires-clause-each c = ap length c.as_slice-bits.ensures ∙ (c.req
 
 pub cycle_rows-requires-clause-in_order : goal.cycle_rows-requires-clause-in_order
 cycle_rows-requires-clause-in_order c = subst (AreInCycles c.args.functions.now.places) (sym c.as_slice.ensures) c.requires.in_order
+
+pub sides_at-requires-clause-each : goal.sides_at-requires-clause-each
+sides_at-requires-clause-each c = sym c.requires.each ∙ ap length (sym c.as_slice-bits.ensures)
+
+pub sides_at-requires-clause-within : goal.sides_at-requires-clause-within
+sides_at-requires-clause-within c = c.requires.in_order.within
