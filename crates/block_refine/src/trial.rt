@@ -1,7 +1,10 @@
 //! Splits without a query, by what the latches take over under seeded assignments.
 
-ghost use Rattle.std.specs.Prelude.{◌≡◌, ◌<◌, length, All, IfOk, OnOk, IfSome};
+ghost use Rattle.std.specs.Prelude.{◌≡◌, ℕ, Bool, ◌<◌, length, map, All, IfOk, OnOk, IfSome};
 ghost use Rattle.std.specs.List.Sorted.{IsStrictlyIncreasing};
+ghost use Rattle.circuit_theory.specs.Joined.{Either};
+ghost use Rattle.latch_blocks.specs.Partitions.{nexts_of};
+ghost use Rattle.block_refine.specs.block_graph.Comparing.{AreReadBy};
 ghost use Rattle.block_refine.specs.block_graph.Graph.{IsBlockGraph};
 ghost use Rattle.block_refine.specs.Passes.{AreMembers, IsPass, IsApartAt};
 
@@ -32,34 +35,32 @@ impl Pass {
         let vars = all_variables(alloc, graph.limit)?;
         let mut generator = Xoshiro256PlusPlus::seed_from_u64(1);
         for _n in 0..TRIALS {
-            let bits = seeded_bits(alloc, &mut generator, vars.len())?;
-            if !self.try_bits(alloc, nets, graph, &vars, &bits)? {
+            if !self.try_bits(alloc, nets, graph, &vars, &mut generator)? {
                 return Ok(());
             }
         }
         Ok(())
     }
 
-    /// Splits the blocks by the assignment that gives the variables these bits, and says so, where it tells a latch apart from the first
-    /// one of its block.
+    /// Splits the blocks by the next assignment of these variables, and says so, where it tells a latch apart from the first one of its
+    /// block.
     fn try_bits(
         &mut self,
         alloc: Global,
         nets: &BlockNets<'_>,
         graph: &BlockGraph,
         vars: &Ids,
-        bits: &Bits,
+        generator: &mut Xoshiro256PlusPlus,
     ) -> Result<bool, NoMemory>
         requires graph { IsBlockGraph nets.now graph.now }
         requires pass { IsPass nets.now 0 self.old }
-        requires each { length vars.now ≡ length bits.now }
         requires increasing { IsStrictlyIncreasing vars.now }
         requires below { All (λ k. k < graph.now.limit) vars.now }
         ensures { OnOk result (IsPass nets.now 0 self.new) }
     {
         nets.left.keeps();
         nets.right.keeps();
-        let made = graph.next_bits(alloc, nets, vars.as_slice(), bits.as_slice())?;
+        let made = seeded_nexts(alloc, nets, graph, vars.as_slice(), generator)?;
         let Some(_latch) = first_apart(&self.firsts, self.blocks.as_slice(), &made) else {
             return Ok(false);
         };
@@ -80,19 +81,24 @@ fn all_variables(alloc: Global, limit: u32) -> Result<Ids, NoMemory>
     merged(all, &[])
 }
 
-/// So many bits.
-fn seeded_bits(
+/// What all latches take over under the next assignment of these variables, where all others are 0.
+fn seeded_nexts(
     alloc: Global,
+    nets: &BlockNets<'_>,
+    graph: &BlockGraph,
+    vars: &[u32],
     generator: &mut Xoshiro256PlusPlus,
-    count: usize,
-) -> Result<Bits, NoMemory>
-    ensures { IfOk result (λ bits. length bits ≡ count) }
+) -> Result<Vec<bool>, NoMemory>
+    requires graph { IsBlockGraph nets.now graph.now }
+    requires increasing { IsStrictlyIncreasing vars.now }
+    requires below { All (λ k. k < graph.now.limit) vars.now }
+    ensures { IfOk result (λ made. (v : ℕ → Bool) × ((x : Either ℕ ℕ → Bool) → AreReadBy nets.now graph.now v x → made.items ≡ map x (nexts_of nets.now.left.now nets.now.right.now))) }
 {
     let mut bits = Bits::new(alloc);
-    for _n in 0..count {
+    for _n in 0..vars.len() {
         bits.push(generator.next_u64() % 2 == 1)?;
     }
-    Ok(bits)
+    graph.next_bits(alloc, nets, vars, bits.as_slice())
 }
 
 /// The first latch whose bit isn't that of the first one of its block.

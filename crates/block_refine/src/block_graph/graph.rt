@@ -1,7 +1,8 @@
 //! The graph of both nets.
 
-ghost use Rattle.std.specs.Prelude.{◌≡◌, ◌+◌, ◌^◌, ◌<◌, ◌≤◌, length, IfOk, OnOk};
+ghost use Rattle.std.specs.Prelude.{◌≡◌, ◌+◌, ◌^◌, ◌<◌, ◌≤◌, length, map, All, IfOk, OnOk};
 ghost use Rattle.aig.specs.Graph.{Grows};
+ghost use Rattle.latch_blocks.specs.declared.variables.Variables.{Variables};
 ghost use Rattle.latch_blocks.specs.Signals.{AreVariables, net_weight};
 ghost use Rattle.block_refine.specs.block_graph.Graph.{AreReady, AreOn, IsBlockGraph};
 
@@ -10,7 +11,7 @@ use crate::block_graph::numbering::{first_block, variables_of};
 use aig::{Aig, Lit};
 use flat_net::Net;
 use latch_blocks::{Variables, signal_literals};
-use sec_base::NoMemory;
+use sec_base::{Ids, NoMemory};
 use std::alloc::Global;
 
 /// The variables of a net's inputs and latches, and the literal of each signal.
@@ -60,12 +61,23 @@ impl BlockGraph {
         let first = first_block(nets.orders);
         let count = nets.left.latches().len();
         let mut aig = Aig::new(alloc)?;
+        let left = net_lits(
+            alloc,
+            &mut aig,
+            nets.left,
+            &nets.orders.left,
+            &nets.blocks[..count],
+            first,
+        )?;
         aig.keeps();
-        let left = variables_of(alloc, &nets.orders.left, &nets.blocks[..count], first)?;
-        let left = net_lits(alloc, &mut aig, nets.left, left)?;
-        aig.keeps();
-        let right = variables_of(alloc, &nets.orders.right, &nets.blocks[count..], first)?;
-        let right = net_lits(alloc, &mut aig, nets.right, right)?;
+        let right = net_lits(
+            alloc,
+            &mut aig,
+            nets.right,
+            &nets.orders.right,
+            &nets.blocks[count..],
+            first,
+        )?;
         aig.keeps();
         let limit = first + nets.blocks.len() as u32;
         Ok(BlockGraph {
@@ -77,20 +89,26 @@ impl BlockGraph {
     }
 }
 
-/// The literals of all signals of a net.
+/// The literals of all signals of a net whose inputs have these numbers and whose latches are in these blocks, the first of which has the
+/// variable `first`.
 fn net_lits(
     alloc: Global,
     aig: &mut Aig,
     net: &Net,
-    variables: Variables,
+    numbers: &Ids,
+    blocks: &[u32],
+    first: u32,
 ) -> Result<NetLits, NoMemory>
-    requires variables { AreVariables net.now variables }
+    requires small { All (λ k. first + k < 2 ^ 32) blocks.now }
+    requires variables { (w : Variables) → w.inputs ≡ numbers.now → w.latches ≡ map (λ k. first + k) blocks.now → AreVariables net.now w }
     requires room { length aig.old + net_weight net.now < 2 ^ 30 }
     ensures on { IfOk result (AreOn net.now aig.new) }
-    ensures same { IfOk result (λ made. made.variables ≡ variables) }
+    ensures inputs { IfOk result (λ made. made.variables.inputs ≡ numbers.now) }
+    ensures latches { IfOk result (λ made. made.variables.latches ≡ map (λ k. first + k) blocks.now) }
     ensures grows { OnOk result (Grows aig.old aig.new) }
     ensures few { OnOk result (length aig.new ≤ length aig.old + net_weight net.now) }
 {
+    let variables = variables_of(alloc, numbers, blocks, first)?;
     let lits = signal_literals(alloc, aig, net, &variables)?;
     Ok(NetLits { variables, lits })
 }

@@ -4,6 +4,12 @@ use Rattle.block_refine.specs.Passes.{IsStep}
 use Rattle.block_refine.proofs.Passing.{round_ends, round_limits}
 use Rattle.block_refine.proofs.pass.pass_over.Goals as goal
 
+pub step-requires-clause-pass : goal.step-requires-clause-pass
+step-requires-clause-pass c = c.loop-j.invariant
+
+pub step-requires-clause-conflicts : goal.step-requires-clause-conflicts
+step-requires-clause-conflicts c = c.requires.conflicts
+
 pub step-requires-clause-latch : goal.step-requires-clause-latch
 step-requires-clause-latch c = omega (arith, c.loop-j-test.true, c.loop-j.invariant.each)
 

@@ -1,5 +1,4 @@
--- As many bits as there are variables.
-use Rattle.std.proofs.Common.{◌∙◌, sym}
+-- All variables are below the limit.
 use Rattle.block_refine.proofs.pass.Pass.try_seeded.Goals as goal
 
 pub try_bits-requires-clause-graph : goal.try_bits-requires-clause-graph
@@ -7,9 +6,6 @@ try_bits-requires-clause-graph c = c.requires.graph
 
 pub try_bits-requires-clause-pass : goal.try_bits-requires-clause-pass
 try_bits-requires-clause-pass c = c.loop-n.invariant
-
-pub try_bits-requires-clause-each : goal.try_bits-requires-clause-each
-try_bits-requires-clause-each c = sym (c.in_ok-bits.ensures ∙ c.len.ensures)
 
 pub try_bits-requires-clause-increasing : goal.try_bits-requires-clause-increasing
 try_bits-requires-clause-increasing c = c.in_ok-vars.ensures.increasing

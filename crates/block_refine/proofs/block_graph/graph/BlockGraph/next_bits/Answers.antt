@@ -4,6 +4,9 @@ use Rattle.pair_decide.specs.Queries.{assigned_to}
 use Rattle.block_refine.proofs.block_graph.Taken.{nexts_are, latches_within, lits_inside}
 use Rattle.block_refine.proofs.block_graph.graph.BlockGraph.next_bits.Goals as goal
 
+pub node_values-requires : goal.node_values-requires
+node_values-requires c = record { each = c.requires.each; increasing = c.requires.increasing; below = c.requires.below }
+
 pub put_nexts-requires-clause-latches : goal.put_nexts-requires-clause-latches
 put_nexts-requires-clause-latches c =
     latches_within c.args.nets.now.left.now c.keeps.ensures.sound c.args.self.now.aig c.args.self.now.left c.requires.graph.left_on c.latches.result.now c.deref.result.now c.latches.ensures c.deref.ensures.value
