@@ -59,11 +59,12 @@ fn show_cycle(rt: &HostRuntime, net: &Net, marked: &mut MarkedSim<'_>, row: &[u8
     let Ok(inputs) = bits_of(rt.alloc(), row) else {
         return show(rt, b"lost\n");
     };
-    if inputs.len() != net.inputs().len() || marked.cycles() > 1_000 {
-        return show(rt, b"lost\n");
+    if inputs.len() == net.inputs().len() && marked.cycles() <= 1_000 {
+        marked.step(inputs.as_slice());
+        show_outputs(rt, net, marked);
+    } else {
+        show(rt, b"lost\n");
     }
-    marked.step(inputs.as_slice());
-    show_outputs(rt, net, marked);
 }
 
 /// Shows the values and the marks of the outputs in the latest cycle.
@@ -72,18 +73,16 @@ fn show_outputs(rt: &HostRuntime, net: &Net, marked: &MarkedSim<'_>)
     requires begun { 0 < marked.now.sim.cycles }
 {
     show(rt, b"values");
-    for (place, _) in net.outputs().iter().enumerate() {
-        let Ok(output) = u32::try_from(place) else {
-            break;
-        };
-        show(rt, if marked.output(output) { b" 1" } else { b" 0" });
+    for place in 0..net.outputs().len() {
+        if let Ok(output) = u32::try_from(place) {
+            show(rt, if marked.output(output) { b" 1" } else { b" 0" });
+        }
     }
     show(rt, b" marks");
-    for (place, _) in net.outputs().iter().enumerate() {
-        let Ok(output) = u32::try_from(place) else {
-            break;
-        };
-        show(rt, if marked.mark(output) { b" 1" } else { b" 0" });
+    for place in 0..net.outputs().len() {
+        if let Ok(output) = u32::try_from(place) {
+            show(rt, if marked.mark(output) { b" 1" } else { b" 0" });
+        }
     }
     show(rt, b"\n");
 }

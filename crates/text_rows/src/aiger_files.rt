@@ -67,13 +67,11 @@ fn show_record(rt: &HostRuntime, found: Record) {
     }
 }
 
-fn show_records(rt: &HostRuntime, file: &AigerFile) {
+fn show_file(rt: &HostRuntime, file: &AigerFile) {
     for found in file.records.as_slice() {
         show_record(rt, *found);
     }
-}
-
-fn show_symbols(rt: &HostRuntime, file: &AigerFile) {
+    show_word(rt, b"names");
     for name in file.symbols.names.as_slice() {
         show_word(rt, name.as_slice());
     }
@@ -85,11 +83,7 @@ pub(crate) fn show_text(rt: &HostRuntime, text: &[u8]) {
         return show(rt, b" too long");
     }
     match read_file(rt.alloc(), text) {
-        Ok(file) => {
-            show_records(rt, &file);
-            show_word(rt, b"names");
-            show_symbols(rt, &file);
-        }
+        Ok(file) => show_file(rt, &file),
         Err(AigerError::At { place, kind }) => {
             show_word(rt, b"record");
             show_count(rt, u64::from(place));

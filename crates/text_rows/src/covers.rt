@@ -2,7 +2,7 @@
 
 ghost use Rattle.std.specs.Prelude.{◌≡◌, ◌≤◌, length, vec_len, IfOk};
 
-use blif_read::{BlifModel, Design, Statement};
+use blif_read::{Design, Statement};
 use row_text::{show, show_bit};
 use sec_base::{Cover, NoMemory};
 use std::alloc::Global;
@@ -60,17 +60,13 @@ fn show_cover(rt: &HostRuntime, cover: &Cover) {
     }
 }
 
-fn show_model(rt: &HostRuntime, model: &BlifModel) {
-    for statement in model.statements.as_slice() {
-        if let Statement::Names { cover, .. } = statement {
-            show_cover(rt, cover);
-        }
-    }
-}
-
 /// Shows the values of each cover of the design, over all bits of its fan-ins, of which the first counts most.
 pub(crate) fn show_covers(rt: &HostRuntime, design: &Design) {
     for model in design.models.as_slice() {
-        show_model(rt, model);
+        for statement in model.statements.as_slice() {
+            if let Statement::Names { cover, .. } = statement {
+                show_cover(rt, cover);
+            }
+        }
     }
 }

@@ -2,11 +2,8 @@
 
 ghost use Rattle.std.specs.Prelude.{◌<◌, length};
 
-use crate::faults::show_fault;
 use crate::nets::show_net;
-use blif_read::Design;
 use flat_net::Net;
-use flatten::flatten;
 use row_text::{show, show_bit, show_count};
 use sec_base::{Ids, NoMemory};
 use std::alloc::Global;
@@ -80,15 +77,9 @@ fn show_without_first(rt: &HostRuntime, net: &Net) {
     }
 }
 
-/// Shows the design's net, what is found in it, and the net without its first latch.
-pub(crate) fn show_cuts(rt: &HostRuntime, design: &Design) {
-    match flatten(rt.alloc(), design) {
-        Ok(net) => {
-            show_net(rt, &net);
-            show_places(rt, &net);
-            show_values(rt, &net);
-            show_without_first(rt, &net);
-        }
-        Err(error) => show_fault(rt, &error),
-    }
+/// Shows what is found in the net, and the net without its first latch.
+pub(crate) fn show_cuts(rt: &HostRuntime, net: &Net) {
+    show_places(rt, net);
+    show_values(rt, net);
+    show_without_first(rt, net);
 }

@@ -1,8 +1,6 @@
 //! What a text in BLIF spells, in words.
 
-ghost use Rattle.std.specs.Prelude.{◌≤◌, length};
-
-use blif_read::{BlifModel, Design, Pair, ReadError, ReadKind, Statement, read_design};
+use blif_read::{BlifModel, Pair, ReadError, ReadKind, Statement};
 use row_text::{show, show_byte, show_count, show_number, show_word};
 use sec_base::{Cover, Edge, Init, Word, Words};
 use std::rt::HostRuntime;
@@ -144,7 +142,8 @@ fn show_ports(rt: &HostRuntime, model: &BlifModel) {
     }
 }
 
-fn show_models(rt: &HostRuntime, models: &[BlifModel]) {
+/// Shows the models of a design.
+pub(crate) fn show_models(rt: &HostRuntime, models: &[BlifModel]) {
     for model in models {
         show_ports(rt, model);
         for statement in model.statements.as_slice() {
@@ -172,7 +171,8 @@ fn word_of_kind(kind: &ReadKind) -> &'static [u8] {
     }
 }
 
-fn show_error(rt: &HostRuntime, error: &ReadError) {
+/// Shows the fault of a text.
+pub(crate) fn show_error(rt: &HostRuntime, error: &ReadError) {
     match error {
         ReadError::NoMemory => show(rt, b" no-memory"),
         ReadError::At { line, kind } => {
@@ -182,15 +182,5 @@ fn show_error(rt: &HostRuntime, error: &ReadError) {
                 show_name(rt, word.as_slice());
             }
         }
-    }
-}
-
-/// Shows the design or the fault of a text.
-pub(crate) fn show_design(rt: &HostRuntime, bytes: &[u8])
-    requires { length bytes.now ≤ 16777216 }
-{
-    match read_design(rt.alloc(), bytes) {
-        Ok(design) => show_models(rt, design.models.as_slice()),
-        Err(error) => show_error(rt, &error),
     }
 }

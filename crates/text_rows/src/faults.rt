@@ -43,8 +43,7 @@ fn show_words(rt: &HostRuntime, words: &Words) {
     }
 }
 
-/// Shows the fault, and the names that it tells.
-pub(crate) fn show_fault(rt: &HostRuntime, error: &FlatError) {
+fn show_told(rt: &HostRuntime, error: &FlatError) {
     show_word(rt, word_of(error));
     match error {
         FlatError::UnknownModel(name)
@@ -62,4 +61,9 @@ pub(crate) fn show_fault(rt: &HostRuntime, error: &FlatError) {
         FlatError::Loop(names) => show_words(rt, names),
         _ => {}
     }
+}
+
+/// Shows the fault, and the names that it tells, and lets it go: who meets a fault doesn't take it apart.
+pub(crate) fn show_fault(rt: &HostRuntime, error: FlatError) {
+    show_told(rt, &error);
 }

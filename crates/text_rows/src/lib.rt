@@ -27,17 +27,16 @@ mod walks;
 ghost use Rattle.std.specs.Prelude.{◌≤◌, length};
 
 use aiger_files::show_text;
-use blif_read::read_design;
+use blif_read::{Design, ReadError, read_design};
 use covers::show_covers;
-use cuts::show_cuts;
-use designs::show_design;
+use designs::{show_error, show_models};
 use lines::show_lines;
 use made::show_made;
 use nets::show_flattened;
 use row_text::{file_of, show, split_at, text_of};
 use sec_base::MAX_FILE_BYTES;
 use std::rt::HostRuntime;
-use walks::{show_walk, show_wires};
+use walks::show_walk;
 
 /// What a row's text, or its design, is asked for.
 #[derive(Clone, Copy)]
@@ -53,19 +52,31 @@ enum Asked {
     Function,
 }
 
+fn show_of_design(rt: &HostRuntime, asked: Asked, design: &Design) {
+    match asked {
+        Asked::Covers => show_covers(rt, design),
+        Asked::Walk => show_walk(rt, design, false),
+        Asked::Wires => show_walk(rt, design, true),
+        Asked::Net => show_flattened(rt, design, false),
+        Asked::Cut => show_flattened(rt, design, true),
+        _ => show_models(rt, design.models.as_slice()),
+    }
+}
+
+fn show_read_fault(rt: &HostRuntime, asked: Asked, error: &ReadError) {
+    match asked {
+        Asked::Design => show_error(rt, error),
+        _ => show(rt, b" no design"),
+    }
+}
+
 /// Shows what is asked of a design that the text spells.
 fn show_read(rt: &HostRuntime, asked: Asked, text: &[u8])
     requires { length text.now ≤ 16777216 }
 {
     match read_design(rt.alloc(), text) {
-        Ok(design) => match asked {
-            Asked::Covers => show_covers(rt, &design),
-            Asked::Walk => show_walk(rt, &design),
-            Asked::Wires => show_wires(rt, &design),
-            Asked::Net => show_flattened(rt, &design),
-            _ => show_cuts(rt, &design),
-        },
-        Err(_) => show(rt, b" no design"),
+        Ok(design) => show_of_design(rt, asked, &design),
+        Err(error) => show_read_fault(rt, asked, &error),
     }
 }
 
@@ -75,7 +86,6 @@ fn show_told(rt: &HostRuntime, asked: Asked, text: &[u8]) {
     }
     match asked {
         Asked::Lines => show_lines(rt, text),
-        Asked::Design => show_design(rt, text),
         Asked::Aiger => show_text(rt, text),
         _ => show_read(rt, asked, text),
     }

@@ -26,26 +26,24 @@ fn show_statements(rt: &HostRuntime, flat: &Flat) {
     }
 }
 
-/// Shows the signals that the flat statements drive, or the walk's fault.
-pub(crate) fn show_walk(rt: &HostRuntime, design: &Design) {
-    match walk(rt.alloc(), design) {
-        Ok(flat) => show_statements(rt, &flat),
-        Err(error) => show_fault(rt, &error),
-    }
-}
-
 /// Shows the fault of the walk's drivers and clocks.
 fn show_wire_fault(rt: &HostRuntime, flat: &Flat) {
     match wire(rt.alloc(), flat) {
         Ok(_) => show(rt, b" none"),
-        Err(error) => show_fault(rt, &error),
+        Err(error) => show_fault(rt, error),
     }
 }
 
-/// Shows the fault of drivers and clocks, or the walk's.
-pub(crate) fn show_wires(rt: &HostRuntime, design: &Design) {
+/// Shows the signals that the flat statements drive, or with `wires` the fault of drivers and clocks; or the walk's fault.
+pub(crate) fn show_walk(rt: &HostRuntime, design: &Design, wires: bool) {
     match walk(rt.alloc(), design) {
-        Ok(flat) => show_wire_fault(rt, &flat),
-        Err(error) => show_fault(rt, &error),
+        Ok(flat) => {
+            if wires {
+                show_wire_fault(rt, &flat);
+            } else {
+                show_statements(rt, &flat);
+            }
+        }
+        Err(error) => show_fault(rt, error),
     }
 }

@@ -1,27 +1,20 @@
 //! What is told of two netlists.
 
-use crate::latches::nets::net_of;
+use crate::latches::nets::both_nets;
 use crate::latches::numbers::numbers;
 use block_refine::{Refined, refine};
 use flat_net::Net;
 use latch_blocks::is_light;
-use row_text::{show, show_number, split_at};
+use row_text::{show, show_number};
 use sec_base::{DEFAULT_CONFLICTS, Orders};
 use std::alloc::Global;
 use std::rt::HostRuntime;
 
 /// Shows both netlists, and then the blocks of the latches of both.
 pub(crate) fn show_row(rt: &HostRuntime, row: &[u8]) {
-    show(rt, row);
-    show(rt, b"\n");
-    let (first, second) = split_at(b';', row);
-    let Some(left) = net_of(rt.alloc(), first) else {
-        return show(rt, b"no first net\n");
-    };
-    let Some(right) = net_of(rt.alloc(), second) else {
-        return show(rt, b"no second net\n");
-    };
-    show_nets(rt, &left, &right);
+    if let Some((left, right)) = both_nets(rt, row) {
+        show_nets(rt, &left, &right);
+    }
 }
 
 fn show_nets(rt: &HostRuntime, left: &Net, right: &Net) {

@@ -4,12 +4,12 @@ ghost use Rattle.std.specs.Prelude.{◌≤◌};
 ghost use Rattle.call_rows.specs.Starts.{IsStart};
 
 use crate::latches::circuits::circuit_of;
-use crate::latches::nets::net_of;
+use crate::latches::nets::both_nets;
 use class_separations::Apart;
 use event_classes::{ClassMap, EventError, make_classes};
 use event_nodes::EventCircuit;
 use flat_net::Net;
-use row_text::{show, show_bit, show_count, show_number, split_at};
+use row_text::{show, show_bit, show_count, show_number};
 use sec_base::{MAX_CONFLICTS, Side, Tag};
 use std::rt::HostRuntime;
 
@@ -18,16 +18,9 @@ use std::rt::HostRuntime;
 pub(crate) fn show_row(rt: &HostRuntime, row: &[u8], conflicts: u32)
     requires { conflicts ≤ MAX_CONFLICTS }
 {
-    show(rt, row);
-    show(rt, b"\n");
-    let (first, second) = split_at(b';', row);
-    let Some(left) = net_of(rt.alloc(), first) else {
-        return show(rt, b"no first net\n");
-    };
-    let Some(right) = net_of(rt.alloc(), second) else {
-        return show(rt, b"no second net\n");
-    };
-    show_nets(rt, left, right, conflicts);
+    if let Some((left, right)) = both_nets(rt, row) {
+        show_nets(rt, left, right, conflicts);
+    }
 }
 
 fn show_nets(rt: &HostRuntime, left: Net, right: Net, conflicts: u32)
@@ -42,6 +35,15 @@ fn show_nets(rt: &HostRuntime, left: Net, right: Net, conflicts: u32)
     show_classes(rt, left, right, conflicts);
 }
 
+fn line_of(error: &EventError) -> &'static [u8] {
+    match error {
+        EventError::TooManyEvents => b"too many events\n",
+        EventError::TooLarge(_) => b"too large\n",
+        EventError::Limit { .. } => b"limit\n",
+        EventError::NoMemory => b"no memory\n",
+    }
+}
+
 fn show_classes(rt: &HostRuntime, left: EventCircuit, right: EventCircuit, conflicts: u32)
     requires left { IsStart left }
     requires right { IsStart right }
@@ -49,10 +51,7 @@ fn show_classes(rt: &HostRuntime, left: EventCircuit, right: EventCircuit, confl
 {
     match make_classes(rt.alloc(), left, right, conflicts) {
         Ok(map) => show_map(rt, &map),
-        Err(EventError::TooManyEvents) => show(rt, b"too many events\n"),
-        Err(EventError::TooLarge(_)) => show(rt, b"too large\n"),
-        Err(EventError::Limit { .. }) => show(rt, b"limit\n"),
-        Err(EventError::NoMemory) => show(rt, b"no memory\n"),
+        Err(error) => show(rt, line_of(&error)),
     }
 }
 

@@ -1,11 +1,11 @@
 //! Small graphs that rows define.
 
-ghost use Rattle.std.specs.Prelude.{◌≡◌, ◌*◌, ◌<◌, ◌≤◌, length, IfOk, IfSome, IsTrue};
+ghost use Rattle.std.specs.Prelude.{◌≡◌, ◌*◌, ◌<◌, ◌≤◌, [], ◌∷◌, ◌++◌, length, IfOk, OnOk, IfSome, IsTrue};
 ghost use Rattle.sec_base.specs.Cover.{IsCube, IsPlace};
 
 use aig::{Aig, Lit};
 use row_text::{number_of, split_at};
-use sec_base::{Cover, NoMemory, Seq, Word};
+use sec_base::{Cover, Cubes, NoMemory, Seq};
 use std::alloc::Global;
 
 /// The most nodes of a graph that a row defines.
@@ -135,11 +135,11 @@ impl Sketch {
         if rows.len() != 5 || !is_row(&rows[..2]) || !is_row(&rows[3..]) {
             return None;
         }
-        let cover = cover_by(alloc, &rows[..2], &rows[3..], on).ok()?;
         let size = self.graph.size();
         if size < 3 || size > NODES {
             return None;
         }
+        let cover = cover_by(alloc, &rows[..2], &rows[3..], on).ok()?;
         self.graph.cover(&cover, &[Lit(2), Lit(4)]).ok()
     }
 }
@@ -168,15 +168,16 @@ fn cover_by(alloc: Global, first: &[u8], second: &[u8], on: bool) -> Result<Cove
     ensures rows { IfOk result (λ cover. length cover.rows ≡ 2) }
 {
     let mut rows = Seq::new(alloc);
-    rows.push(row_of(alloc, first)?)?;
-    rows.push(row_of(alloc, second)?)?;
+    add_row(alloc, &mut rows, first)?;
+    add_row(alloc, &mut rows, second)?;
     Ok(Cover::from_rows(2, rows, on))
 }
 
-fn row_of(alloc: Global, row: &[u8]) -> Result<Word, NoMemory>
-    ensures { IfOk result (λ word. word ≡ row.now) }
+/// Puts a copy of the row last.
+fn add_row(alloc: Global, rows: &mut Cubes, row: &[u8]) -> Result<(), NoMemory>
+    ensures { OnOk result (rows.new ≡ rows.old ++ row.now ∷ []) }
 {
-    Ok(Seq::from_vec(row.to_vec(alloc)?))
+    rows.push(Seq::from_vec(row.to_vec(alloc)?))
 }
 
 /// Whether it is a row of a cover of two columns.
