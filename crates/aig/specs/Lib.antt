@@ -8,3 +8,4 @@ pub mod Ways
 pub mod Places
 pub mod sec_base
 pub mod circuit_theory
+pub mod graph_copy

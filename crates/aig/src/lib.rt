@@ -1,10 +1,12 @@
-//! And-inverter graphs: two-operand ands and complements, where equal nodes are one.
+//! And-inverter graphs: two-operand ands and complements, where equal nodes are one; and what is made in one graph of another's
+//! literals.
 #![tactic(auto)]
 
 mod cone;
 mod cone_graph;
 mod covers;
 mod graph;
+pub mod graph_copy;
 mod node;
 mod node_places;
 mod values;

@@ -9,7 +9,7 @@ use Rattle.circuit_theory.specs.Circuit.{Equation, Named, Started, Gate as gate_
 use Rattle.circuit_theory.specs.Flattened.{latch_names}
 use Rattle.circuit_theory.specs.Joined.{moved, moved_start}
 use Rattle.circuit_theory.proofs.Lists.{Contains-cases, Contains-head, Contains-tail}
-use Rattle.net_alike.specs.Renumbered.{latch_rows}
+use Rattle.net_assembly.specs.net_alike.Renumbered.{latch_rows}
 use Rattle.sec_base.specs.declared.basics.Init.{Init}
 use Rattle.sec_base.specs.declared.basics.Init.TheVariants as init
 use Rattle.flat_net.specs.declared.signals.Signal.{Signal}

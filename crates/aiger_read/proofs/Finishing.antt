@@ -12,9 +12,9 @@ use Rattle.circuit_theory.specs.Joined.{moved, moved_name, moved_start}
 use Rattle.circuit_theory.specs.Places.{IsPlace}
 use Rattle.circuit_theory.proofs.Lists.{map-map, map_same, Contains-map, Contains-map_from, Contains-head, Contains-tail, filter_map-from, filter_test, at_of}
 use Rattle.circuit_theory.proofs.Numbers.{slice_get-map}
-use Rattle.net_alike.specs.Renumbered.{latch_rows}
-use Rattle.net_alike.specs.FlatCircuit.{HasSignal, IsFlatCircuit}
-use Rattle.net_alike.proofs.Carrying.{map_fixed}
+use Rattle.net_assembly.specs.net_alike.Renumbered.{latch_rows}
+use Rattle.net_assembly.specs.net_alike.FlatCircuit.{HasSignal, IsFlatCircuit}
+use Rattle.net_assembly.proofs.net_alike.Carrying.{map_fixed}
 use Rattle.base_tables.specs.Table.{AreDistinct}
 use Rattle.aiger_read.proofs.aiger_file.aiger_graph.net_assembly.Rows.{slice_get-take_to}
 use Rattle.flat_net.specs.declared.signals.Signal.{Signal}

@@ -5,7 +5,7 @@ use Rattle.std.specs.Fmt.{digits}
 use Rattle.circuit_theory.specs.Circuit.{Circuit, Equation, IsInput, out_of, Gate as gate, Latch as latch}
 use Rattle.circuit_theory.specs.Flattened.{IsFlattened}
 use Rattle.circuit_theory.specs.Places.{IsPlace}
-use Rattle.net_alike.specs.FlatCircuit.{IsFlatCircuit}
+use Rattle.net_assembly.specs.net_alike.FlatCircuit.{IsFlatCircuit}
 use Rattle.base_tables.specs.Table.{AreDistinct}
 use Rattle.flat_net.specs.declared.parts.LatchAt.{LatchAt}
 use Rattle.flat_net.specs.View.{NetView, circuit_of}

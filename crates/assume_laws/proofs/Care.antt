@@ -14,7 +14,7 @@ use Rattle.circuit_theory.proofs.Numbers.{one_number}
 use Rattle.circuit_laws.proofs.NetLaws.{fanin_below, net_value, net_value-source, net_value-meets}
 use Rattle.circuit_laws.proofs.NetTrees.{has_number}
 use Rattle.circuit_laws.proofs.event_laws.CutParts.{cut_own_input}
-use Rattle.reset_laws.proofs.ResetAgreement.{HoldsAlong}
+use Rattle.circuit_laws.proofs.reset_laws.ResetAgreement.{HoldsAlong}
 use Rattle.assume_laws.specs.Assume.{Assumption, IsAssumption, RowMeets, RunMeets, ReadsInputs, PlaceUnfolds, PlaceUnfoldsAll}
 use Rattle.assume_laws.specs.Laws.{RowMeetsByTree, RowsMeetInRuns}
 

@@ -20,7 +20,7 @@ use Rattle.circuit_laws.proofs.JoinedParts.{joined_same, joined_single, joined_c
 use Rattle.circuit_laws.proofs.Marks.{marks_down}
 use Rattle.circuit_laws.proofs.event_laws.EventAgreement.{rises_at, kind_of, loads_are_one, loads_before, side_run, left_mark, right_mark}
 use Rattle.circuit_laws.proofs.event_laws.SettledEvents.{cycle_once, is_node, there, settled_has_events_in_nets}
-use Rattle.reset_laws.proofs.ResetAgreement.{HoldsAlong}
+use Rattle.circuit_laws.proofs.reset_laws.ResetAgreement.{HoldsAlong}
 
 -- the cycle of each node, reached or not, where `last` has the last loads of classes
 abbrev pub cycle_by : (ℕ → ℕ → ℕ) → ℕ → List ℕ → ℕ

@@ -14,7 +14,7 @@ use Rattle.circuit_theory.proofs.Lists.{Contains-head, Contains-tail, Contains-c
 use Rattle.circuit_theory.proofs.Numbers.{same_name-refl}
 use Rattle.circuit_laws.proofs.Windows.{rows_length, row_value-is, window}
 use Rattle.circuit_laws.proofs.event_laws.EventVariables.{tree_same}
-use Rattle.reset_laws.proofs.ResetWindows.{assigned_absent}
+use Rattle.circuit_laws.proofs.reset_laws.ResetWindows.{assigned_absent}
 use Rattle.assume_laws.specs.Assume.{Assumption, RowMeets}
 use Rattle.assume_laws.specs.Sequences.{RowsMeet, IsMeetingRow, filled, filled_frame, IsDifferenceUnder}
 use Rattle.assume_laws.specs.Laws.{WitnessMakesDifferUnder, EventDifferenceIsWitnessUnder}

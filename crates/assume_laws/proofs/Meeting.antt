@@ -4,7 +4,7 @@ use Rattle.circuit_theory.specs.Circuit.{Circuit}
 use Rattle.circuit_theory.specs.Tree.{Tree, Trees, Leaf, IsInputNumber, tree_value}
 use Rattle.circuit_theory.specs.Query.{Variable, HasLeaf, HasLeafIn, same_shift, assigned}
 use Rattle.circuit_theory.proofs.Lists.{only}
-use Rattle.reset_laws.proofs.ResetWindows.{assigned_absent}
+use Rattle.circuit_laws.proofs.reset_laws.ResetWindows.{assigned_absent}
 use Rattle.assume_laws.specs.Assume.{PlaceUnfolds, PlaceUnfoldsAll}
 use Rattle.assume_laws.specs.Laws.{MeetingRowMeets}
 use Rattle.assume_laws.proofs.Care.{tree_meets}

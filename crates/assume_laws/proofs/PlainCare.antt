@@ -10,7 +10,7 @@ use Rattle.circuit_laws.proofs.Marks.{settled_depth}
 use Rattle.circuit_laws.proofs.Values.{tree_is_run}
 use Rattle.circuit_laws.proofs.Onward.{cut_input}
 use Rattle.circuit_laws.proofs.Parted.{cut_tree_is_run, found_input, found_is, found_some}
-use Rattle.reset_laws.proofs.ResetAgreement.{HoldsAlong, input_row, row_left, row_right}
+use Rattle.circuit_laws.proofs.reset_laws.ResetAgreement.{HoldsAlong, input_row, row_left, row_right}
 
 -- both sides of a pair unfold, to functions that agree where each row is cared for
 pub record EqualPlainUnder {P Q : Type 0} (care : (ℕ → Bool) → Type 0) (a : Circuit P) (b : Circuit Q) (oa ob : List ℕ) (p : P) (q : Q) : Type 0 where

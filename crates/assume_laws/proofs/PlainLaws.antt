@@ -12,7 +12,7 @@ use Rattle.circuit_theory.proofs.Numbers.{distinct_at}
 use Rattle.circuit_laws.proofs.Onward.{cut_input}
 use Rattle.circuit_laws.proofs.event_laws.CutParts.{cut_own_input}
 use Rattle.circuit_laws.proofs.CutLaws.{cut_single, never_left, left_never, right_never, only_names, left_clear, right_clear}
-use Rattle.reset_laws.proofs.ResetAgreement.{reset_pair_agrees}
+use Rattle.circuit_laws.proofs.reset_laws.ResetAgreement.{reset_pair_agrees}
 use Rattle.assume_laws.specs.Assume.{Assumption, RowMeets, RunMeets, HaveEqualFunctionsUnder}
 use Rattle.assume_laws.specs.Laws.{EqualFunctionsAgreeUnder, ExposedFunctionsAgreeUnder, EqualResetsAgreeUnder}
 use Rattle.assume_laws.proofs.Care.{run_holds, cut_meets, shorter_meets}

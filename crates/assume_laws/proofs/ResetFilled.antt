@@ -10,9 +10,9 @@ use Rattle.circuit_theory.specs.Sequence.{row_value, TakesInputs}
 use Rattle.circuit_theory.proofs.Inputs.{test_same}
 use Rattle.circuit_laws.proofs.Windows.{rows_length}
 use Rattle.circuit_laws.proofs.event_laws.EventVariables.{tree_same}
-use Rattle.reset_laws.specs.Reset.{reset_rows, powers, start_at, power_of, TakesPower}
-use Rattle.reset_laws.proofs.ResetAgreement.{lt_true, lt_false}
-use Rattle.reset_laws.proofs.ResetWindows.{assigned_absent, powers_at, powers_length, powered_is_reset, reset_window_by, reset_rows-is}
+use Rattle.circuit_laws.specs.reset_laws.Reset.{reset_rows, powers, start_at, power_of, TakesPower}
+use Rattle.circuit_laws.proofs.reset_laws.ResetAgreement.{lt_true, lt_false}
+use Rattle.circuit_laws.proofs.reset_laws.ResetWindows.{assigned_absent, powers_at, powers_length, powered_is_reset, reset_window_by, reset_rows-is}
 use Rattle.assume_laws.specs.Sequences.{RowsMeet, filled}
 use Rattle.assume_laws.specs.Laws.{ResetWitnessMakesDifferUnder}
 use Rattle.assume_laws.proofs.Care.{row_same}

@@ -17,7 +17,7 @@ use Rattle.circuit_theory.specs.Classes.{HasClasses}
 use Rattle.circuit_theory.specs.EventFrames.{AreNodeVariables, frame_of}
 use Rattle.circuit_theory.specs.EventFits.{side_by_side, IsEventWitness, ReachesAlways}
 use Rattle.circuit_theory.specs.Fits.{MakesDiffer}
-use Rattle.reset_laws.specs.Reset.{HasStarts, AreBased, MakesDifferFromReset}
+use Rattle.circuit_laws.specs.reset_laws.Reset.{HasStarts, AreBased, MakesDifferFromReset}
 use Rattle.assume_laws.specs.Assume.{Assumption, IsAssumption, RowMeets, RunMeets, ReadsInputs, PlaceUnfolds, HaveEqualFunctionsUnder, AreEqualFromResetUnder, HaveEqualEventsUnder, AgreeUnder, AgreeOnwardUnder, AgreeFromResetUnder}
 use Rattle.assume_laws.specs.Sequences.{IsPairTreeUnder, IsUnshownFrameUnder, HaveDifferentEventsUnder, assumption_query, IsMeetingDifference, RowsMeet, IsMeetingRow, filled_frame, IsWitnessUnder, IsResetWitnessUnder, IsEventDifferenceUnder}
 

@@ -9,7 +9,7 @@ use Rattle.aig.specs.Graph.{IsGraph, Grows}
 use Rattle.aig.specs.Values.{value}
 use Rattle.aig.proofs.Growth.{Grows-length}
 use Rattle.aig.proofs.Meaning.{value-grows}
-use Rattle.graph_copy.proofs.Reaching.{input_back}
+use Rattle.aig.proofs.graph_copy.Reaching.{input_back}
 use Rattle.assume_queries.specs.Care.{IsConjunction}
 
 -- the literals stand in the graph as it was

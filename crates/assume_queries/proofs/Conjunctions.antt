@@ -12,7 +12,7 @@ use Rattle.aig.specs.Values.{value}
 use Rattle.aig.proofs.CoverMeaning.{value-one}
 use Rattle.aig.proofs.Growth.{Grows-trans}
 use Rattle.aig.proofs.Meaning.{value-grows}
-use Rattle.graph_copy.proofs.Reaching.{input_back, reads_constant, reads_and}
+use Rattle.aig.proofs.graph_copy.Reaching.{input_back, reads_constant, reads_and}
 use Rattle.assume_queries.specs.Care.{IsReadByOne, IsConjunction}
 
 pub conjunction_none : (g : List Node) → IsGraph g → IsConjunction g [] g 1

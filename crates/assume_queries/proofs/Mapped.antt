@@ -19,10 +19,10 @@ use Rattle.shift_variables.proofs.query_places.Grouped.{variables_are_grouped}
 use Rattle.obligations.specs.declared.obligation.Obligation.{Obligation}
 use Rattle.assume_laws.specs.Assume.{IsAssumption}
 use Rattle.assume_laws.specs.assume_shape.Shape.{assumption_of}
-use Rattle.assume_functions.specs.declared.own.OwnFunction.{OwnFunction}
-use Rattle.assume_functions.specs.Functions.{IsAssumedAt}
-use Rattle.assume_places.specs.Gathered.{HasPlaces, AreOwn, place_at}
-use Rattle.assume_places.specs.Placed.{ArePut, CanBePut}
+use Rattle.assume_queries.specs.declared.assume_functions.own.OwnFunction.{OwnFunction}
+use Rattle.assume_queries.specs.assume_functions.Functions.{IsAssumedAt}
+use Rattle.assume_queries.specs.assume_functions.assume_places.Gathered.{HasPlaces, AreOwn, place_at}
+use Rattle.assume_queries.specs.assume_functions.assume_places.Placed.{ArePut, CanBePut}
 use Rattle.assume_queries.specs.declared.map.Parts.{Parts}
 use Rattle.assume_queries.specs.declared.assume_answers.order.VariableOrder.{VariableOrder}
 use Rattle.assume_queries.specs.declared.assume_answers.order.VariableOrder.TheVariants as order

@@ -20,9 +20,9 @@ use Rattle.shift_variables.proofs.Reading.{pair_is}
 use Rattle.shift_variables.specs.query_places.Places.{place_of}
 use Rattle.assume_laws.specs.Assume.{Assumption, IsAssumption, RowMeets, PlaceUnfolds}
 use Rattle.assume_laws.specs.assume_shape.Shape.{assumption_of}
-use Rattle.assume_functions.proofs.Assumed.{assumed_meets}
-use Rattle.assume_places.specs.Gathered.{place_at, AreOwn}
-use Rattle.assume_places.specs.Placed.{ArePut}
+use Rattle.assume_queries.proofs.assume_functions.Assumed.{assumed_meets}
+use Rattle.assume_queries.specs.assume_functions.assume_places.Gathered.{place_at, AreOwn}
+use Rattle.assume_queries.specs.assume_functions.assume_places.Placed.{ArePut}
 use Rattle.assume_queries.specs.declared.assume_answers.order.VariableOrder.{VariableOrder}
 use Rattle.assume_queries.specs.assume_answers.Order.{AreOrdered}
 use Rattle.assume_queries.specs.Parts.{function_at, literals_at, variables_at}

@@ -13,7 +13,7 @@ use Rattle.unfold_places.specs.declared.signal_function.Unfolded.{Unfolded}
 use Rattle.obligations.specs.declared.obligation.Obligation.{Obligation}
 use Rattle.obligations.specs.Asked.{queries_of}
 use Rattle.obligations.proofs.Listed.{query-at, take-next}
-use Rattle.assume_places.specs.Gathered.{AreOwn}
+use Rattle.assume_queries.specs.assume_functions.assume_places.Gathered.{AreOwn}
 use Rattle.assume_queries.specs.declared.map.Parts.{Parts}
 use Rattle.assume_queries.specs.declared.assume_answers.order.VariableOrder.{VariableOrder}
 use Rattle.assume_queries.specs.Parts.{function_at, literals_at}

@@ -19,9 +19,9 @@ use Rattle.shift_variables.specs.Variables.{variable_of}
 use Rattle.shift_variables.proofs.Reading.{pair_is}
 use Rattle.shift_variables.specs.query_places.Places.{place_of, ComesFirst}
 use Rattle.assume_laws.proofs.Meeting.{leaf_at}
-use Rattle.assume_functions.specs.Functions.{IsAssumedAt}
-use Rattle.assume_places.specs.Gathered.{place_at}
-use Rattle.assume_places.specs.Placed.{ArePut}
+use Rattle.assume_queries.specs.assume_functions.Functions.{IsAssumedAt}
+use Rattle.assume_queries.specs.assume_functions.assume_places.Gathered.{place_at}
+use Rattle.assume_queries.specs.assume_functions.assume_places.Placed.{ArePut}
 use Rattle.assume_queries.specs.declared.assume_answers.order.VariableOrder.{VariableOrder}
 use Rattle.assume_queries.specs.declared.assume_answers.order.VariableOrder.TheVariants as order
 use Rattle.assume_queries.specs.assume_answers.Order.{GoesFirst, AreOrdered}

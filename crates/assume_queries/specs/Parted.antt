@@ -9,9 +9,9 @@ use Rattle.unfold_places.specs.declared.signal_function.Unfolded.{Unfolded}
 use Rattle.obligations.specs.declared.obligation.Obligation.{Obligation}
 use Rattle.assume_laws.specs.Assume.{IsAssumption}
 use Rattle.assume_laws.specs.assume_shape.Shape.{assumption_of}
-use Rattle.assume_functions.specs.declared.own.OwnFunction.{OwnFunction}
-use Rattle.assume_functions.specs.Functions.{IsOwnFunction}
-use Rattle.assume_places.specs.Gathered.{AreOwn}
+use Rattle.assume_queries.specs.declared.assume_functions.own.OwnFunction.{OwnFunction}
+use Rattle.assume_queries.specs.assume_functions.Functions.{IsOwnFunction}
+use Rattle.assume_queries.specs.assume_functions.assume_places.Gathered.{AreOwn}
 use Rattle.assume_queries.specs.declared.map.Parts.{Parts}
 use Rattle.assume_queries.specs.declared.assume_answers.order.VariableOrder.{VariableOrder}
 use Rattle.assume_queries.specs.assume_answers.Order.{AreOrdered}

@@ -1,1 +1,4 @@
-pub use Rattle.assume_functions.specs.Functions
+pub mod Functions
+pub mod Laws
+pub mod cbf_unfold
+pub mod assume_places

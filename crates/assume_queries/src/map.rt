@@ -9,19 +9,19 @@ ghost use Rattle.pair_decide.specs.declared.query.Query.{Query};
 ghost use Rattle.obligations.specs.Asked.{queries_of};
 ghost use Rattle.assume_laws.specs.Assume.{IsAssumption};
 ghost use Rattle.assume_laws.specs.assume_shape.Shape.{assumption_of};
-ghost use Rattle.assume_functions.specs.Functions.{IsOwnFunction};
-ghost use Rattle.assume_places.specs.Gathered.{AreOwn, IsOverUnder, IsLightUnder};
+ghost use Rattle.assume_queries.specs.assume_functions.Functions.{IsOwnFunction};
+ghost use Rattle.assume_queries.specs.assume_functions.assume_places.Gathered.{AreOwn, IsOverUnder, IsLightUnder};
 ghost use Rattle.assume_queries.specs.declared.map.UnderError.TheVariants as under_error;
 ghost use Rattle.assume_queries.specs.assume_answers.Order.{AreOrdered};
 ghost use Rattle.assume_queries.specs.assume_answers.Under.{IsObligationUnder};
 ghost use Rattle.assume_queries.specs.Parted.{AreParts, ArePartsFrom, AreOwnFrom, IsObligationMade, Weighs};
 
 use crate::assume_answers::VariableOrder;
-use crate::query::query_under;
-use aig::Aig;
-use assume_places::{
+use crate::assume_functions::assume_places::{
     Obligation, OwnFunction, Queries, QueryPlaces, copy_name, functions_at, places_of_all,
 };
+use crate::query::query_under;
+use aig::Aig;
 use base_tables::PlaceTable;
 use sec_base::{Ids, MAX_WEIGHT, NoMemory};
 use std::alloc::Global;

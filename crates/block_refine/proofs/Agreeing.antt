@@ -4,9 +4,9 @@ use Rattle.circuit_theory.specs.Circuit.{Named}
 use Rattle.circuit_theory.specs.Interface.{AreNumbersOf}
 use Rattle.circuit_theory.proofs.Lists.{length-map, map-map}
 use Rattle.circuit_theory.proofs.Numbers.{numbers_are}
-use Rattle.reset_laws.proofs.induct_laws.Runs.{equal_over_blocks_agree}
+use Rattle.circuit_laws.proofs.reset_laws.induct_laws.Runs.{equal_over_blocks_agree}
 use Rattle.flat_net.specs.View.{NetView, named, circuit_of, ports_of}
-use Rattle.latch_blocks.specs.Partitions.{block_of}
+use Rattle.block_refine.specs.latch_blocks.Partitions.{block_of}
 use Rattle.block_refine.specs.Laws.{OutputsAgree}
 
 names_are : (n : NetView) → (ports_of n).inputs ≡ map (λ (i : Named ℕ). i.name) (circuit_of n).inputs

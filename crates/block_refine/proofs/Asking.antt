@@ -13,7 +13,7 @@ use Rattle.pair_decide.specs.declared.query.Proof.{Proof}
 use Rattle.pair_decide.specs.declared.query.Decision.TheVariants as decision
 use Rattle.pair_decide.specs.Queries.{IsSame, assigned_to}
 use Rattle.pair_decide.specs.Answers.{Decides, IsDifference}
-use Rattle.latch_blocks.specs.Partitions.{nexts_of}
+use Rattle.block_refine.specs.latch_blocks.Partitions.{nexts_of}
 use Rattle.block_refine.specs.declared.block_graph.nets.BlockNets.{BlockNets}
 use Rattle.block_refine.specs.declared.block_graph.graph.BlockGraph.{BlockGraph}
 use Rattle.block_refine.specs.declared.block_graph.compare.Comparison.{Comparison}

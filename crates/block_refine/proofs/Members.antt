@@ -2,7 +2,7 @@
 use Rattle.std.proofs.Common.{◌≡◌, ◌≢◌, ◌∙◌, ◌+◌, ◌<◌, ◌≤◌, ◌⊎◌, ℕ, List, [], ◌∷◌, ◌++◌, length, sym, ap, subst, arith, inl, inr, length-append}
 use Rattle.std.proofs.Math.ListN.{get_or-append}
 use Rattle.std.proofs.Math.Seq.{get_or-append_seam}
-use Rattle.latch_blocks.specs.Blocks.{block_at, AreInOrder}
+use Rattle.block_refine.specs.latch_blocks.Blocks.{block_at, AreInOrder}
 use Rattle.block_refine.specs.Passes.{AreMembers, IsMemberPut}
 
 -- each block of the latches so far has a latch of its own among these

@@ -11,14 +11,14 @@ use Rattle.flat_net.specs.View.{NetView, circuit_of}
 use Rattle.flat_net.specs.Sound.{IsSound}
 use Rattle.flat_net.proofs.Nets.{some_at}
 use Rattle.pair_decide.specs.declared.query.Proof.{Proof}
-use Rattle.reset_laws.proofs.induct_laws.Partitions.{constant_on_finer}
-use Rattle.latch_blocks.specs.Blocks.{block_at, bit_at, IsSplit}
-use Rattle.latch_blocks.specs.Laws.{pairs_alike}
-use Rattle.latch_blocks.specs.Partitions.{block_of, starts_of, nexts_of}
-use Rattle.latch_blocks.specs.Signals.{net_weight}
-use Rattle.latch_blocks.proofs.Counting.{split_refines, split_has_fewer_pairs}
-use Rattle.latch_blocks.proofs.Going.{partition_splits, partition_ends}
-use Rattle.latch_blocks.proofs.Placing.{left_next, right_next, stands, place_of, place_inside, block_is}
+use Rattle.circuit_laws.proofs.reset_laws.induct_laws.Partitions.{constant_on_finer}
+use Rattle.block_refine.specs.latch_blocks.Blocks.{block_at, bit_at, IsSplit}
+use Rattle.block_refine.specs.latch_blocks.Laws.{pairs_alike}
+use Rattle.block_refine.specs.latch_blocks.Partitions.{block_of, starts_of, nexts_of}
+use Rattle.block_refine.specs.latch_blocks.Signals.{net_weight}
+use Rattle.block_refine.proofs.latch_blocks.Counting.{split_refines, split_has_fewer_pairs}
+use Rattle.block_refine.proofs.latch_blocks.Going.{partition_splits, partition_ends}
+use Rattle.block_refine.proofs.latch_blocks.Placing.{left_next, right_next, stands, place_of, place_inside, block_is}
 use Rattle.block_refine.specs.declared.block_graph.nets.BlockNets.{BlockNets}
 use Rattle.block_refine.specs.declared.block_graph.graph.BlockGraph.{BlockGraph}
 use Rattle.block_refine.specs.block_graph.Graph.{IsBlockGraph}

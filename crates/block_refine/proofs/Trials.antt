@@ -10,9 +10,9 @@ use Rattle.circuit_theory.specs.Joined.{Either}
 use Rattle.circuit_theory.proofs.Lists.{All-from_each, length-map, only}
 use Rattle.circuit_theory.proofs.Numbers.{slice_get-map}
 use Rattle.flat_net.specs.Sound.{IsSound}
-use Rattle.latch_blocks.specs.Blocks.{block_at, bit_at, IsSplit}
-use Rattle.latch_blocks.specs.Partitions.{nexts_of}
-use Rattle.latch_blocks.specs.Signals.{AreMerged}
+use Rattle.block_refine.specs.latch_blocks.Blocks.{block_at, bit_at, IsSplit}
+use Rattle.block_refine.specs.latch_blocks.Partitions.{nexts_of}
+use Rattle.block_refine.specs.latch_blocks.Signals.{AreMerged}
 use Rattle.block_refine.specs.declared.block_graph.nets.BlockNets.{BlockNets}
 use Rattle.block_refine.specs.declared.block_graph.graph.BlockGraph.{BlockGraph}
 use Rattle.block_refine.specs.block_graph.Graph.{IsBlockGraph}

@@ -4,7 +4,7 @@ use Rattle.circuit_theory.specs.Joined.{Either}
 use Rattle.pair_decide.specs.declared.query.Query.{Query}
 use Rattle.pair_decide.specs.declared.query.Proof.{Proof}
 use Rattle.pair_decide.specs.Answers.{IsAtLimit}
-use Rattle.latch_blocks.specs.Partitions.{nexts_of}
+use Rattle.block_refine.specs.latch_blocks.Partitions.{nexts_of}
 use Rattle.block_refine.specs.declared.block_graph.nets.BlockNets.{BlockNets}
 use Rattle.block_refine.specs.declared.block_graph.graph.BlockGraph.{BlockGraph}
 use Rattle.block_refine.specs.block_graph.Comparing.{AgreeOver, AreConstant, AreOwn, IsLitIn}

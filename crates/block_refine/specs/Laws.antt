@@ -3,10 +3,10 @@ use Rattle.std.specs.Prelude.{◌≡◌, ℕ, Bool, List, []}
 use Rattle.circuit_theory.specs.Joined.{Either, Left, Right}
 use Rattle.circuit_theory.specs.Agree.{IsPair}
 use Rattle.circuit_theory.specs.Interface.{AreNumbersOf}
-use Rattle.reset_laws.specs.Reset.{AgreeFromReset}
+use Rattle.circuit_laws.specs.reset_laws.Reset.{AgreeFromReset}
 use Rattle.sec_base.specs.declared.basics.Orders.{Orders}
 use Rattle.flat_net.specs.View.{NetView, circuit_of, ports_of}
-use Rattle.latch_blocks.specs.QueryLaws.{AreBlockValues}
+use Rattle.block_refine.specs.latch_blocks.QueryLaws.{AreBlockValues}
 use Rattle.block_refine.specs.Refining.{AreCoarsest}
 
 -- Outputs of one name that have one value for all values that are constant on the blocks agree in every cycle of runs from the initial

@@ -3,3 +3,4 @@ pub mod Laws
 pub mod Passes
 pub mod Refining
 pub mod block_graph
+pub mod latch_blocks

@@ -1,9 +1,9 @@
 -- A pass over all latches of two nets, which splits the blocks of a partition.
 use Rattle.std.specs.Prelude.{◌≡◌, ◌≢◌, [], ◌∷◌, ℕ, ◌+◌, ◌<◌, ◌≤◌, Bool, true, false, List, ◌++◌, length}
 use Rattle.pair_decide.specs.declared.query.Proof.{Proof}
-use Rattle.latch_blocks.specs.Blocks.{block_at, bit_at}
-use Rattle.latch_blocks.specs.Laws.{pairs_alike}
-use Rattle.latch_blocks.specs.Partitions.{IsOnTheWay}
+use Rattle.block_refine.specs.latch_blocks.Blocks.{block_at, bit_at}
+use Rattle.block_refine.specs.latch_blocks.Laws.{pairs_alike}
+use Rattle.block_refine.specs.latch_blocks.Partitions.{IsOnTheWay}
 use Rattle.block_refine.specs.declared.block_graph.nets.BlockNets.{BlockNets}
 use Rattle.block_refine.specs.declared.block_graph.graph.BlockGraph.{BlockGraph}
 use Rattle.block_refine.specs.block_graph.Graph.{AreReady, IsBlockGraph}

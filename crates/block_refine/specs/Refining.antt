@@ -11,11 +11,11 @@ use Rattle.aig.specs.declared.node.Node.{Node}
 use Rattle.aig.specs.Graph.{IsGraph}
 use Rattle.pair_decide.specs.declared.query.Query.{Query}
 use Rattle.pair_decide.specs.Answers.{IsAtLimit}
-use Rattle.latch_blocks.specs.declared.variables.Variables.{Variables}
-use Rattle.latch_blocks.specs.Blocks.{block_at, AreInOrder}
-use Rattle.latch_blocks.specs.Partitions.{block_of, nexts_of, IsOnTheWay}
-use Rattle.latch_blocks.specs.QueryLaws.{IsLitAt, AreOnGraph}
-use Rattle.latch_blocks.specs.Laws.{pairs_alike}
+use Rattle.block_refine.specs.declared.latch_blocks.variables.Variables.{Variables}
+use Rattle.block_refine.specs.latch_blocks.Blocks.{block_at, AreInOrder}
+use Rattle.block_refine.specs.latch_blocks.Partitions.{block_of, nexts_of, IsOnTheWay}
+use Rattle.block_refine.specs.latch_blocks.QueryLaws.{IsLitAt, AreOnGraph}
+use Rattle.block_refine.specs.latch_blocks.Laws.{pairs_alike}
 use Rattle.block_refine.specs.block_graph.Comparing.{IsVariableAt}
 use Rattle.block_refine.specs.declared.pass.Round.{Round}
 use Rattle.block_refine.specs.declared.pass.Round.TheVariants as round

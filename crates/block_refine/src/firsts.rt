@@ -1,7 +1,7 @@
 //! A member of each block.
 
 ghost use Rattle.std.specs.Prelude.{IfOk, OnOk};
-ghost use Rattle.latch_blocks.specs.Blocks.{AreInOrder};
+ghost use Rattle.block_refine.specs.latch_blocks.Blocks.{AreInOrder};
 ghost use Rattle.block_refine.specs.Passes.{AreMembers, IsMemberPut};
 
 use sec_base::NoMemory;

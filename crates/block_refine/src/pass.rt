@@ -2,14 +2,14 @@
 
 ghost use Rattle.std.specs.Prelude.{◌≡◌, ◌+◌, ◌<◌, ◌≤◌, ◌^◌, true, false, length, IfOk, OnOk};
 ghost use Rattle.block_refine.specs.block_graph.Graph.{IsBlockGraph};
-ghost use Rattle.latch_blocks.specs.Blocks.{IsSplit, block_at};
+ghost use Rattle.block_refine.specs.latch_blocks.Blocks.{IsSplit, block_at};
 ghost use Rattle.block_refine.specs.Passes.{AreMembers, IsOnPass, IsPass, IsStep, IsRound};
 ghost use Rattle.block_refine.specs.declared.pass.Round.TheVariants as round;
 
 use crate::ask::{Answer, ask};
 use crate::block_graph::{BlockGraph, BlockNets};
 use crate::firsts::first_members;
-use latch_blocks::split_blocks;
+use crate::latch_blocks::split_blocks;
 use pair_decide::Proof;
 use sec_base::{Ids, MAX_CONFLICTS, NoMemory, Seq};
 use std::alloc::Global;

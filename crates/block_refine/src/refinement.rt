@@ -1,7 +1,7 @@
 //! The refinement.
 
 ghost use Rattle.std.specs.Prelude.{◌≡◌, ◌^◌, ◌<◌, ◌≤◌, length, All, IfOk};
-ghost use Rattle.latch_blocks.specs.Signals.{net_weight};
+ghost use Rattle.block_refine.specs.latch_blocks.Signals.{net_weight};
 ghost use Rattle.block_refine.specs.Refining.{IsRefined};
 
 use crate::block_graph::BlockNets;

@@ -2,11 +2,11 @@
 
 ghost use Rattle.std.specs.Prelude.{◌≡◌, ◌+◌, ◌^◌, ◌<◌, ◌++◌, length, map, IfOk, OnOk};
 ghost use Rattle.flat_net.specs.declared.parts.LatchAt.{LatchAt};
-ghost use Rattle.latch_blocks.specs.Blocks.{IsByStarts};
-ghost use Rattle.latch_blocks.specs.Partitions.{starts_of};
+ghost use Rattle.block_refine.specs.latch_blocks.Blocks.{IsByStarts};
+ghost use Rattle.block_refine.specs.latch_blocks.Partitions.{starts_of};
 
+use crate::latch_blocks::initial_blocks;
 use flat_net::{LatchAt, Net};
-use latch_blocks::initial_blocks;
 use sec_base::{Ids, Init, NoMemory};
 use std::alloc::Global;
 

@@ -3,14 +3,14 @@
 ghost use Rattle.std.specs.Prelude.{◌≡◌, ℕ, Bool, ◌<◌, length, map, All, IfOk, OnOk, IfSome};
 ghost use Rattle.std.specs.List.Sorted.{IsStrictlyIncreasing};
 ghost use Rattle.circuit_theory.specs.Joined.{Either};
-ghost use Rattle.latch_blocks.specs.Partitions.{nexts_of};
+ghost use Rattle.block_refine.specs.latch_blocks.Partitions.{nexts_of};
 ghost use Rattle.block_refine.specs.block_graph.Comparing.{AreReadBy};
 ghost use Rattle.block_refine.specs.block_graph.Graph.{IsBlockGraph};
 ghost use Rattle.block_refine.specs.Passes.{AreMembers, IsPass, IsApartAt};
 
 use crate::block_graph::{BlockGraph, BlockNets};
+use crate::latch_blocks::merged;
 use crate::pass::{Pass, first_in};
-use latch_blocks::merged;
 use rand_core::{Rng, SeedableRng};
 use rand_xoshiro::Xoshiro256PlusPlus;
 use sec_base::{Bits, Ids, NoMemory};

@@ -4,7 +4,7 @@ use Rattle.std.proofs.lemmas.Option.{same_Some}
 use Rattle.base_tables.specs.Table.{AreDistinct}
 use Rattle.flat_net.specs.View.{NetView}
 use Rattle.event_nodes.specs.View.{IsEventCircuit}
-use Rattle.event_order.specs.Order.{IsMarkedNet}
+use Rattle.class_search.specs.event_order.Order.{IsMarkedNet}
 
 pub begun_circuit : (n : NetView) (enabled : List Bool) (order classes : List ℕ) → IsMarkedNet n enabled → length order ≡ length n.inputs → AreDistinct order → length classes ≡ length n.latches →
     IsEventCircuit (record { net = n; enabled = enabled; order = order; classes = classes })

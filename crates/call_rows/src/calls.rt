@@ -1,18 +1,23 @@
 //! Calls of graphs and of simulations, and stimuli read and written.
 
-use crate::circuits::show_graph;
+use crate::circuits::{net_in, show_graph};
 use crate::runs::show_ones;
 use crate::stimuli::show_stimulus;
-use row_text::{show, split_at};
 use std::rt::HostRuntime;
 use std::str;
+use text_rows::row_text::{file_of, show, split_at};
 
-/// Shows what comes of the call.
-fn show_call(rt: &HostRuntime, call: &str, rest: &[u8]) {
+/// Shows what comes of the call on the file's text.
+fn show_call(rt: &HostRuntime, call: &str, text: &[u8], rows: &[u8]) {
+    if call == "stimulus" {
+        return show_stimulus(rt, text);
+    }
+    let Some(net) = net_in(rt.alloc(), text) else {
+        return show(rt, b"no net\n");
+    };
     match call {
-        "graph" => show_graph(rt, rest),
-        "ones" => show_ones(rt, rest),
-        "stimulus" => show_stimulus(rt, rest),
+        "graph" => show_graph(rt, &net),
+        "ones" => show_ones(rt, &net, rows),
         _ => show(rt, b"no call\n"),
     }
 }
@@ -24,7 +29,12 @@ pub(crate) fn show_row(rt: &HostRuntime, row: &[u8]) {
     }
     show(rt, row);
     show(rt, b"\n");
-    let (call, rest) = split_at(b' ', row);
-    show_call(rt, str::from_utf8(call).unwrap_or(""), rest);
+    let (call, words) = split_at(b' ', row);
+    let (path, rows) = split_at(b' ', words);
+    let call = str::from_utf8(call).unwrap_or("");
+    match file_of(rt, str::from_utf8(path).unwrap_or("")) {
+        Some(text) => show_call(rt, call, text.as_slice(), rows),
+        None => show(rt, b"lost\n"),
+    }
     show(rt, b"\n");
 }

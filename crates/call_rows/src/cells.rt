@@ -1,44 +1,22 @@
 //! Small circuits of the slow programs.
 
+use crate::words::size_of;
 use circuit_samples::cells::{Cell, depth, is_settled, read_earlier};
-use row_text::{number_of, show, show_bit, show_count, split_at};
-use std::alloc::Global;
 use std::rt::HostRuntime;
-
-/// The number of a signal, below 100, that digits spell.
-fn signal_of(digits: &[u8]) -> Option<u32> {
-    let number = number_of(digits)?;
-    if number >= 100 {
-        return None;
-    }
-    Some(number as u32)
-}
+use text_rows::row_text::{show, show_bit, show_count, split_at};
 
 /// The cell that a word spells: `i` is an input, `d` before a number a latch that takes over that signal, and `n` before two numbers,
 /// with a comma between them, their NAND.
 fn cell_of(word: &[u8]) -> Option<Cell> {
     match word {
         [b'i'] => Some(Cell::Input),
-        [b'd', from @ ..] => Some(Cell::Delay(signal_of(from)?)),
+        [b'd', from @ ..] => Some(Cell::Delay(size_of(from))),
         [b'n', both @ ..] => {
             let (left, right) = split_at(b',', both);
-            Some(Cell::Nand(signal_of(left)?, signal_of(right)?))
+            Some(Cell::Nand(size_of(left), size_of(right)))
         }
         _ => None,
     }
-}
-
-fn cells_of(alloc: Global, words: &[u8]) -> Option<Vec<Cell>> {
-    let mut cells = Vec::new(alloc);
-    let mut rest = words;
-    for _ in 0..words.len() {
-        let (word, later) = split_at(b' ', rest);
-        if !word.is_empty() {
-            cells.push(cell_of(word)?).ok()?;
-        }
-        rest = later;
-    }
-    Some(cells)
 }
 
 /// Shows the depth of the last cell, and whether it is settled in each of the first four cycles.
@@ -48,7 +26,7 @@ fn show_last(rt: &HostRuntime, cells: &[Cell]) {
     }
     let last = (cells.len() - 1) as u32;
     show(rt, b" depth");
-    show_count(rt, u64::from(depth(cells, last)));
+    show_count(rt, depth(cells, last) as u64);
     show(rt, b", settled ");
     for cycle in 0..4 {
         show_bit(rt, is_settled(cells, last, cycle));
@@ -57,8 +35,14 @@ fn show_last(rt: &HostRuntime, cells: &[Cell]) {
 
 /// Shows what the slow programs tell of the last signal of the circuit that the words spell.
 pub(crate) fn show_cells(rt: &HostRuntime, words: &[u8]) {
-    match cells_of(rt.alloc(), words) {
-        Some(cells) => show_last(rt, cells.as_slice()),
-        None => show(rt, b" no cells"),
+    let mut cells = Vec::new(rt.alloc());
+    let mut rest = words;
+    for _ in 0..words.len() {
+        let (word, later) = split_at(b' ', rest);
+        rest = later;
+        if let Some(cell) = cell_of(word) {
+            let _ = cells.push(cell);
+        }
     }
+    show_last(rt, cells.as_slice());
 }

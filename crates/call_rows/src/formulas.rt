@@ -2,33 +2,32 @@
 
 ghost use Rattle.std.specs.Prelude.{◌≤◌, length};
 
-use crate::checks::{show_checked, show_clause, show_derived};
-use crate::resolution::show_resolved;
-use crate::row_parts::{clauses_of, numbers_of};
+use crate::checks::{show_checked, show_clause, show_derived, show_resolved};
+use crate::row_parts::clauses_of;
 use crate::searches::show_searched;
 use proof_check::Clauses;
-use row_text::{show, split_at};
 use std::rt::HostRuntime;
 use std::str;
+use text_rows::row_text::{show, split_at};
 
 /// How many clauses and chains a row has at most.
 pub(crate) const MANY: usize = 1_000_000;
 
-/// Shows what a log or numbers, behind clauses, come to.
-fn show_more(rt: &HostRuntime, kind: &str, clauses: &Clauses, more: &[u8])
+/// Shows what clauses come to, with what more stands behind them.
+fn show_kind(rt: &HostRuntime, kind: &str, clauses: &Clauses, more: &[u8])
     requires { length clauses.now ≤ 1000000 }
 {
     match kind {
         "log" => show_checked(rt, clauses, more),
         "chains" => show_derived(rt, clauses, more),
-        "resolve" => show_resolved(rt, clauses, numbers_of(rt, more).as_slice()),
-        "search" => show_searched(rt, clauses, numbers_of(rt, more).as_slice(), false),
-        "solve" => show_searched(rt, clauses, numbers_of(rt, more).as_slice(), true),
+        "resolve" => show_resolved(rt, clauses, more),
+        "search" => show_searched(rt, clauses, more, false),
+        "solve" => show_searched(rt, clauses, more, true),
         _ => show(rt, b"no kind"),
     }
 }
 
-fn show_kind(rt: &HostRuntime, kind: &str, formula: &[u8], more: &[u8]) {
+fn show_formula(rt: &HostRuntime, kind: &str, formula: &[u8], more: &[u8]) {
     if kind == "clause" {
         return show_clause(rt, formula);
     }
@@ -36,7 +35,7 @@ fn show_kind(rt: &HostRuntime, kind: &str, formula: &[u8], more: &[u8]) {
     if clauses.len() > MANY {
         show(rt, b"too many");
     } else {
-        show_more(rt, kind, &clauses, more);
+        show_kind(rt, kind, &clauses, more);
     }
 }
 
@@ -47,6 +46,6 @@ pub(crate) fn show_row(rt: &HostRuntime, row: &[u8]) {
     let (formula, more) = split_at(b';', about);
     show(rt, name);
     show(rt, b": ");
-    show_kind(rt, str::from_utf8(kind).unwrap_or(""), formula, more);
+    show_formula(rt, str::from_utf8(kind).unwrap_or(""), formula, more);
     show(rt, b"\n");
 }

@@ -10,8 +10,8 @@
 //! `files`: `w<n` fetches the real file w of at most n bytes.
 //! `cells`: the cells of a small circuit, `i` an input, `d2` a latch that takes over signal 2, `n0,1` the NAND of two signals; behind
 //! them stand the depth of the last one and whether it is settled in each of the first four cycles, by the slow programs.
-//! `clauses`: `KIND;NAME;CLAUSES;MORE`. Clauses stand as in DIMACS, each with a 0 at its end. What more stands there is a log, the steps
-//! of a resolver, or the variables and the conflicts of a search.
+//! `clauses`: `KIND;NAME;CLAUSES;MORE`. Each clause has a comma behind it, and its literals are those of DIMACS. What more stands there is
+//! a log, the steps of a resolver, or the variables and the conflicts of a search.
 //! `calls`: `graph A` is the depth of each output of the circuit, the weight of its unfolding, and a cycle of latches; `ones A ROW..` the
 //! values and the marks of the outputs in each cycle, where each latch powers up with 1; `stimulus S` the stimulus as it is written
 //! again, or its faulty line. A and S are files of this folder. A row that begins with `#` is a remark.
@@ -28,27 +28,23 @@ mod checks;
 mod circuits;
 mod formulas;
 mod latches;
-mod resolution;
 mod row_parts;
 mod runs;
 mod searches;
 mod shelves;
-mod sinks;
 mod stimuli;
 mod tables;
 mod words;
 
 use cells::show_cells;
 use latches::{show_blocks, show_classes, show_enables};
-use row_text::{file_of, show, split_at};
 use sec_base::DEFAULT_CONFLICTS;
-use shelves::{show_files, show_shelf};
-use sinks::show_sink;
+use shelves::{show_files, show_shelf, show_sink};
 use std::rt::HostRuntime;
 use tables::{show_names, show_places};
+use text_rows::row_text::{file_of, show, split_at};
 
 /// What the rows of a file tell of.
-#[derive(Clone, Copy)]
 enum Asked {
     Names,
     Places,
@@ -65,7 +61,7 @@ enum Asked {
 }
 
 /// Shows a name, and what the words behind it tell.
-fn show_named(rt: &HostRuntime, asked: Asked, row: &[u8]) {
+fn show_named(rt: &HostRuntime, asked: &Asked, row: &[u8]) {
     let (name, words) = split_at(b'\t', row);
     show(rt, name);
     show(rt, b":");
@@ -80,7 +76,7 @@ fn show_named(rt: &HostRuntime, asked: Asked, row: &[u8]) {
     show(rt, b"\n");
 }
 
-fn show_row(rt: &HostRuntime, asked: Asked, row: &[u8]) {
+fn show_row(rt: &HostRuntime, asked: &Asked, row: &[u8]) {
     match asked {
         Asked::Clauses => formulas::show_row(rt, row),
         Asked::Calls => calls::show_row(rt, row),
@@ -93,7 +89,7 @@ fn show_row(rt: &HostRuntime, asked: Asked, row: &[u8]) {
 }
 
 /// Shows what each row of the file tells.
-fn show_file(rt: &HostRuntime, asked: Asked, path: &str) {
+fn show_file(rt: &HostRuntime, asked: &Asked, path: &str) {
     let Some(rows) = file_of(rt, path) else {
         return show(rt, b"no rows\n");
     };
@@ -109,16 +105,16 @@ fn show_file(rt: &HostRuntime, asked: Asked, path: &str) {
 
 /// Shows what the rows of each file tell.
 pub fn show_rows(rt: &HostRuntime) {
-    show_file(rt, Asked::Names, "names");
-    show_file(rt, Asked::Places, "places");
-    show_file(rt, Asked::Shelves, "shelves");
-    show_file(rt, Asked::Sinks, "sinks");
-    show_file(rt, Asked::Files, "files");
-    show_file(rt, Asked::Cells, "cells");
-    show_file(rt, Asked::Clauses, "clauses");
-    show_file(rt, Asked::Calls, "calls");
-    show_file(rt, Asked::Enables, "enables");
-    show_file(rt, Asked::Blocks, "blocks");
-    show_file(rt, Asked::Classes, "classes");
-    show_file(rt, Asked::Limited, "limited");
+    show_file(rt, &Asked::Names, "names");
+    show_file(rt, &Asked::Places, "places");
+    show_file(rt, &Asked::Shelves, "shelves");
+    show_file(rt, &Asked::Sinks, "sinks");
+    show_file(rt, &Asked::Files, "files");
+    show_file(rt, &Asked::Cells, "cells");
+    show_file(rt, &Asked::Clauses, "clauses");
+    show_file(rt, &Asked::Calls, "calls");
+    show_file(rt, &Asked::Enables, "enables");
+    show_file(rt, &Asked::Blocks, "blocks");
+    show_file(rt, &Asked::Classes, "classes");
+    show_file(rt, &Asked::Limited, "limited");
 }

@@ -2,32 +2,13 @@
 
 ghost use Rattle.std.specs.Prelude.{◌≡◌, ◌<◌, IfOk};
 
-use crate::circuits::net_of;
 use cycle_sim::{MarkedSim, Power};
 use flat_net::Net;
-use inner_cone::latch_cone::none_enabled;
-use row_text::{show, split_at};
 use sec_base::NoMemory;
+use signal_graph::inner_cone::latch_cone::none_enabled;
 use std::alloc::Global;
 use std::rt::HostRuntime;
-
-/// The bits of a row of digits.
-fn bits_of(alloc: Global, digits: &[u8]) -> Result<Vec<bool>, NoMemory> {
-    let mut bits = Vec::new(alloc);
-    for digit in digits {
-        bits.push(*digit == b'1')?;
-    }
-    Ok(bits)
-}
-
-/// Shows the values and the marks of the outputs in each cycle of the run.
-pub(crate) fn show_ones(rt: &HostRuntime, words: &[u8]) {
-    let (path, rows) = split_at(b' ', words);
-    match net_of(rt, path) {
-        Some(net) => show_cycles(rt, &net, rows),
-        None => show(rt, b"no net\n"),
-    }
-}
+use text_rows::row_text::{show, split_at};
 
 /// The net with each latch at 1, none of them enabled.
 fn at_ones(alloc: Global, net: &Net) -> Result<MarkedSim<'_>, NoMemory>
@@ -37,7 +18,8 @@ fn at_ones(alloc: Global, net: &Net) -> Result<MarkedSim<'_>, NoMemory>
     MarkedSim::new(alloc, net, &Power::Ones, &enabled)
 }
 
-fn show_cycles(rt: &HostRuntime, net: &Net, rows: &[u8]) {
+/// Shows the values and the marks of the outputs in each cycle of the run.
+pub(crate) fn show_ones(rt: &HostRuntime, net: &Net, rows: &[u8]) {
     let Ok(mut marked) = at_ones(rt.alloc(), net) else {
         return show(rt, b"lost\n");
     };
@@ -51,20 +33,21 @@ fn show_cycles(rt: &HostRuntime, net: &Net, rows: &[u8]) {
     }
 }
 
-/// Takes one cycle over the row, and shows the values and the marks of the outputs in it.
+/// Takes one cycle over the row of digits, and shows the values and the marks of the outputs in it.
 fn show_cycle(rt: &HostRuntime, net: &Net, marked: &mut MarkedSim<'_>, row: &[u8])
     requires { marked.old.sim.net ≡ net.now }
     ensures { marked.new.sim.net ≡ marked.old.sim.net }
 {
-    let Ok(inputs) = bits_of(rt.alloc(), row) else {
-        return show(rt, b"lost\n");
-    };
-    if inputs.len() == net.inputs().len() && marked.cycles() <= 1_000 {
-        marked.step(inputs.as_slice());
-        show_outputs(rt, net, marked);
-    } else {
-        show(rt, b"lost\n");
+    let mut bits = [false; 100];
+    let count = row.len().min(100);
+    for place in 0..count {
+        bits[place] = row[place] == b'1';
     }
+    if count != net.inputs().len() || marked.cycles() > 1_000 {
+        return show(rt, b"lost\n");
+    }
+    marked.step(&bits[..count]);
+    show_outputs(rt, net, marked);
 }
 
 /// Shows the values and the marks of the outputs in the latest cycle.

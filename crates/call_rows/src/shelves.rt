@@ -1,9 +1,21 @@
-//! Shelves in memory, and real files.
+//! Shelves and sinks in memory, and real files.
 
-use row_text::{number_of, show, show_count, split_at};
-use sec_base::{Duplicate, FetchError, FilePath, FileShelf, FileText, Ids, MemShelf, Shelf, fetch};
+use crate::words::size_of;
+use sec_base::{
+    Duplicate, FetchError, FilePath, FileShelf, FileText, Ids, MemShelf, MemSink, Shelf, Sink,
+    fetch,
+};
 use std::rt::HostRuntime;
 use std::str;
+use text_rows::row_text::{show, show_count, split_at};
+
+/// A copy of the path that these bytes spell.
+fn path_of(rt: &HostRuntime, bytes: &[u8]) -> Option<FilePath> {
+    match FilePath::from_str(rt.alloc(), str::from_utf8(bytes).unwrap_or("?")) {
+        Ok(path) => path.duplicate(rt.alloc()).ok(),
+        Err(_) => None,
+    }
+}
 
 fn show_fetched(rt: &HostRuntime, fetched: &Result<FileText, FetchError>) {
     match fetched {
@@ -12,20 +24,6 @@ fn show_fetched(rt: &HostRuntime, fetched: &Result<FileText, FetchError>) {
         Err(FetchError::TooLong) => show(rt, b" too-long"),
         Err(FetchError::NoMemory) => show(rt, b" no-memory"),
     }
-}
-
-/// The number that the digits spell, below a million; 0 where they spell none.
-pub(crate) fn size_of(digits: &[u8]) -> u32 {
-    match number_of(digits) {
-        Some(number) => (number % 1_000_000) as u32,
-        None => 0,
-    }
-}
-
-/// A copy of the path that these bytes spell.
-fn path_of(rt: &HostRuntime, bytes: &[u8]) -> Option<FilePath> {
-    let path = FilePath::from_str(rt.alloc(), str::from_utf8(bytes).unwrap_or("?")).ok()?;
-    path.duplicate(rt.alloc()).ok()
 }
 
 /// Shows what the shelf gives for a word `w<n`; nothing of another word.
@@ -40,24 +38,17 @@ fn show_fetch<S: Shelf>(rt: &HostRuntime, shelf: &mut S, word: &[u8]) {
     }
 }
 
-fn has_put(rt: &HostRuntime, shelf: &mut MemShelf, path: &str, size: usize) -> bool {
-    match vec![in rt.alloc(); 7u8; size] {
-        Ok(bytes) => shelf.put(rt.alloc(), path, bytes.as_slice()).is_ok(),
-        Err(_) => false,
-    }
-}
-
 /// Puts the file of a word `w=n` on the shelf: n bytes; nothing of another word.
 fn put_file(rt: &HostRuntime, shelf: &mut MemShelf, word: &[u8]) {
     let (name, size) = split_at(b'=', word);
     if size.is_empty() {
         return;
     }
-    let is_put = match path_of(rt, name) {
-        Some(path) => has_put(rt, shelf, path.as_str(), size_of(size) as usize),
-        None => false,
+    let Ok(bytes) = vec![in rt.alloc(); 7u8; size_of(size) as usize] else {
+        return show(rt, b" not-put");
     };
-    if !is_put {
+    let path = str::from_utf8(name).unwrap_or("?");
+    if shelf.put(rt.alloc(), path, bytes.as_slice()).is_err() {
         show(rt, b" not-put");
     }
 }
@@ -70,9 +61,7 @@ fn fails_of(rt: &HostRuntime, words: &[u8]) -> Ids {
         let (word, later) = split_at(b' ', rest);
         rest = later;
         if let [b'!', digits @ ..] = word {
-            if fails.push(size_of(digits)).is_err() {
-                show(rt, b" no-memory");
-            }
+            let _ = fails.push(size_of(digits));
         }
     }
     fails
@@ -104,5 +93,26 @@ pub(crate) fn show_files(rt: &HostRuntime, words: &[u8]) {
         let (word, later) = split_at(b' ', rest);
         show_fetch(rt, &mut shelf, word);
         rest = later;
+    }
+}
+
+/// Shows what a sink of these words takes, and whether it fails.
+pub(crate) fn show_sink(rt: &HostRuntime, words: &[u8]) {
+    let (room, words) = split_at(b' ', words);
+    let (fail_at, words) = split_at(b' ', words);
+    let (keep, piece) = split_at(b' ', words);
+    let (room, keep) = (size_of(room) as usize, size_of(keep) as usize);
+    let fail_at = match size_of(fail_at) {
+        0 => None,
+        number => Some(number),
+    };
+    let Ok(mut sink) = MemSink::new(rt.alloc(), room, fail_at, keep) else {
+        return show(rt, b" no memory");
+    };
+    let is_written = sink.write(piece).is_ok();
+    show(rt, b" takes ");
+    show(rt, sink.taken());
+    if !is_written {
+        show(rt, b" and fails");
     }
 }

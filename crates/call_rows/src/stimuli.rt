@@ -1,20 +1,12 @@
 //! Stimuli, read and written again.
 
-use row_text::{file_of, show, show_count};
 use sec_base::MAX_FILE_BYTES;
 use std::rt::HostRuntime;
-use std::str;
+use text_rows::row_text::{show, show_count};
 use witness_report::{StimError, Stimulus, read_stimulus, reads_back, write_stimulus};
 
 /// Shows the stimulus as it is written, or its faulty line.
-pub(crate) fn show_stimulus(rt: &HostRuntime, path: &[u8]) {
-    match file_of(rt, str::from_utf8(path).unwrap_or("")) {
-        Some(text) => show_text(rt, text.as_slice()),
-        None => show(rt, b"lost\n"),
-    }
-}
-
-fn show_text(rt: &HostRuntime, text: &[u8]) {
+pub(crate) fn show_stimulus(rt: &HostRuntime, text: &[u8]) {
     if text.len() > MAX_FILE_BYTES as usize {
         return show(rt, b"too long\n");
     }
@@ -28,7 +20,7 @@ fn show_text(rt: &HostRuntime, text: &[u8]) {
 
 fn show_fault(rt: &HostRuntime, fault: &[u8], line: u32) {
     show(rt, fault);
-    show_count(rt, u64::from(line));
+    show_count(rt, line as u64);
     show(rt, b"\n");
 }
 

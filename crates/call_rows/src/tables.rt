@@ -1,52 +1,33 @@
 //! Tables of names and of pairs.
 
-use crate::circuits::show_counts;
+use crate::words::show_counts;
 use base_tables::{NameTable, PlaceTable};
-use row_text::{show, show_count, show_number, show_word, split_at};
 use sec_base::{Duplicate, Ids, Orders, Words};
 use std::rt::HostRuntime;
+use text_rows::row_text::{show, show_count, show_number, show_word, split_at};
 
-fn show_found(rt: &HostRuntime, table: &NameTable, name: &[u8]) {
-    match table.find(name) {
-        Some(id) => show_count(rt, u64::from(id)),
-        None => show(rt, b" none"),
-    }
-    if table.has(name) {
-        show(rt, b" held");
-    }
-}
-
-fn show_added(rt: &HostRuntime, table: &mut NameTable, name: &[u8]) {
-    match table.add(rt.alloc(), name) {
-        Ok(true) => show(rt, b" new"),
-        Ok(false) => show(rt, b" known"),
-        Err(_) => show(rt, b" no-memory"),
-    }
-}
-
-fn show_numbered(rt: &HostRuntime, table: &mut NameTable, name: &[u8]) {
-    if table.len() == u32::MAX {
-        return show(rt, b" full");
-    }
-    match table.intern(rt.alloc(), name) {
-        Ok(id) => show_count(rt, u64::from(id)),
-        Err(_) => show(rt, b" no-memory"),
-    }
-}
-
+/// Shows what a word tells: `+w` adds the name w, `=w` numbers it, and `?w` looks it up.
 fn show_named(rt: &HostRuntime, table: &mut NameTable, word: &[u8]) {
     match word {
-        [b'+', name @ ..] => show_added(rt, table, name),
-        [b'=', name @ ..] => show_numbered(rt, table, name),
-        [b'?', name @ ..] => show_found(rt, table, name),
+        [b'+', name @ ..] => match table.add(rt.alloc(), name) {
+            Ok(true) => show(rt, b" new"),
+            Ok(false) => show(rt, b" known"),
+            Err(_) => show(rt, b" no-memory"),
+        },
+        [b'=', name @ ..] if table.len() < u32::MAX => match table.intern(rt.alloc(), name) {
+            Ok(id) => show_count(rt, id as u64),
+            Err(_) => show(rt, b" no-memory"),
+        },
+        [b'?', name @ ..] => {
+            match table.find(name) {
+                Some(id) => show_count(rt, id as u64),
+                None => show(rt, b" none"),
+            }
+            if table.has(name) {
+                show(rt, b" held");
+            }
+        }
         _ => show(rt, b" ?"),
-    }
-}
-
-fn show_all_names(rt: &HostRuntime, table: &NameTable) {
-    show(rt, b", names");
-    for id in 0..table.len() {
-        show_word(rt, table.name(id));
     }
 }
 
@@ -56,15 +37,19 @@ fn show_words(rt: &HostRuntime, words: &Words) {
     }
 }
 
-fn copied(rt: &HostRuntime, table: &NameTable) -> Option<Words> {
-    table.copy(rt.alloc()).ok()?.into_words(rt.alloc()).ok()
-}
-
-fn show_copied(rt: &HostRuntime, table: &NameTable) {
+/// Shows the names in their order, and those of a copy.
+fn show_all_names(rt: &HostRuntime, table: &NameTable) {
+    show(rt, b", names");
+    for id in 0..table.len() {
+        show_word(rt, table.name(id));
+    }
     show(rt, b", copied");
-    match copied(rt, table) {
-        Some(words) => show_words(rt, &words),
-        None => show(rt, b" no-memory"),
+    match table.copy(rt.alloc()) {
+        Ok(copy) => match copy.into_words(rt.alloc()) {
+            Ok(words) => show_words(rt, &words),
+            Err(_) => show(rt, b" no-memory"),
+        },
+        Err(_) => show(rt, b" no-memory"),
     }
 }
 
@@ -80,56 +65,43 @@ pub(crate) fn show_names(rt: &HostRuntime, words: &[u8]) {
         rest = later;
     }
     show_all_names(rt, &table);
-    show_copied(rt, &table);
 }
 
-/// A copy of the first and the second numbers of the pairs.
-fn orders_of(rt: &HostRuntime, table: &PlaceTable) -> Option<Orders> {
-    let mut left = Ids::new(rt.alloc());
-    let mut right = Ids::new(rt.alloc());
+/// Shows the pairs in their order, and a copy of the lists of their first and their second numbers. A number that isn't kept is missing
+/// there.
+fn show_pairs(rt: &HostRuntime, table: &PlaceTable) {
+    let mut lists = Orders {
+        left: Ids::new(rt.alloc()),
+        right: Ids::new(rt.alloc()),
+    };
+    show(rt, b", pairs");
     for number in 0..table.len() {
         let (first, second) = table.pair(number);
-        left.push(first).ok()?;
-        right.push(second).ok()?;
+        show_count(rt, first as u64);
+        show_number(rt, second as u64);
+        let _ = lists.left.push(first);
+        let _ = lists.right.push(second);
     }
-    Orders { left, right }.duplicate(rt.alloc()).ok()
-}
-
-/// Shows a copy of the lists of the first and the second numbers of the pairs.
-fn show_lists(rt: &HostRuntime, table: &PlaceTable) {
     show(rt, b", copied");
-    match orders_of(rt, table) {
-        Some(copy) => {
+    match lists.duplicate(rt.alloc()) {
+        Ok(copy) => {
             show_counts(rt, copy.left.as_slice());
             show(rt, b" and");
             show_counts(rt, copy.right.as_slice());
         }
-        None => show(rt, b" no-memory"),
+        Err(_) => show(rt, b" no-memory"),
     }
 }
 
 /// Shows the number of the pair of digits.
 fn show_pair_number(rt: &HostRuntime, table: &mut PlaceTable, word: &[u8]) {
-    let [first, second] = word else {
-        return;
-    };
-    if table.len() == u32::MAX {
-        return show(rt, b" full");
-    }
-    let first = (*first).saturating_sub(b'0');
-    let second = (*second).saturating_sub(b'0');
-    match table.intern(u32::from(first), u32::from(second)) {
-        Ok(number) => show_count(rt, u64::from(number)),
-        Err(_) => show(rt, b" no-memory"),
-    }
-}
-
-fn show_pairs(rt: &HostRuntime, table: &PlaceTable) {
-    show(rt, b", pairs");
-    for number in 0..table.len() {
-        let (first, second) = table.pair(number);
-        show_count(rt, u64::from(first));
-        show_number(rt, u64::from(second));
+    if let [first, second] = word {
+        if table.len() < u32::MAX {
+            match table.intern(*first as u32 % 16, *second as u32 % 16) {
+                Ok(number) => show_count(rt, number as u64),
+                Err(_) => show(rt, b" no-memory"),
+            }
+        }
     }
 }
 
@@ -143,5 +115,4 @@ pub(crate) fn show_places(rt: &HostRuntime, words: &[u8]) {
         show_pair_number(rt, &mut table, word);
     }
     show_pairs(rt, &table);
-    show_lists(rt, &table);
 }

@@ -1,8 +1,27 @@
-//! Clauses and faults, in words.
+//! Numbers, clauses and faults, in words.
+
+ghost use Rattle.std.specs.Prelude.{◌<◌};
 
 use proof_check::{ChainKind, Literal, ProofError};
-use row_text::{show, show_number};
 use std::rt::HostRuntime;
+use text_rows::row_text::{number_of, show, show_count, show_number};
+
+/// The number that the digits spell, below a million; 0 where they spell none.
+pub(crate) fn size_of(digits: &[u8]) -> u32
+    ensures { result < 1000000 }
+{
+    match number_of(digits) {
+        Some(number) => (number % 1_000_000) as u32,
+        None => 0,
+    }
+}
+
+/// Shows a blank and the number, of each.
+pub(crate) fn show_counts(rt: &HostRuntime, numbers: &[u32]) {
+    for number in numbers {
+        show_count(rt, *number as u64);
+    }
+}
 
 /// Shows a clause as in DIMACS.
 pub(crate) fn show_literals(rt: &HostRuntime, literals: &[Literal]) {
@@ -10,7 +29,7 @@ pub(crate) fn show_literals(rt: &HostRuntime, literals: &[Literal]) {
         if !literal.is_positive() {
             show(rt, b"-");
         }
-        show_number(rt, u64::from(literal.variable()));
+        show_number(rt, literal.variable() as u64);
         show(rt, b" ");
     }
     show(rt, b"0");
@@ -22,24 +41,17 @@ pub(crate) fn show_counted(rt: &HostRuntime, number: usize, what: &[u8]) {
     show(rt, what);
 }
 
-fn word_of_kind(kind: ChainKind) -> &'static [u8] {
-    match kind {
-        ChainKind::NoClause => b"no such clause",
-        ChainKind::NoPivot => b"no such pivot",
-        ChainKind::Tautology => b"a tautology",
-        ChainKind::NotEmpty => b"no empty clause",
-    }
-}
-
 /// Shows where a log breaks, and why.
 pub(crate) fn show_error(rt: &HostRuntime, error: ProofError) {
-    match error {
-        ProofError::Chain { at, kind } => {
-            show(rt, b"broken at ");
-            show_number(rt, u64::from(at));
-            show(rt, b", ");
-            show(rt, word_of_kind(kind));
-        }
-        ProofError::NoMemory => show(rt, b"no memory"),
+    let ProofError::Chain { at, kind } = error else {
+        return show(rt, b"no memory");
+    };
+    show(rt, b"broken at ");
+    show_number(rt, at as u64);
+    match kind {
+        ChainKind::NoClause => show(rt, b", no such clause"),
+        ChainKind::NoPivot => show(rt, b", no such pivot"),
+        ChainKind::Tautology => show(rt, b", a tautology"),
+        ChainKind::NotEmpty => show(rt, b", no empty clause"),
     }
 }

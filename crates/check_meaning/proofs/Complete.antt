@@ -10,31 +10,31 @@ use Rattle.sec_base.specs.declared.settings.Settings.{Settings}
 use Rattle.flat_net.specs.View.{NetView, circuit_of}
 use Rattle.outcome.specs.declared.verdict.Verdict.{Verdict}
 use Rattle.outcome.specs.declared.verdict.Verdict.TheVariants as verdict
-use Rattle.check_found.specs.job_base.File.TheVariants as file
-use Rattle.check_found.specs.job_base.LineFault.TheVariants as line_fault
-use Rattle.check_found.specs.job_base.Refusal.{Refusal}
-use Rattle.check_found.specs.job_base.Refusal.TheVariants as refusal
-use Rattle.check_found.specs.job_base.Finding.{Finding}
-use Rattle.check_found.specs.job_base.Finding.TheVariants as finding
-use Rattle.check_found.specs.job_base.Written.{verdict_status, status_of}
+use Rattle.check_meaning.specs.check_found.job_base.File.TheVariants as file
+use Rattle.check_meaning.specs.check_found.job_base.LineFault.TheVariants as line_fault
+use Rattle.check_meaning.specs.check_found.job_base.Refusal.{Refusal}
+use Rattle.check_meaning.specs.check_found.job_base.Refusal.TheVariants as refusal
+use Rattle.check_meaning.specs.check_found.job_base.Finding.{Finding}
+use Rattle.check_meaning.specs.check_found.job_base.Finding.TheVariants as finding
+use Rattle.check_meaning.specs.check_found.job_base.Written.{verdict_status, status_of}
 use Rattle.sec_setup.specs.cut_points.Common.{common_names}
 use Rattle.sec_setup.specs.Cycles.{AreBroken}
 use Rattle.sec_files.specs.Loading.{IsAccepted, Loads, IsTooLong, HasFault, HasDesignFault, HasRecordFault}
 use Rattle.sec_files.specs.job_files.Reading.{Held}
 use Rattle.sec_files.proofs.job_files.Accepted.{is_short, has_no_fault, is_sound, has_good_records}
 use Rattle.sec_files.proofs.job_files.Reading.{some_and, if_told}
-use Rattle.check_found.specs.Check.{Check}
-use Rattle.check_found.specs.Found.{OfTexts, OfThree, OfGiven, OfNets, OfThreeNets, IsAnsweredBy, IsAnsweredUnder, IsRefusal, IsFoundOf}
+use Rattle.check_meaning.specs.check_found.Check.{Check}
+use Rattle.check_meaning.specs.check_found.Found.{OfTexts, OfThree, OfGiven, OfNets, OfThreeNets, IsAnsweredBy, IsAnsweredUnder, IsRefusal, IsFoundOf}
 use Rattle.check_meaning.specs.Answer.{AreComparableIn, AreComparableUnder, CanAnswerWith, IsAnswer, IsCheckComplete}
-use Rattle.check_texts.specs.Texts.{AreComparable}
-use Rattle.event_texts.specs.Texts.{AreEventComparable}
-use Rattle.event_texts.specs.event_setup.Choosing.{HaveNoCycles}
-use Rattle.check_found.specs.Answered.{ComparedUnderIn}
-use Rattle.check_found.specs.Compared.{ComparedIn, ComparedInEvents}
-use Rattle.check_texts.specs.CompareError.{CompareError}
-use Rattle.check_texts.specs.CompareError.TheVariants as compare_error
-use Rattle.check_texts.specs.Compared.{Compared}
-use Rattle.check_texts.proofs.ToldCycles.{is_not_free}
+use Rattle.check_meaning.specs.check_texts.Texts.{AreComparable}
+use Rattle.check_meaning.specs.event_texts.Texts.{AreEventComparable}
+use Rattle.check_meaning.specs.event_texts.event_setup.Choosing.{HaveNoCycles}
+use Rattle.check_meaning.specs.check_found.Answered.{ComparedUnderIn}
+use Rattle.check_meaning.specs.check_found.Compared.{ComparedIn, ComparedInEvents}
+use Rattle.check_meaning.specs.check_texts.CompareError.{CompareError}
+use Rattle.check_meaning.specs.check_texts.CompareError.TheVariants as compare_error
+use Rattle.check_meaning.specs.check_texts.Compared.{Compared}
+use Rattle.check_meaning.proofs.check_texts.ToldCycles.{is_not_free}
 use Rattle.sec_setup.specs.cut_points.Exposed.{IsFreeWithout, IsToldCycle}
 use Rattle.sec_setup.proofs.cut_points.expose_pick.Cuts.{round_cycle}
 

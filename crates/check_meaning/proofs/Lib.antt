@@ -1,3 +1,2 @@
 pub mod Complete
 pub mod Means
-pub mod check_texts

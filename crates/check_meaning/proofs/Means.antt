@@ -3,7 +3,7 @@ use Rattle.std.specs.Prelude.{IfSome, Result, Ok}
 use Rattle.std.proofs.Common.{◌≡◌, ℕ, List, refl, subst, inl, inr, ◌⊎◌, Option, Some, None}
 use Rattle.circuit_theory.specs.declared.Mode.{Mode}
 use Rattle.circuit_theory.specs.declared.Mode.TheVariants.{Plain, Event}
-use Rattle.sec_base.specs.Outside.{Takes}
+use Rattle.sec_base.specs.base_shelves.Outside.{Takes}
 use Rattle.sec_base.specs.declared.settings.Settings.{Settings}
 use Rattle.witness_report.specs.declared.witness.Witness.{Witness}
 use Rattle.flat_net.specs.View.{NetView}
@@ -15,29 +15,29 @@ use Rattle.outcome.specs.declared.verdict.Verdict.{Verdict}
 use Rattle.outcome.specs.declared.verdict.Verdict.TheVariants as verdict
 use Rattle.outcome.specs.declared.verdict.Why.{Why}
 use Rattle.outcome.specs.Report.{report_text}
-use Rattle.check_found.specs.job_base.Finding.{Finding}
-use Rattle.check_found.specs.job_base.Finding.TheVariants as finding
-use Rattle.check_found.specs.job_base.StatusName.{StatusName}
-use Rattle.check_found.specs.job_base.StatusName.TheVariants as status
-use Rattle.check_found.specs.job_base.Written.{verdict_status, status_of, IsWrittenAs}
-use Rattle.check_texts.specs.CompareError.{CompareError}
-use Rattle.check_texts.specs.Compared.{IsCompared, IsComparedFromReset}
-use Rattle.check_found.specs.Compared.{ComparedIn, IsComparedInEvents}
-use Rattle.check_texts.proofs.Forms.{by_reset}
-use Rattle.check_found.specs.Answered.{ComparedUnderIn}
+use Rattle.check_meaning.specs.check_found.job_base.Finding.{Finding}
+use Rattle.check_meaning.specs.check_found.job_base.Finding.TheVariants as finding
+use Rattle.check_meaning.specs.check_found.job_base.StatusName.{StatusName}
+use Rattle.check_meaning.specs.check_found.job_base.StatusName.TheVariants as status
+use Rattle.check_meaning.specs.check_found.job_base.Written.{verdict_status, status_of, IsWrittenAs}
+use Rattle.check_meaning.specs.check_texts.CompareError.{CompareError}
+use Rattle.check_meaning.specs.check_texts.Compared.{IsCompared, IsComparedFromReset}
+use Rattle.check_meaning.specs.check_found.Compared.{ComparedIn, IsComparedInEvents}
+use Rattle.check_meaning.proofs.check_texts.Forms.{by_reset}
+use Rattle.check_meaning.specs.check_found.Answered.{ComparedUnderIn}
 use Rattle.sec_files.specs.Loading.{Loads}
-use Rattle.event_texts_under.specs.Answers.{EqualUnderIn, DifferentUnderIn, NotShownUnderIn, LimitUnderIn}
-use Rattle.event_texts_under.proofs.Answers.{equal_under_in, different_under_in, not_shown_under_in, limit_under_in}
+use Rattle.check_meaning.specs.event_texts_under.Answers.{EqualUnderIn, DifferentUnderIn, NotShownUnderIn, LimitUnderIn}
+use Rattle.check_meaning.proofs.event_texts_under.Answers.{equal_under_in, different_under_in, not_shown_under_in, limit_under_in}
 use Rattle.sec_files.specs.job_files.Reading.{Held}
-use Rattle.check_found.specs.Check.{Check}
+use Rattle.check_meaning.specs.check_found.Check.{Check}
 use Rattle.check_meaning.specs.Answer.{CheckMeans, InForm}
-use Rattle.event_texts.specs.Texts.{EventTextsAgree, EventTextsDiffer, EventTextsNotShown, EventTextsUndecided}
-use Rattle.event_texts.proofs.EventTexts.{events_agree, events_always, events_differ, events_not_shown, events_undecided}
-use Rattle.check_texts.specs.Texts.{TextsAgree, TextsDiffer, TextsNotShown, TextsUndecided}
-use Rattle.check_texts.specs.Resets.{ResetsAgree, ResetsDiffer, ResetsUndecided}
-use Rattle.check_found.specs.Found.{OfGiven, OfNets, OfThreeNets, IsAnsweredBy, IsFoundOf}
-use Rattle.check_texts.proofs.ResetTexts.{resets_agree, resets_differ, resets_not_always, resets_are_shown, resets_undecided}
-use Rattle.check_texts.proofs.Texts.{texts_agree, texts_always, texts_differ, texts_not_shown, texts_undecided}
+use Rattle.check_meaning.specs.event_texts.Texts.{EventTextsAgree, EventTextsDiffer, EventTextsNotShown, EventTextsUndecided}
+use Rattle.check_meaning.proofs.event_texts.EventTexts.{events_agree, events_always, events_differ, events_not_shown, events_undecided}
+use Rattle.check_meaning.specs.check_texts.Texts.{TextsAgree, TextsDiffer, TextsNotShown, TextsUndecided}
+use Rattle.check_meaning.specs.check_texts.Resets.{ResetsAgree, ResetsDiffer, ResetsUndecided}
+use Rattle.check_meaning.specs.check_found.Found.{OfGiven, OfNets, OfThreeNets, IsAnsweredBy, IsFoundOf}
+use Rattle.check_meaning.proofs.check_texts.ResetTexts.{resets_agree, resets_differ, resets_not_always, resets_are_shown, resets_undecided}
+use Rattle.check_meaning.proofs.check_texts.Texts.{texts_agree, texts_always, texts_differ, texts_not_shown, texts_undecided}
 
 if_some : {X : Type 0} {F G : X → Type 0} (o : Option X) → ((x : X) → F x → G x) → IfSome o F → IfSome o G
 if_some None f h = tt

@@ -1,3 +1,8 @@
-pub use Rattle.check_texts.proofs.Comparing
-pub use Rattle.check_texts.proofs.Latchless
-pub use Rattle.check_texts.proofs.Uncut
+pub mod ResetDesigns
+pub mod ResetTexts
+pub mod Texts
+pub mod Comparing
+pub mod Uncut
+pub mod Latchless
+pub use Rattle.under_base.proofs.compare_base.Forms
+pub use Rattle.under_base.proofs.compare_base.ToldCycles

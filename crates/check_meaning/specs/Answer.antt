@@ -7,19 +7,19 @@ use Rattle.flat_net.specs.View.{NetView}
 use Rattle.pair_decide.specs.declared.query.Proof.{Proof}
 use Rattle.pair_decide.specs.declared.query.SameBy.{SameBy}
 use Rattle.assume_laws.specs.declared.assume_shape.shape.ShapeFault.{ShapeFault}
-use Rattle.check_found.specs.job_base.StatusName.{StatusName}
-use Rattle.check_found.specs.job_base.StatusName.TheVariants as status
-use Rattle.check_texts.specs.CompareError.TheVariants as compare_error
-use Rattle.check_texts.specs.Compared.{ByReset}
-use Rattle.event_texts_under.specs.Answered.{ComparedUnderIn}
+use Rattle.check_meaning.specs.check_found.job_base.StatusName.{StatusName}
+use Rattle.check_meaning.specs.check_found.job_base.StatusName.TheVariants as status
+use Rattle.check_meaning.specs.check_texts.CompareError.TheVariants as compare_error
+use Rattle.check_meaning.specs.check_texts.Compared.{ByReset}
+use Rattle.check_meaning.specs.event_texts_under.Answered.{ComparedUnderIn}
 use Rattle.sec_files.specs.Loading.{IsAccepted, Loads}
 use Rattle.sec_files.specs.job_files.Reading.{Held}
-use Rattle.check_texts.specs.Resets.{ResetsAgree, ResetsDiffer, ResetsUndecided}
-use Rattle.check_texts.specs.Texts.{AreComparable, TextsAgree, TextsDiffer, TextsNotShown, TextsUndecided}
-use Rattle.event_texts.specs.Texts.{AreEventComparable, EventTextsAgree, EventTextsDiffer, EventTextsNotShown, EventTextsUndecided}
-use Rattle.event_texts_under.specs.Answers.{EqualUnderIn, DifferentUnderIn, NotShownUnderIn, LimitUnderIn}
-use Rattle.check_found.specs.Check.{Check}
-use Rattle.check_found.specs.Found.{OfGiven}
+use Rattle.check_meaning.specs.check_texts.Resets.{ResetsAgree, ResetsDiffer, ResetsUndecided}
+use Rattle.check_meaning.specs.check_texts.Texts.{AreComparable, TextsAgree, TextsDiffer, TextsNotShown, TextsUndecided}
+use Rattle.check_meaning.specs.event_texts.Texts.{AreEventComparable, EventTextsAgree, EventTextsDiffer, EventTextsNotShown, EventTextsUndecided}
+use Rattle.check_meaning.specs.event_texts_under.Answers.{EqualUnderIn, DifferentUnderIn, NotShownUnderIn, LimitUnderIn}
+use Rattle.check_meaning.specs.check_found.Check.{Check}
+use Rattle.check_meaning.specs.check_found.Found.{OfGiven}
 
 -- both texts can be compared in this mode
 abbrev pub AreComparableIn : Mode → List ℕ → List ℕ → Settings → Type 0

@@ -2,6 +2,8 @@ pub mod Answer
 pub mod check_texts
 pub mod event_texts
 pub mod event_meaning
-pub use Rattle.check_found.specs.Check
-pub use Rattle.check_found.specs.Found
-pub use Rattle.check_found.specs.Compared
+pub mod event_texts_under
+pub mod assume_texts
+pub mod check_found
+pub mod design_rows
+pub use Rattle.event_meaning.specs.event_names.event_fits.Compared

@@ -1,1 +1,4 @@
-pub use Rattle.check_texts.specs.Texts
+pub mod Resets
+pub mod Texts
+pub use Rattle.under_base.specs.compare_base.Compared
+pub use Rattle.under_base.specs.declared.compare_base.error.CompareError

@@ -1,1 +1,1 @@
-pub use Rattle.event_texts_under.specs.event_meaning.Heavy
+pub use Rattle.event_meaning.specs.event_meaning_under.Heavy

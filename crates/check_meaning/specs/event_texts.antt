@@ -1,2 +1,5 @@
-pub use Rattle.event_texts.specs.Compared
-pub use Rattle.event_texts.specs.Texts
+pub mod Texts
+pub mod event_classes
+pub mod event_setup
+pub use Rattle.event_meaning.specs.event_names.event_fits.Compared
+pub use Rattle.event_meaning.specs.event_names.event_fits

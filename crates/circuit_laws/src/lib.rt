@@ -1,6 +1,8 @@
-//! The laws of circuits, their runs and marks, sequential depth, and the plain form (clocked Boolean functions), with their lemmas.
+//! The laws of circuits, their runs and marks, sequential depth, the plain form (clocked Boolean functions) and the form from initial
+//! values, with their lemmas.
 #![tactic(auto)]
 
 pub mod event_laws;
 pub mod finite_laws;
 pub mod laws;
+pub mod reset_laws;

@@ -13,12 +13,12 @@ use Rattle.circuit_theory.specs.Agree.{IsPair}
 use Rattle.circuit_theory.specs.Blocks.{IsConstantOn, IsCoarsest}
 use Rattle.circuit_theory.proofs.Lists.{only, All-from_each}
 use Rattle.circuit_theory.proofs.Numbers.{one_place}
-use Rattle.reset_laws.specs.Reset.{HasStarts, AreAlikeFromReset, AgreeFromReset}
-use Rattle.reset_laws.proofs.ResetRuns.{reset_runs_exist}
-use Rattle.reset_laws.specs.induct_laws.Partitions.{IsInitial, IsCoarser, AreEqualOver}
-use Rattle.reset_laws.specs.induct_laws.Queries.{BlockUnfolds, BlockUnfoldsAll}
-use Rattle.reset_laws.proofs.induct_laws.Partitions.{initial_is_coarser, split_stays_coarser}
-use Rattle.reset_laws.proofs.induct_laws.Runs.{blocks_stay_equal, equal_over_blocks_agree}
+use Rattle.circuit_laws.specs.reset_laws.Reset.{HasStarts, AreAlikeFromReset, AgreeFromReset}
+use Rattle.circuit_laws.proofs.reset_laws.ResetRuns.{reset_runs_exist}
+use Rattle.circuit_laws.specs.reset_laws.induct_laws.Partitions.{IsInitial, IsCoarser, AreEqualOver}
+use Rattle.circuit_laws.specs.reset_laws.induct_laws.Queries.{BlockUnfolds, BlockUnfoldsAll}
+use Rattle.circuit_laws.proofs.reset_laws.induct_laws.Partitions.{initial_is_coarser, split_stays_coarser}
+use Rattle.circuit_laws.proofs.reset_laws.induct_laws.Runs.{blocks_stay_equal, equal_over_blocks_agree}
 use Rattle.circuit_samples.specs.Partitioned.{three_latches, one_latch, all_latches, a_number, first_block, last_block, telling, TellApart, HasEqualLatches, HasQueries}
 use Rattle.circuit_samples.proofs.NetTest.{net_test-sound, numbers_distinct-sound}
 use Rattle.circuit_samples.proofs.Each.{Each, each_at, each_latch, each_pair}

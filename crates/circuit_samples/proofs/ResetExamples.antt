@@ -16,9 +16,9 @@ use Rattle.circuit_samples.specs.Circuits.{and_cover, one_from, late_from_zero, 
 use Rattle.circuit_samples.proofs.NetTest.{net_test-sound, numbers_distinct-sound}
 use Rattle.circuit_theory.proofs.Numbers.{one_place}
 use Rattle.circuit_laws.proofs.TreeDepth.{tree_depth}
-use Rattle.reset_laws.specs.Reset.{ResetUnfolds, ResetUnfoldsAll, HasStarts, AreBased, AreEqualFromReset, HaveEqualResets, AgreeFromReset, IsResetWitness, MakesDifferFromReset}
-use Rattle.reset_laws.proofs.ResetAgreement.{equal_resets_agree}
-use Rattle.reset_laws.proofs.ResetWindows.{reset_witness_makes_differ}
+use Rattle.circuit_laws.specs.reset_laws.Reset.{ResetUnfolds, ResetUnfoldsAll, HasStarts, AreBased, AreEqualFromReset, HaveEqualResets, AgreeFromReset, IsResetWitness, MakesDifferFromReset}
+use Rattle.circuit_laws.proofs.reset_laws.ResetAgreement.{equal_resets_agree}
+use Rattle.circuit_laws.proofs.reset_laws.ResetWindows.{reset_witness_makes_differ}
 
 pub one_starts : (bit : Bool) → HasStarts (one_from bit)
 one_starts bit = record {

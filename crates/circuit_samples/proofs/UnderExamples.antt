@@ -21,9 +21,9 @@ use Rattle.circuit_theory.proofs.Lists.{only}
 use Rattle.circuit_theory.proofs.Numbers.{one_place}
 use Rattle.circuit_laws.proofs.LawProofs.{runs_exist}
 use Rattle.circuit_laws.proofs.TreeDepth.{tree_depth}
-use Rattle.reset_laws.specs.Reset.{ResetUnfolds, ResetUnfoldsAll, HasStarts, MakesDifferFromReset}
-use Rattle.reset_laws.specs.Weight.{ResetVisits, PlaceInCycle, WeighedInCycle}
-use Rattle.reset_laws.proofs.ResetRuns.{reset_runs_exist}
+use Rattle.circuit_laws.specs.reset_laws.Reset.{ResetUnfolds, ResetUnfoldsAll, HasStarts, MakesDifferFromReset}
+use Rattle.circuit_laws.specs.reset_laws.Weight.{ResetVisits, PlaceInCycle, WeighedInCycle}
+use Rattle.circuit_laws.proofs.reset_laws.ResetRuns.{reset_runs_exist}
 use Rattle.assume_laws.specs.Assume.{IsAssumption, ReadsInputs, HasVariableAt, HaveEqualFunctionsUnder, HaveEqualResetsUnder, AreEqualFromResetUnder, AgreeUnder, AgreeOnwardUnder, AgreeFromResetUnder}
 use Rattle.assume_laws.specs.Sequences.{RowsMeet, IsTreeUnder, IsResetWitnessUnder}
 use Rattle.assume_laws.proofs.PlainLaws.{exposed_functions_agree_under, equal_resets_agree_under}

@@ -8,8 +8,8 @@ use Rattle.circuit_theory.specs.Tree.{Leaf, AreNumbered}
 use Rattle.circuit_theory.specs.Sequence.{TakesInputs, row_value}
 use Rattle.circuit_theory.specs.Agree.{cut, IsPair, IsMinimalCut}
 use Rattle.circuit_theory.specs.Interface.{AreNumbersOf}
-use Rattle.reset_laws.specs.Reset.{ResetUnfolds, HasStarts, AreBased, AreEqualFromReset}
-use Rattle.reset_laws.specs.Weight.{IsResetWeight, IsResetOver}
+use Rattle.circuit_laws.specs.reset_laws.Reset.{ResetUnfolds, HasStarts, AreBased, AreEqualFromReset}
+use Rattle.circuit_laws.specs.reset_laws.Weight.{IsResetWeight, IsResetOver}
 use Rattle.assume_laws.specs.Assume.{ReadsInputs, HaveEqualFunctionsUnder, AreEqualFromResetUnder}
 use Rattle.circuit_samples.specs.Circuits.{and_cover, first_cover, one, two, only_a, one_from, late_from_zero, early_from_zero, constant_from_zero, toggle_with, toggled, ones}
 

@@ -7,9 +7,9 @@ use Rattle.circuit_theory.specs.Cone.{AnInput}
 use Rattle.circuit_theory.specs.Query.{IsSame}
 use Rattle.circuit_theory.specs.Joined.{Either, Left, Right, joined}
 use Rattle.circuit_theory.specs.Blocks.{IsConstantOn}
-use Rattle.reset_laws.specs.Reset.{AreAlikeFromReset}
-use Rattle.reset_laws.specs.induct_laws.Partitions.{IsSplitBy}
-use Rattle.reset_laws.specs.induct_laws.Queries.{BlockUnfolds, block_query}
+use Rattle.circuit_laws.specs.reset_laws.Reset.{AreAlikeFromReset}
+use Rattle.circuit_laws.specs.reset_laws.induct_laws.Partitions.{IsSplitBy}
+use Rattle.circuit_laws.specs.reset_laws.induct_laws.Queries.{BlockUnfolds, block_query}
 
 abbrev pub complement : Cover
 complement = record { width = 1; rows = codes "0" ∷ []; on = true }

@@ -6,7 +6,7 @@ ghost use Rattle.circuit_theory.specs.declared.Mode.TheVariants.{Plain};
 ghost use Rattle.circuit_theory.specs.Tree.{AreNumbered};
 ghost use Rattle.circuit_theory.specs.Agree.{IsPair};
 ghost use Rattle.circuit_theory.specs.Fits.{MakesDiffer};
-ghost use Rattle.reset_laws.specs.Reset.{AgreeFromReset, IsResetWitness, MakesDifferFromReset};
+ghost use Rattle.circuit_laws.specs.reset_laws.Reset.{AgreeFromReset, IsResetWitness, MakesDifferFromReset};
 ghost use Rattle.assume_laws.specs.Assume.{IsAssumption, ReadsInputs, HaveEqualFunctionsUnder, AgreeUnder, AgreeOnwardUnder, AgreeFromResetUnder};
 ghost use Rattle.assume_laws.specs.Sequences.{RowsMeet, IsWitnessUnder, IsResetWitnessUnder};
 ghost use Rattle.circuit_samples.specs.Circuits.{and_cover, first_cover, one, two, nil_a, only_a, one_from, late_from_zero, early_from_zero, constant_from_zero, toggle_with, toggled, ones, only_first};

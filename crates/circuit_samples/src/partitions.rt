@@ -7,8 +7,8 @@ ghost use Rattle.circuit_theory.specs.Net.{IsNet};
 ghost use Rattle.circuit_theory.specs.Tree.{AreNumbered};
 ghost use Rattle.circuit_theory.specs.Agree.{IsPair};
 ghost use Rattle.circuit_theory.specs.Blocks.{IsCoarsest};
-ghost use Rattle.reset_laws.specs.Reset.{HasStarts, AgreeFromReset};
-ghost use Rattle.reset_laws.specs.induct_laws.Partitions.{IsInitial, IsCoarser, AreEqualOver};
+ghost use Rattle.circuit_laws.specs.reset_laws.Reset.{HasStarts, AgreeFromReset};
+ghost use Rattle.circuit_laws.specs.reset_laws.induct_laws.Partitions.{IsInitial, IsCoarser, AreEqualOver};
 ghost use Rattle.circuit_samples.specs.Partitioned.{three_latches, one_latch, all_latches, a_number, first_block, last_block, TellApart, HasEqualLatches, HasQueries};
 
 /// Four latches that start with 0, of which three take over an input and one its complement: one block by initial values, split into the

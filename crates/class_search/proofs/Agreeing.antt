@@ -2,11 +2,11 @@
 use Rattle.std.proofs.Common.{◌≡◌, ◌∙◌, ◌+◌, ◌<◌, ◌≤◌, ℕ, List, slice_get, Some, sym, ap, subst, arith, inl, inr}
 use Rattle.std.specs.Prelude.{◌⊎◌}
 use Rattle.std.proofs.lemmas.Bool.{cases_lt}
-use Rattle.event_variables.proofs.flat_net.Places.{one_at}
-use Rattle.event_variables.specs.aig.Values.{value}
-use Rattle.event_variables.proofs.aig.Growth.{Grows-length, IsAndOf-grows}
-use Rattle.event_variables.proofs.aig.Meaning.{value-grows}
-use Rattle.event_variables.specs.Nodes.{EventGraphView, GrowsEvents}
+use Rattle.event_nodes.proofs.event_variables.flat_net.Places.{one_at}
+use Rattle.event_nodes.specs.event_variables.aig.Values.{value}
+use Rattle.event_nodes.proofs.event_variables.aig.Growth.{Grows-length, IsAndOf-grows}
+use Rattle.event_nodes.proofs.event_variables.aig.Meaning.{value-grows}
+use Rattle.event_nodes.specs.Nodes.{EventGraphView, GrowsEvents}
 use Rattle.pair_decide.specs.declared.query.Query.{Query}
 use Rattle.pair_decide.specs.declared.query.SameBy.{SameBy}
 use Rattle.pair_decide.specs.declared.query.SameBy.TheVariants as same_by

@@ -6,20 +6,20 @@ use Rattle.circuit_theory.specs.Names.{ListBefore}
 use Rattle.circuit_theory.specs.Query.{Variable}
 use Rattle.circuit_theory.proofs.Lists.{Contains-head, Contains-tail, Contains-cases, only}
 use Rattle.circuit_theory.specs.Frame.{NodeBefore}
-use Rattle.event_variables.specs.aig.Node.{Node}
-use Rattle.event_variables.specs.aig.Node.TheVariants.{Input}
-use Rattle.event_variables.specs.aig.Lit.{Lit}
-use Rattle.event_variables.specs.aig.Graph.{Grows}
-use Rattle.event_variables.specs.aig.Rules.{IsAndOf}
-use Rattle.event_variables.specs.aig.Cone.{IsReached}
-use Rattle.event_variables.proofs.aig.Growth.{Grows-length}
-use Rattle.event_variables.specs.Nodes.{EventGraphView, IsEventGraph, GrowsEvents}
-use Rattle.event_variables.specs.Variables.{variable_of, GoesBefore, IsMergeOf}
+use Rattle.event_nodes.specs.event_variables.aig.Node.{Node}
+use Rattle.event_nodes.specs.event_variables.aig.Node.TheVariants.{Input}
+use Rattle.event_nodes.specs.event_variables.aig.Lit.{Lit}
+use Rattle.event_nodes.specs.event_variables.aig.Graph.{Grows}
+use Rattle.event_nodes.specs.event_variables.aig.Rules.{IsAndOf}
+use Rattle.event_nodes.specs.event_variables.aig.Cone.{IsReached}
+use Rattle.event_nodes.proofs.event_variables.aig.Growth.{Grows-length}
+use Rattle.event_nodes.specs.Nodes.{EventGraphView, IsEventGraph, GrowsEvents}
+use Rattle.event_nodes.specs.event_variables.Variables.{variable_of, GoesBefore, IsMergeOf}
 use Rattle.pair_decide.specs.declared.query.Query.{Query}
 use Rattle.pair_decide.specs.Queries.{roots_of, IsQuery}
 use Rattle.class_search.specs.declared.compare.Enable.{Enable}
 use Rattle.class_search.specs.Comparing.{IsReadyEnable}
-use Rattle.event_variables.proofs.Cones.{From, Supports, supports_and_of, supports_constant, from_one, reached_one, reached_among, to_from, old_node, old_reached}
+use Rattle.event_nodes.proofs.event_variables.Cones.{From, Supports, supports_and_of, supports_constant, from_one, reached_one, reached_among, to_from, old_node, old_reached}
 
 not_before_itself : (xs : List ℕ) → ListBefore xs xs → ⊥
 not_before_itself [] h = h

@@ -4,11 +4,11 @@ use Rattle.std.specs.Prelude.{◌⊎◌}
 use Rattle.std.specs.List.{All}
 use Rattle.std.proofs.lemmas.List.Elements.{All-weaker}
 use Rattle.std.proofs.lemmas.Option.{slice_get_within}
-use Rattle.event_variables.proofs.flat_net.CutNets.{slice_get-append_cases}
-use Rattle.event_variables.proofs.flat_net.Places.{one_at, All-at}
+use Rattle.event_nodes.proofs.event_variables.flat_net.CutNets.{slice_get-append_cases}
+use Rattle.event_nodes.proofs.event_variables.flat_net.Places.{one_at, All-at}
 use Rattle.pair_decide.specs.declared.query.Decision.TheVariants as decision
-use Rattle.event_variables.specs.event_nodes.Nodes.{EventGraphView, IsEventGraph, GrowsEvents}
-use Rattle.event_variables.proofs.event_nodes.Growing.{grows_refl, grows_trans}
+use Rattle.event_nodes.specs.Nodes.{EventGraphView, IsEventGraph, GrowsEvents}
+use Rattle.event_nodes.proofs.Growing.{grows_refl, grows_trans}
 use Rattle.class_search.specs.declared.compare.Enable.{Enable}
 use Rattle.class_search.specs.declared.compare.Compared.{Compared}
 use Rattle.class_search.specs.declared.fitting.Unlike.{Unlike}

@@ -1,3 +1,3 @@
-pub use Rattle.event_variables.proofs.aig.CoverMeaning
-pub use Rattle.event_variables.proofs.aig.Growth
-pub use Rattle.event_variables.proofs.aig.Meaning
+pub use Rattle.event_nodes.proofs.event_variables.aig.CoverMeaning
+pub use Rattle.event_nodes.proofs.event_variables.aig.Growth
+pub use Rattle.event_nodes.proofs.event_variables.aig.Meaning

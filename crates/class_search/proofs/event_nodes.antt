@@ -1,6 +1,6 @@
-pub use Rattle.event_variables.proofs.event_nodes.Growing
-pub use Rattle.event_variables.proofs.event_nodes.Lists
-pub use Rattle.event_variables.proofs.event_nodes.OnePath
-pub use Rattle.event_variables.proofs.event_nodes.Paths
-pub use Rattle.event_variables.proofs.event_nodes.Totals
-pub use Rattle.event_variables.proofs.event_nodes.Visits
+pub use Rattle.event_nodes.proofs.Growing
+pub use Rattle.event_nodes.proofs.Lists
+pub use Rattle.event_nodes.proofs.OnePath
+pub use Rattle.event_nodes.proofs.Paths
+pub use Rattle.event_nodes.proofs.Totals
+pub use Rattle.event_nodes.proofs.Visits

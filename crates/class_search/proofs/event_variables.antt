@@ -1,5 +1,5 @@
-pub use Rattle.event_variables.proofs.Cones
-pub use Rattle.event_variables.proofs.Meaning
-pub use Rattle.event_variables.proofs.Named
-pub use Rattle.event_variables.proofs.NodePaths
-pub use Rattle.event_variables.proofs.Sorting
+pub use Rattle.event_nodes.proofs.event_variables.Cones
+pub use Rattle.event_nodes.proofs.event_variables.Meaning
+pub use Rattle.event_nodes.proofs.event_variables.Named
+pub use Rattle.event_nodes.proofs.event_variables.NodePaths
+pub use Rattle.event_nodes.proofs.event_variables.Sorting

@@ -1,4 +1,4 @@
-pub use Rattle.event_variables.proofs.flat_net.CutNets
-pub use Rattle.event_variables.proofs.flat_net.Growth
-pub use Rattle.event_variables.proofs.flat_net.Nets
-pub use Rattle.event_variables.proofs.flat_net.Places
+pub use Rattle.event_nodes.proofs.event_variables.flat_net.CutNets
+pub use Rattle.event_nodes.proofs.event_variables.flat_net.Growth
+pub use Rattle.event_nodes.proofs.event_variables.flat_net.Nets
+pub use Rattle.event_nodes.proofs.event_variables.flat_net.Places

@@ -1,10 +1,10 @@
 -- Queries of load enables.
 use Rattle.std.specs.Prelude.{◌≡◌, ℕ, ◌*◌, ◌<◌, [], ◌∷◌, length, slice_get, Some, Contains}
-use Rattle.event_variables.specs.aig.Node.TheVariants.{Input}
-use Rattle.event_variables.specs.aig.Cone.{IsReached}
-use Rattle.event_variables.specs.aig.Rules.{IsAndOf}
-use Rattle.event_variables.specs.Nodes.{EventGraphView}
-use Rattle.event_variables.specs.Variables.{AreInOrder, IsMergeOf}
+use Rattle.event_nodes.specs.event_variables.aig.Node.TheVariants.{Input}
+use Rattle.event_nodes.specs.event_variables.aig.Cone.{IsReached}
+use Rattle.event_nodes.specs.event_variables.aig.Rules.{IsAndOf}
+use Rattle.event_nodes.specs.Nodes.{EventGraphView}
+use Rattle.event_nodes.specs.event_variables.Variables.{AreInOrder, IsMergeOf}
 use Rattle.pair_decide.specs.declared.query.Query.{Query}
 use Rattle.pair_decide.specs.Answers.{Decides}
 use Rattle.class_search.specs.declared.compare.Enable.{Enable}

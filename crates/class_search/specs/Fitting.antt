@@ -1,8 +1,8 @@
 -- An enable against the members of a class.
 use Rattle.std.specs.Prelude.{◌≡◌, ◌≢◌, ℕ, ◌*◌, ◌<◌, Bool, true, List, length, slice_get, Some}
-use Rattle.event_variables.specs.aig.Rules.{IsAndOf}
-use Rattle.event_variables.specs.aig.Values.{value}
-use Rattle.event_variables.specs.Nodes.{EventGraphView}
+use Rattle.event_nodes.specs.event_variables.aig.Rules.{IsAndOf}
+use Rattle.event_nodes.specs.event_variables.aig.Values.{value}
+use Rattle.event_nodes.specs.Nodes.{EventGraphView}
 use Rattle.pair_decide.specs.declared.query.SameBy.{SameBy}
 use Rattle.pair_decide.specs.declared.query.Decision.TheVariants as answer
 use Rattle.class_search.specs.declared.compare.Compared.{Compared}

@@ -7,3 +7,6 @@ pub mod aig
 pub mod event_nodes
 pub mod flat_net
 pub mod pair_decide
+pub mod class_separations
+pub mod class_fits
+pub mod event_order

@@ -2,7 +2,7 @@
 use Rattle.std.specs.Prelude.{◌≡◌, ℕ, List, length, slice_get, Option, Some, None, All}
 use Rattle.pair_decide.specs.declared.query.Decision.TheVariants as answer
 use Rattle.pair_decide.specs.declared.query.SameBy.{SameBy}
-use Rattle.event_variables.specs.event_nodes.Nodes.{EventGraphView}
+use Rattle.event_nodes.specs.Nodes.{EventGraphView}
 use Rattle.class_search.specs.declared.compare.Enable.{Enable}
 use Rattle.class_search.specs.Comparing.{IsReadyEnable, IsAlwaysComparison}
 use Rattle.class_search.specs.declared.class.Class.{Class}

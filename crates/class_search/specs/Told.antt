@@ -1,7 +1,7 @@
 -- What tells an enable from those of a class's members.
 use Rattle.std.specs.Prelude.{◌≡◌, ℕ, ◌<◌, List, slice_get, Some, All}
 use Rattle.pair_decide.specs.declared.query.Decision.TheVariants as answer
-use Rattle.event_variables.specs.event_nodes.Nodes.{EventGraphView, IsEventGraph, GrowsEvents}
+use Rattle.event_nodes.specs.Nodes.{EventGraphView, IsEventGraph, GrowsEvents}
 use Rattle.class_search.specs.declared.compare.Enable.{Enable}
 use Rattle.class_search.specs.declared.compare.Compared.{Compared}
 use Rattle.class_search.specs.declared.fitting.Unlike.{Unlike}

@@ -1,6 +1,6 @@
-pub use Rattle.event_variables.specs.aig.Builds
-pub use Rattle.event_variables.specs.aig.Cone
-pub use Rattle.event_variables.specs.aig.Rules
-pub use Rattle.event_variables.specs.aig.Values
-pub use Rattle.event_variables.specs.aig.Lit
-pub use Rattle.event_variables.specs.aig.Node
+pub use Rattle.event_nodes.specs.event_variables.aig.Builds
+pub use Rattle.event_nodes.specs.event_variables.aig.Cone
+pub use Rattle.event_nodes.specs.event_variables.aig.Rules
+pub use Rattle.event_nodes.specs.event_variables.aig.Values
+pub use Rattle.event_nodes.specs.event_variables.aig.Lit
+pub use Rattle.event_nodes.specs.event_variables.aig.Node

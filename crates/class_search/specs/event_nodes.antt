@@ -1,7 +1,7 @@
-pub use Rattle.event_variables.specs.event_nodes.Adds
-pub use Rattle.event_variables.specs.event_nodes.Nodes
-pub use Rattle.event_variables.specs.event_nodes.Reach
-pub use Rattle.event_variables.specs.event_nodes.Table
-pub use Rattle.event_variables.specs.event_nodes.View
-pub use Rattle.event_variables.specs.event_nodes.Visited
-pub use Rattle.event_variables.specs.event_nodes.EventUnfoldError
+pub use Rattle.event_nodes.specs.Adds
+pub use Rattle.event_nodes.specs.Nodes
+pub use Rattle.event_nodes.specs.Reach
+pub use Rattle.base_tables.specs.Table
+pub use Rattle.event_nodes.specs.View
+pub use Rattle.event_nodes.specs.Visited
+pub use Rattle.event_nodes.specs.declared.error.EventUnfoldError

@@ -1,3 +1,3 @@
-pub use Rattle.event_variables.specs.Laws
-pub use Rattle.event_variables.specs.Order
-pub use Rattle.event_variables.specs.Variables
+pub use Rattle.event_nodes.specs.event_variables.Laws
+pub use Rattle.event_nodes.specs.event_variables.Order
+pub use Rattle.event_nodes.specs.event_variables.Variables

@@ -1,4 +1,4 @@
-pub use Rattle.event_variables.specs.flat_net.Cut
-pub use Rattle.event_variables.specs.flat_net.Sound
-pub use Rattle.event_variables.specs.flat_net.View
-pub use Rattle.event_variables.specs.flat_net.LatchAt
+pub use Rattle.event_nodes.specs.event_variables.flat_net.Cut
+pub use Rattle.event_nodes.specs.event_variables.flat_net.Sound
+pub use Rattle.event_nodes.specs.event_variables.flat_net.View
+pub use Rattle.event_nodes.specs.event_variables.flat_net.LatchAt

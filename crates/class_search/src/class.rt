@@ -3,7 +3,7 @@
 ghost use Rattle.std.specs.Prelude.{◌≡◌, [], ◌∷◌, ◌++◌, OnOk, OnErr};
 
 use crate::compare::Enable;
-use event_variables::{NoMemory, Tag};
+use event_nodes::event_variables::{NoMemory, Tag};
 use std::alloc::Global;
 
 /// A class besides `always`: of each enable that a member has the first such member, in the order in which they joined.

@@ -1,11 +1,13 @@
 //! The queries.
 
 ghost use Rattle.std.specs.Prelude.{◌≡◌, ◌+◌, ◌^◌, ◌<◌, ◌≤◌, length, IfOk};
-ghost use Rattle.event_variables.specs.Nodes.{GrowsEvents};
+ghost use Rattle.event_nodes.specs.Nodes.{GrowsEvents};
 ghost use Rattle.class_search.specs.declared.compare.Enable.{Enable};
 ghost use Rattle.class_search.specs.Comparing.{IsReadyEnable, IsComparison, IsAlwaysComparison};
 
-use event_variables::{EventGraph, Ids, Lit, MAX_CONFLICTS, NoMemory, merge_variables};
+use event_nodes::event_variables::{
+    EventGraph, Ids, Lit, MAX_CONFLICTS, NoMemory, merge_variables,
+};
 use pair_decide::{Decision, Query, decide};
 use std::alloc::Global;
 

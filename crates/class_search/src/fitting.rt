@@ -1,13 +1,13 @@
 //! An enable against the members of a class.
 
 ghost use Rattle.std.specs.Prelude.{◌≡◌, ◌≢◌, ◌+◌, ◌^◌, ◌<◌, ◌≤◌, length, Some, All, IfOk, IfSome, IfNone};
-ghost use Rattle.event_variables.specs.Nodes.{GrowsEvents};
+ghost use Rattle.event_nodes.specs.Nodes.{GrowsEvents};
 ghost use Rattle.class_search.specs.declared.compare.Enable.{Enable};
 ghost use Rattle.class_search.specs.Comparing.{IsReadyEnable};
 ghost use Rattle.class_search.specs.Fitting.{AreSameEnables, IsUnlike, IsFirstUnlike};
 
 use crate::compare::{Compared, Enable, compare_enables};
-use event_variables::{EventGraph, MAX_CONFLICTS, NoMemory};
+use event_nodes::event_variables::{EventGraph, MAX_CONFLICTS, NoMemory};
 use pair_decide::Decision;
 use std::alloc::Global;
 

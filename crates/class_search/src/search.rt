@@ -1,7 +1,7 @@
 //! The search for an enable's class.
 
 ghost use Rattle.std.specs.Prelude.{◌≡◌, ◌+◌, ◌^◌, ◌<◌, ◌≤◌, [], length, All, IfOk, IfErr};
-ghost use Rattle.event_variables.specs.event_nodes.Nodes.{GrowsEvents};
+ghost use Rattle.event_nodes.specs.Nodes.{GrowsEvents};
 ghost use Rattle.class_search.specs.declared.compare.Enable.{Enable};
 ghost use Rattle.class_search.specs.Comparing.{IsReadyEnable};
 ghost use Rattle.class_search.specs.Told.{IsAlwaysTold};
@@ -11,7 +11,7 @@ use crate::class::Class;
 use crate::compare::{Compared, Enable, compare_always};
 use crate::fitting::first_unlike;
 use crate::told::{Difference, Told, told_by};
-use event_variables::{EventGraph, MAX_CONFLICTS, NoMemory};
+use event_nodes::event_variables::{EventGraph, MAX_CONFLICTS, NoMemory};
 use pair_decide::{Decision, Proof};
 use std::alloc::{AllocFailed, Global};
 

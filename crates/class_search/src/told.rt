@@ -9,7 +9,7 @@ ghost use Rattle.class_search.specs.Search.{IsLimitOf};
 use crate::compare::Compared;
 use crate::fitting::Unlike;
 use crate::search::Unfit;
-use event_variables::{Bits, Ids};
+use event_nodes::event_variables::{Bits, Ids};
 use pair_decide::Decision;
 
 /// An assignment that shows a difference.

@@ -18,8 +18,8 @@ use Rattle.flat_net.specs.View.{NetView, circuit_of, cover_of}
 use Rattle.flat_net.specs.Sound.{IsSound}
 use Rattle.flat_net.proofs.Nets.{some_at, gate_stands, latch_stands, input_stands, sound_is_net}
 use Rattle.flat_net.proofs.Places.{one_at, sound_in_order}
-use Rattle.inner_cone.specs.latch_cone.Cones.{IsMarkedBy}
-use Rattle.inner_cone.specs.Sides.{AreSides}
+use Rattle.signal_graph.specs.inner_cone.latch_cone.Cones.{IsMarkedBy}
+use Rattle.signal_graph.specs.inner_cone.Sides.{AreSides}
 use Rattle.cycle_sim.specs.View.{IsMark, HasMark}
 use Rattle.cycle_sim.specs.Steps.{KeepsMarks, AreInputsMarked, AreLatchesMarked, AreMarksAhead}
 use Rattle.cycle_sim.proofs.Lists.{replicate_at, below_or_here, set_here, set_there, all_pass, all_from_each, driven, gate_within}

@@ -6,7 +6,7 @@ use Rattle.circuit_theory.specs.Agree.{EnabledIn}
 use Rattle.circuit_theory.specs.declared.Mode.{Mode}
 use Rattle.flat_net.specs.View.{NetView, circuit_of}
 use Rattle.flat_net.proofs.Nets.{OfGate, OfLatch, equation_from}
-use Rattle.inner_cone.specs.latch_cone.Cones.{IsMarkedBy, MarksEnabled}
+use Rattle.signal_graph.specs.inner_cone.latch_cone.Cones.{IsMarkedBy, MarksEnabled}
 use Rattle.cycle_sim.proofs.Turned.{marked_same}
 
 -- the bits mark a latch exactly where it counts as enabled

@@ -17,9 +17,9 @@ use Rattle.flat_net.specs.View.{NetView, circuit_of, cover_of}
 use Rattle.flat_net.specs.Sound.{IsSound, Drives}
 use Rattle.flat_net.proofs.Nets.{some_at, gate_stands}
 use Rattle.flat_net.proofs.Places.{one_at, sound_in_order}
-use Rattle.inner_cone.specs.latch_cone.Parts.{gate_of, gate_at}
-use Rattle.inner_cone.specs.Inner.{LeadsAside}
-use Rattle.inner_cone.specs.Gates.{AreInnerGates}
+use Rattle.signal_graph.specs.inner_cone.latch_cone.Parts.{gate_of, gate_at}
+use Rattle.signal_graph.specs.inner_cone.Inner.{LeadsAside}
+use Rattle.signal_graph.specs.inner_cone.Gates.{AreInnerGates}
 use Rattle.cycle_sim.specs.Steps.{IsRight, AreInputsRight, AreLatchesRight, AreAsideRight}
 use Rattle.cycle_sim.specs.Turning.{AreSomeRight, IsOutOfSome}
 use Rattle.cycle_sim.proofs.Lists.{below_or_here, set_here, gate_within}

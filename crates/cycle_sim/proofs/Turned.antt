@@ -16,9 +16,9 @@ use Rattle.flat_net.specs.Sound.{IsSound}
 use Rattle.flat_net.proofs.Nets.{OfGate, OfLatch, equation_from, latch_stands, input_stands, sound_is_net}
 use Rattle.cycle_sim.specs.Steps.{IsRight, HasValues, AreMarks, AreInputsRight, AreLatchesRight, AreAsideRight}
 use Rattle.cycle_sim.proofs.Lists.{set_here, set_there, all_pass, all_from_each}
-use Rattle.inner_cone.specs.latch_cone.Cones.{IsMarkedBy}
-use Rattle.inner_cone.proofs.latch_cone.Walks.{reach_on}
-use Rattle.inner_cone.specs.Sides.{AreSides}
+use Rattle.signal_graph.specs.inner_cone.latch_cone.Cones.{IsMarkedBy}
+use Rattle.signal_graph.proofs.inner_cone.latch_cone.Walks.{reach_on}
+use Rattle.signal_graph.specs.inner_cone.Sides.{AreSides}
 use Rattle.std.specs.List.{list_all, Contains}
 
 -- a place is marked where the inputs and latches of its cone are

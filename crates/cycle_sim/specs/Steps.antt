@@ -3,10 +3,10 @@ use Rattle.std.specs.Prelude.{◌≡◌, ℕ, ◌<◌, Bool, true, List, length,
 use Rattle.flat_net.specs.View.{NetView}
 use Rattle.flat_net.specs.declared.parts.Port.{Port}
 use Rattle.flat_net.specs.declared.parts.LatchAt.{LatchAt}
-use Rattle.inner_cone.specs.declared.parts.InnerParts.{InnerParts}
-use Rattle.inner_cone.specs.Inner.{LeadsAside}
-use Rattle.inner_cone.specs.Sides.{AreSides}
-use Rattle.inner_cone.specs.Gates.{AreInnerGates}
+use Rattle.signal_graph.specs.declared.inner_cone.parts.InnerParts.{InnerParts}
+use Rattle.signal_graph.specs.inner_cone.Inner.{LeadsAside}
+use Rattle.signal_graph.specs.inner_cone.Sides.{AreSides}
+use Rattle.signal_graph.specs.inner_cone.Gates.{AreInnerGates}
 use Rattle.cycle_sim.specs.View.{HasMark}
 
 -- v has these bits at the inputs

@@ -3,7 +3,7 @@ use Rattle.std.specs.Prelude.{◌≡◌, ℕ, ◌+◌, ◌-◌, ◌<◌, ◌↔�
 use Rattle.circuit_theory.specs.Run.{Marked}
 use Rattle.flat_net.specs.View.{NetView, circuit_of}
 use Rattle.flat_net.specs.declared.parts.LatchAt.{LatchAt}
-use Rattle.inner_cone.specs.latch_cone.Cones.{IsMarkedBy}
+use Rattle.signal_graph.specs.inner_cone.latch_cone.Cones.{IsMarkedBy}
 use Rattle.cycle_sim.specs.Runs.{IsRunFrom}
 
 -- the net, how many cycles are computed, the value of each signal in the latest, and that of each latch in the next

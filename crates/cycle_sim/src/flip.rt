@@ -6,7 +6,7 @@ ghost use Rattle.circuit_theory.specs.Cover.{cover_value};
 ghost use Rattle.flat_net.specs.declared.parts.Gate.{Gate};
 ghost use Rattle.flat_net.specs.declared.parts.LatchAt.{LatchAt};
 ghost use Rattle.flat_net.specs.View.{circuit_of, cover_of};
-ghost use Rattle.inner_cone.specs.Gates.{AreInnerGates};
+ghost use Rattle.signal_graph.specs.inner_cone.Gates.{AreInnerGates};
 ghost use Rattle.cycle_sim.specs.Steps.{AreInputsRight, AreLatchesRight, AreAsideRight};
 ghost use Rattle.cycle_sim.specs.Turning.{ArePlaces, AreSomeRight, IsOutOfSome};
 

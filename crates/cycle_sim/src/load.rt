@@ -8,13 +8,13 @@ ghost use Rattle.flat_net.specs.View.{circuit_of};
 ghost use Rattle.cycle_sim.specs.View.{IsMark};
 ghost use Rattle.cycle_sim.specs.Steps.{HasValues, AreMarks};
 ghost use Rattle.cycle_sim.specs.Turning.{ArePlaces};
-ghost use Rattle.inner_cone.specs.Sides.{AreSides};
-ghost use Rattle.inner_cone.specs.Gates.{AreInnerGates};
+ghost use Rattle.signal_graph.specs.inner_cone.Sides.{AreSides};
+ghost use Rattle.signal_graph.specs.inner_cone.Gates.{AreInnerGates};
 
 use crate::cycle_marks::are_marked;
 use crate::flip::{put_back, put_some};
 use flat_net::Net;
-use inner_cone::InnerParts;
+use signal_graph::inner_cone::InnerParts;
 
 /// Whether a latch loads in the cycle of these values: what it takes over is one value with the latch at 0 and at 1. It looks at
 /// no gates but those of its cone that lead back to it. The second list holds the values too, before and after.

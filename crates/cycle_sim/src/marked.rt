@@ -3,9 +3,9 @@
 ghost use Rattle.std.specs.Prelude.{◌≡◌, ◌+◌, ◌^◌, ◌<◌, false, true, ℕ, Bool, List, [], ◌∷◌, ◌++◌, length, replicate, slice_get, Some, IfOk, IfSome};
 ghost use Rattle.flat_net.specs.declared.signals.Signal.{Signal};
 ghost use Rattle.flat_net.specs.declared.parts.LatchAt.{LatchAt};
-ghost use Rattle.inner_cone.specs.Inner.{AreRanked};
-ghost use Rattle.inner_cone.specs.Sides.{AreSides};
-ghost use Rattle.inner_cone.specs.Gates.{AreInnerGates};
+ghost use Rattle.signal_graph.specs.inner_cone.Inner.{AreRanked};
+ghost use Rattle.signal_graph.specs.inner_cone.Sides.{AreSides};
+ghost use Rattle.signal_graph.specs.inner_cone.Gates.{AreInnerGates};
 ghost use Rattle.cycle_sim.specs.Runs.{power_bits, reset_bits, FitsLatches};
 ghost use Rattle.cycle_sim.specs.View.{HasMarkedRun, IsLatest, IsLatestMark};
 ghost use Rattle.cycle_sim.specs.Steps.{AreConesKept};
@@ -16,8 +16,8 @@ use crate::next_marks::mark_ahead;
 use crate::power::Power;
 use crate::sim::Sim;
 use flat_net::{Net, Signals};
-use inner_cone::{InnerParts, inner_parts, ranks};
 use sec_base::{Bits, Ids, NoMemory};
+use signal_graph::inner_cone::{InnerParts, inner_parts, ranks};
 use std::alloc::Global;
 use std::marker::Model;
 

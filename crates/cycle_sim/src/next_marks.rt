@@ -9,7 +9,7 @@ ghost use Rattle.cycle_sim.specs.Steps.{HasValues, AreMarks, AreMarksAhead, AreC
 
 use crate::load::held_next;
 use flat_net::Net;
-use inner_cone::InnerParts;
+use signal_graph::inner_cone::InnerParts;
 
 /// Puts each latch's mark in the next cycle, by the values and the marks of this one. The list `tried` is written over.
 pub(crate) fn mark_ahead(

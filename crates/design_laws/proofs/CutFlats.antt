@@ -15,9 +15,9 @@ use Rattle.circuit_theory.proofs.Lists.{Contains-filter, filter_map-from, filter
 use Rattle.circuit_laws.proofs.Onward.{latch_named-found}
 use Rattle.blif_read.specs.Design.{circuit_of_design}
 use Rattle.flat_net.specs.View.{circuit_of}
-use Rattle.net_alike.specs.FlatCircuit.{HasSignal, IsFlatCircuit}
-use Rattle.net_alike.proofs.Bounding.{closed_bounds}
-use Rattle.net_alike.proofs.Cutting.{filter_in, kept_moved, firsts, seconds, rows_kept, place_uncut}
+use Rattle.net_assembly.specs.net_alike.FlatCircuit.{HasSignal, IsFlatCircuit}
+use Rattle.net_assembly.proofs.net_alike.Bounding.{closed_bounds}
+use Rattle.net_assembly.proofs.net_alike.Cutting.{filter_in, kept_moved, firsts, seconds, rows_kept, place_uncut}
 use Rattle.flatten.specs.DesignFaults.{IsClocked}
 use Rattle.flatten.proofs.OneNets.{single_driven}
 use Rattle.design_laws.specs.Laws.{ClosedCutsBound}

@@ -8,7 +8,7 @@ use Rattle.circuit_theory.specs.Depth.{LatchReads, LatchPath, HasCycle}
 use Rattle.circuit_theory.specs.Flattened.{Follows}
 use Rattle.circuit_theory.specs.Run.{NoneEnabled}
 use Rattle.circuit_theory.proofs.Lists.{Contains-map, Contains-map_from}
-use Rattle.net_alike.proofs.Ends.{gate_home}
+use Rattle.net_assembly.proofs.net_alike.Ends.{gate_home}
 use Rattle.design_laws.proofs.FlatParts.{FlatDesign, latch_down, latch_up, input_down}
 
 module _ {P : Type 0} {d : Circuit P} {net : Circuit ℕ} {clocked : P → Type 0} (f : FlatDesign d net clocked) where

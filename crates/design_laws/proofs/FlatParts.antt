@@ -9,10 +9,10 @@ use Rattle.circuit_theory.specs.Joined.{moved, moved_name}
 use Rattle.circuit_theory.specs.Flattened.{Follows}
 use Rattle.circuit_theory.specs.Run.{IsRun}
 use Rattle.circuit_theory.proofs.Lists.{Contains-head, Contains-tail, Contains-cases, Contains-map, Contains-map_from, All-from_each, map-map, map_same}
-use Rattle.net_alike.specs.Renumbered.{latch_rows}
-use Rattle.net_alike.specs.FlatCircuit.{IsFlatCircuit}
-use Rattle.net_alike.proofs.Carrying.{latch_row_from}
-use Rattle.net_alike.proofs.Ends.{gate_home, latch_home, input_home}
+use Rattle.net_assembly.specs.net_alike.Renumbered.{latch_rows}
+use Rattle.net_assembly.specs.net_alike.FlatCircuit.{IsFlatCircuit}
+use Rattle.net_assembly.proofs.net_alike.Carrying.{latch_row_from}
+use Rattle.net_assembly.proofs.net_alike.Ends.{gate_home, latch_home, input_home}
 
 -- a latch stands among the latches
 latch_row_there : {P : Type 0} (es : List (Equation P)) (name : List ℕ) (out next : P) → Contains es (Latch name out next) → Contains (latch_rows es) (Latch name out next)

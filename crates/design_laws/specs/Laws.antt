@@ -11,7 +11,7 @@ use Rattle.circuit_theory.specs.Sizes.{Weighed, IsOver}
 use Rattle.blif_read.specs.declared.design.BlifModel.{BlifModel}
 use Rattle.blif_read.specs.Design.{Place, clock_places, circuit_of_design}
 use Rattle.flat_net.specs.View.{NetView, circuit_of, ports_of}
-use Rattle.net_alike.specs.Closed.{IsClosed}
+use Rattle.net_assembly.specs.net_alike.Closed.{IsClosed}
 use Rattle.flatten.specs.DesignFaults.{IsClocked, IsFlatOf}
 
 -- A closed list of the places of a design with latches cut out bounds the unfolding of its nets with these cut out.

@@ -1,7 +1,9 @@
-//! What a design says of all of its nets. None of these functions does anything: each contract is a law.
+//! What a design says of all of its nets, and what is said of the nets that texts load as, of the circuits that the texts spell. None of
+//! these functions does anything: each contract is a law.
 #![tactic(auto)]
 
 pub mod event_designs;
+pub mod text_circuits;
 
 ghost use Rattle.design_laws.specs.Laws.{ClosedCutsBound, NamesAreKept, MarksAreKept, CutRunsAreKept, CyclesAreKept, MinimalCutsAreKept, AgreementIsKept};
 

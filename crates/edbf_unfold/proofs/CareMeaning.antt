@@ -8,9 +8,9 @@ use Rattle.circuit_theory.proofs.Numbers.{one_number}
 use Rattle.circuit_theory.specs.Frame.{IsEnable, ConeLatches, ConeOthers, ReachedAt, HasCare}
 use Rattle.circuit_theory.specs.EventSizes.{Start}
 use Rattle.circuit_laws.proofs.event_laws.EventTrees.{one_enable}
-use Rattle.event_literals.specs.Sound.{IsSound}
-use Rattle.event_literals.specs.View.{circuit_of}
-use Rattle.event_literals.proofs.Nets.{sound_is_net}
+use Rattle.edbf_unfold.specs.event_literals.Sound.{IsSound}
+use Rattle.edbf_unfold.specs.event_literals.View.{circuit_of}
+use Rattle.edbf_unfold.proofs.event_literals.Nets.{sound_is_net}
 use Rattle.event_nodes.specs.Node.{Node}
 use Rattle.event_nodes.specs.Graph.{IsGraph}
 use Rattle.event_nodes.specs.Values.{value}

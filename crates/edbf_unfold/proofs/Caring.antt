@@ -8,9 +8,9 @@ use Rattle.std.proofs.lemmas.Option.{slice_get_within, get_or_from_slice_get}
 use Rattle.circuit_theory.specs.Circuit.{IsLatch}
 use Rattle.circuit_theory.proofs.Lists.{Contains-head, Contains-tail, Contains-cases}
 use Rattle.circuit_theory.specs.Frame.{NotPut}
-use Rattle.event_literals.specs.LatchAt.{LatchAt}
-use Rattle.event_literals.specs.View.{circuit_of}
-use Rattle.event_literals.proofs.Places.{one_at}
+use Rattle.edbf_unfold.specs.event_literals.LatchAt.{LatchAt}
+use Rattle.edbf_unfold.specs.event_literals.View.{circuit_of}
+use Rattle.edbf_unfold.proofs.event_literals.Places.{one_at}
 use Rattle.event_nodes.specs.Lit.{Lit}
 use Rattle.event_nodes.specs.Graph.{flip}
 use Rattle.event_nodes.specs.Rules.{IsAndOf}
@@ -19,16 +19,16 @@ use Rattle.event_nodes.proofs.Literals.{flip-within}
 use Rattle.event_nodes.specs.Nodes.{EventGraphView, IsEventGraph, GrowsEvents, IsChild, path_of}
 use Rattle.event_nodes.specs.View.{EventCircuitView, side_of, Enabled}
 use Rattle.event_nodes.proofs.Paths.{child_path}
-use Rattle.event_literals.specs.declared.event_walk.frames.Frame.{Frame}
-use Rattle.event_literals.specs.declared.event_walk.frames.Put.{Put}
-use Rattle.event_literals.specs.declared.event_walk.frames.Put.TheVariants.{Free, Low, High}
-use Rattle.event_literals.specs.declared.event_walk.frames.Step.{Step}
-use Rattle.event_literals.specs.event_walk.Ready.{put_of, IsReadyBy}
-use Rattle.event_literals.specs.Known.{IsKnownAt, IsEnableLit, AreKnown, IsMet}
+use Rattle.edbf_unfold.specs.declared.event_literals.event_walk.frames.Frame.{Frame}
+use Rattle.edbf_unfold.specs.declared.event_literals.event_walk.frames.Put.{Put}
+use Rattle.edbf_unfold.specs.declared.event_literals.event_walk.frames.Put.TheVariants.{Free, Low, High}
+use Rattle.edbf_unfold.specs.declared.event_literals.event_walk.frames.Step.{Step}
+use Rattle.edbf_unfold.specs.event_literals.event_walk.Ready.{put_of, IsReadyBy}
+use Rattle.edbf_unfold.specs.event_literals.Known.{IsKnownAt, IsEnableLit, AreKnown, IsMet}
 use Rattle.edbf_unfold.specs.Care.{IsEnableOnward, IsHeldPlace, IsPlaceEnable, IsAndOfAll, IsCareOf, IsWithEnable, IsAndEnable}
-use Rattle.event_literals.proofs.Known.{known_at_later}
-use Rattle.event_literals.proofs.OrStaying.{IsShortOr-grows}
-use Rattle.event_literals.proofs.Lits.{entry_known}
+use Rattle.edbf_unfold.proofs.event_literals.Known.{known_at_later}
+use Rattle.edbf_unfold.proofs.event_literals.OrStaying.{IsShortOr-grows}
+use Rattle.edbf_unfold.proofs.event_literals.Lits.{entry_known}
 
 module _ (e : EventCircuitView) (w v : EventGraphView) (is : IsEventGraph w) (grows : GrowsEvents w v) where
   -- an enable's literal stays

@@ -9,10 +9,10 @@ use Rattle.circuit_theory.specs.Frame.{NotPut, IsNode, ReachedAt, ConeLatches}
 use Rattle.circuit_theory.specs.EventSizes.{Start, IsOther, EventVisits}
 use Rattle.circuit_theory.specs.EventTotals.{StartLatches}
 use Rattle.event_nodes.specs.Table.{AreDistinct}
-use Rattle.event_literals.specs.Sound.{IsSound}
-use Rattle.event_literals.specs.View.{circuit_of}
-use Rattle.event_literals.proofs.Nets.{some_at}
-use Rattle.event_literals.proofs.Places.{one_at, All-at}
+use Rattle.edbf_unfold.specs.event_literals.Sound.{IsSound}
+use Rattle.edbf_unfold.specs.event_literals.View.{circuit_of}
+use Rattle.edbf_unfold.proofs.event_literals.Nets.{some_at}
+use Rattle.edbf_unfold.proofs.event_literals.Places.{one_at, All-at}
 use Rattle.event_nodes.specs.Nodes.{EventGraphView, IsTree, IsChild, path_of}
 use Rattle.event_nodes.specs.Reach.{IsBegun}
 use Rattle.event_nodes.specs.View.{IsEventCircuit, side_of, Enabled}
@@ -21,16 +21,16 @@ use Rattle.event_nodes.proofs.Bits.{kind_of}
 use Rattle.event_nodes.proofs.OnePath.{one_node}
 use Rattle.event_nodes.proofs.Paths.{child_path, path_grows}
 use Rattle.event_nodes.proofs.Visits.{visited_reached, reached_visited}
-use Rattle.event_literals.specs.declared.event_walk.frames.Frame.{Frame}
-use Rattle.event_literals.specs.declared.event_walk.frames.Put.{Put}
-use Rattle.event_literals.specs.declared.event_walk.frames.Put.TheVariants.{Free, Low, High}
-use Rattle.event_literals.specs.declared.event_walk.frames.Ways.{Ways}
+use Rattle.edbf_unfold.specs.declared.event_literals.event_walk.frames.Frame.{Frame}
+use Rattle.edbf_unfold.specs.declared.event_literals.event_walk.frames.Put.{Put}
+use Rattle.edbf_unfold.specs.declared.event_literals.event_walk.frames.Put.TheVariants.{Free, Low, High}
+use Rattle.edbf_unfold.specs.declared.event_literals.event_walk.frames.Ways.{Ways}
 use Rattle.edbf_unfold.specs.Care.{IsEnableOnward, IsPlaceEnable, IsCareOf, IsCareLit}
-use Rattle.event_literals.specs.Known.{EventUnfolderView}
-use Rattle.event_literals.specs.event_walk.Ready.{put_of}
+use Rattle.edbf_unfold.specs.event_literals.Known.{EventUnfolderView}
+use Rattle.edbf_unfold.specs.event_literals.event_walk.Ready.{put_of}
 use Rattle.edbf_unfold.specs.Reached.{IsOpenPlace, AreNodesOf, IsReachOf}
-use Rattle.event_literals.specs.event_walk.Walk.{IsExpanded, IsVisitedPlace, IsRootOf, out_of}
-use Rattle.event_literals.specs.Built.{IsWalked}
+use Rattle.edbf_unfold.specs.event_literals.event_walk.Walk.{IsExpanded, IsVisitedPlace, IsRootOf, out_of}
+use Rattle.edbf_unfold.specs.event_literals.Built.{IsWalked}
 
 -- what isn't read as a constant in the frame
 other_free : (put : Put) (q : ℕ) → IsOther (out_of put) q → NotPut (put_of put) q

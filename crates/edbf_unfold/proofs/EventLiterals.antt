@@ -5,7 +5,7 @@ use Rattle.circuit_theory.specs.Tree.{Tree, tree_value}
 use Rattle.circuit_theory.proofs.Lists.{map_at}
 use Rattle.circuit_theory.specs.Frame.{IsEnable}
 use Rattle.event_nodes.specs.Table.{AreDistinct}
-use Rattle.event_literals.proofs.Places.{All-at}
+use Rattle.edbf_unfold.proofs.event_literals.Places.{All-at}
 use Rattle.event_nodes.specs.Builds.{Builds}
 use Rattle.event_nodes.specs.Graph.{flip}
 use Rattle.event_nodes.specs.Values.{value}
@@ -16,10 +16,10 @@ use Rattle.event_nodes.specs.Nodes.{path_of, EventGraphView, named_places, IsEve
 use Rattle.edbf_unfold.specs.Laws.{EqualEventTreesOneLiteral, EqualEnablesOneLiteral, LiteralIsTree, EnableLiteralIsEnable, KnownLater}
 use Rattle.event_nodes.proofs.OnePath.{one_node}
 use Rattle.event_nodes.proofs.flat_net.Drivers.{latch_equation_stands}
-use Rattle.event_literals.proofs.Known.{known_at_later}
-use Rattle.event_literals.proofs.OrStaying.{IsShortOr-one}
-use Rattle.event_literals.proofs.OrValues.{value-short_or}
-use Rattle.event_literals.specs.ShortOr.{IsShortOr}
+use Rattle.edbf_unfold.proofs.event_literals.Known.{known_at_later}
+use Rattle.edbf_unfold.proofs.event_literals.OrStaying.{IsShortOr-one}
+use Rattle.edbf_unfold.proofs.event_literals.OrValues.{value-short_or}
+use Rattle.edbf_unfold.specs.event_literals.ShortOr.{IsShortOr}
 
 -- the variables' places by paths are distinct
 pub named_distinct : (w : EventGraphView) → IsEventGraph w → AreDistinct (named_places w)

@@ -3,28 +3,28 @@ use Rattle.std.proofs.lemmas.Option.{slice_get_within}
 use Rattle.std.proofs.Common.{◌≡◌, ◌∙◌, ◌+◌, ◌*◌, ◌<◌, ◌≤◌, ℕ, Bool, true, false, List, [], length, slice_get, Some, None, refl, sym, subst, arith}
 use Rattle.circuit_theory.specs.EventSizes.{Start}
 use Rattle.circuit_theory.specs.Frame.{NotPut}
-use Rattle.event_literals.specs.Sound.{IsSound}
-use Rattle.event_literals.proofs.Nets.{some_at}
-use Rattle.event_literals.proofs.Places.{one_at}
+use Rattle.edbf_unfold.specs.event_literals.Sound.{IsSound}
+use Rattle.edbf_unfold.proofs.event_literals.Nets.{some_at}
+use Rattle.edbf_unfold.proofs.event_literals.Places.{one_at}
 use Rattle.event_nodes.specs.Lit.{Lit}
 use Rattle.event_nodes.specs.Nodes.{EventGraphView, IsEventGraph, GrowsEvents}
 use Rattle.event_nodes.specs.View.{EventCircuitView, IsEventCircuit, side_of}
 use Rattle.event_nodes.specs.Visited.{CounterView, HoldsVisits, HoldsNodes, IsWeighed}
 use Rattle.event_nodes.proofs.Growing.{grows_trans}
 use Rattle.event_nodes.proofs.Lists.{adds_none, adds_trans}
-use Rattle.event_literals.specs.declared.event_walk.frames.Frame.{Frame}
-use Rattle.event_literals.specs.declared.event_walk.frames.Put.TheVariants.{Free}
-use Rattle.event_literals.specs.declared.event_walk.frames.Ways.{Ways}
+use Rattle.edbf_unfold.specs.declared.event_literals.event_walk.frames.Frame.{Frame}
+use Rattle.edbf_unfold.specs.declared.event_literals.event_walk.frames.Put.TheVariants.{Free}
+use Rattle.edbf_unfold.specs.declared.event_literals.event_walk.frames.Ways.{Ways}
 use Rattle.edbf_unfold.specs.Care.{IsCareOf, IsCareLit}
-use Rattle.event_literals.specs.Known.{EventUnfolderView, IsKnownAt, IsKnownIn, HasUnfolded, HasGrown}
-use Rattle.event_literals.specs.event_walk.Ready.{put_of}
+use Rattle.edbf_unfold.specs.event_literals.Known.{EventUnfolderView, IsKnownAt, IsKnownIn, HasUnfolded, HasGrown}
+use Rattle.edbf_unfold.specs.event_literals.event_walk.Ready.{put_of}
 use Rattle.edbf_unfold.specs.Reached.{IsOpenPlace, IsOnwardAt, AreNodesOf, IsReachOf}
-use Rattle.event_literals.specs.event_walk.Walk.{IsRootOf, IsCounting, IsCountedOn, HasCountedStart}
-use Rattle.event_literals.specs.Built.{IsReadyFor, IsWalked}
+use Rattle.edbf_unfold.specs.event_literals.event_walk.Walk.{IsRootOf, IsCounting, IsCountedOn, HasCountedStart}
+use Rattle.edbf_unfold.specs.event_literals.Built.{IsReadyFor, IsWalked}
 use Rattle.edbf_unfold.proofs.Covering.{care_lit, holds_visits, holds_nodes, reach_of}
-use Rattle.event_literals.proofs.Known.{known_at_later}
-use Rattle.event_literals.proofs.event_walk.Rooting.{root_path}
-use Rattle.event_literals.proofs.Rooted.{walked_later}
+use Rattle.edbf_unfold.proofs.event_literals.Known.{known_at_later}
+use Rattle.edbf_unfold.proofs.event_literals.event_walk.Rooting.{root_path}
+use Rattle.edbf_unfold.proofs.event_literals.Rooted.{walked_later}
 
 -- the literal at the root, while the graph grows
 pub root_later : (e : EventCircuitView) (w v : EventGraphView) → IsEventGraph w → GrowsEvents w v → (s x : ℕ) → IsKnownIn e w (record { node = 0; put = Free }) s x → IsKnownAt e v None s [] x

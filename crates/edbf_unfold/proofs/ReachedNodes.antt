@@ -8,10 +8,10 @@ use Rattle.std.proofs.lemmas.List.Kept.{Contains-dedup_nat, Contains-from_dedup}
 use Rattle.std.proofs.lemmas.List.Sorted.{IsPermutation-sym, Contains-permutation}
 use Rattle.std.proofs.lemmas.Option.{slice_get_within}
 use Rattle.circuit_theory.proofs.Lists.{Contains-head, Contains-cases}
-use Rattle.event_literals.proofs.Places.{one_at}
+use Rattle.edbf_unfold.proofs.event_literals.Places.{one_at}
 use Rattle.event_nodes.specs.View.{EventCircuitView}
-use Rattle.event_literals.specs.declared.event_walk.frames.Frame.{Frame}
-use Rattle.event_literals.specs.declared.event_walk.frames.Ways.{Ways}
+use Rattle.edbf_unfold.specs.declared.event_literals.event_walk.frames.Frame.{Frame}
+use Rattle.edbf_unfold.specs.declared.event_literals.event_walk.frames.Ways.{Ways}
 use Rattle.edbf_unfold.specs.Reached.{IsOpenPlace, IsNodePut, AreNodesOf}
 
 module _ (e : EventCircuitView) (frames : List Frame) (table : List (ℕ × ℕ)) (ways : List Ways) where

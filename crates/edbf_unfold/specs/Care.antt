@@ -3,8 +3,8 @@
 use Rattle.std.specs.Prelude.{◌≡◌, ◌⊎◌, ℕ, ◌*◌, ◌<◌, List, [], ◌∷◌, length, slice_get, Some, Contains}
 use Rattle.circuit_theory.specs.Frame.{NotPut, ReachedAt}
 use Rattle.circuit_theory.specs.EventSizes.{Start}
-use Rattle.event_literals.specs.LatchAt.{LatchAt}
-use Rattle.event_literals.specs.View.{circuit_of}
+use Rattle.edbf_unfold.specs.event_literals.LatchAt.{LatchAt}
+use Rattle.edbf_unfold.specs.event_literals.View.{circuit_of}
 use Rattle.event_nodes.specs.Node.{Node}
 use Rattle.event_nodes.specs.Lit.{Lit}
 use Rattle.event_nodes.specs.Graph.{flip}
@@ -12,10 +12,10 @@ use Rattle.event_nodes.specs.Rules.{IsAndOf}
 use Rattle.event_nodes.specs.Nodes.{EventGraphView, path_of}
 use Rattle.event_nodes.specs.Reach.{IsBegun}
 use Rattle.event_nodes.specs.View.{EventCircuitView, side_of, Enabled}
-use Rattle.event_literals.specs.declared.event_walk.frames.Frame.{Frame}
-use Rattle.event_literals.specs.Known.{IsEnableLit}
-use Rattle.event_literals.specs.ShortOr.{IsShortOr}
-use Rattle.event_literals.specs.event_walk.Ready.{put_of}
+use Rattle.edbf_unfold.specs.declared.event_literals.event_walk.frames.Frame.{Frame}
+use Rattle.edbf_unfold.specs.event_literals.Known.{IsEnableLit}
+use Rattle.edbf_unfold.specs.event_literals.ShortOr.{IsShortOr}
+use Rattle.edbf_unfold.specs.event_literals.event_walk.Ready.{put_of}
 
 -- the literal is that of the enable of the latch, an enabled one, at the child of the node by its class
 pub record IsEnableOnward (e : EventCircuitView) (w : EventGraphView) (node : List ℕ) (v lit : ℕ) : Type 0 where

@@ -3,13 +3,13 @@ use Rattle.std.specs.Prelude.{◌≡◌, ◌↔◌, ℕ, Bool, true, List, Optio
 use Rattle.circuit_theory.specs.Tree.{tree_value}
 use Rattle.circuit_theory.specs.Frame.{IsEnable, ConeLatches, HasCare}
 use Rattle.circuit_theory.specs.Classes.{EnableCare}
-use Rattle.event_literals.specs.LatchAt.{LatchAt}
-use Rattle.event_literals.specs.Sound.{IsSound}
-use Rattle.event_literals.specs.View.{circuit_of}
+use Rattle.edbf_unfold.specs.event_literals.LatchAt.{LatchAt}
+use Rattle.edbf_unfold.specs.event_literals.Sound.{IsSound}
+use Rattle.edbf_unfold.specs.event_literals.View.{circuit_of}
 use Rattle.event_nodes.specs.Values.{value}
 use Rattle.event_nodes.specs.Nodes.{EventGraphView, IsEventGraph, GrowsEvents, named_places}
 use Rattle.event_nodes.specs.View.{EventCircuitView, IsEventCircuit, side_of, Enabled}
-use Rattle.event_literals.specs.Known.{IsKnownAt, IsEnableLit}
+use Rattle.edbf_unfold.specs.event_literals.Known.{IsKnownAt, IsEnableLit}
 use Rattle.edbf_unfold.specs.Care.{IsCareLit}
 
 -- the assignment of the variables is the frame's

@@ -4,12 +4,12 @@ use Rattle.circuit_theory.specs.Circuit.{IsLatch}
 use Rattle.circuit_theory.specs.Frame.{NotPut, IsNode, ReachedAt}
 use Rattle.circuit_theory.specs.EventSizes.{Start}
 use Rattle.circuit_theory.specs.EventTotals.{StartLatches}
-use Rattle.event_literals.specs.View.{circuit_of}
+use Rattle.edbf_unfold.specs.event_literals.View.{circuit_of}
 use Rattle.event_nodes.specs.Nodes.{path_of}
 use Rattle.event_nodes.specs.View.{EventCircuitView, side_of, Enabled}
-use Rattle.event_literals.specs.declared.event_walk.frames.Frame.{Frame}
-use Rattle.event_literals.specs.declared.event_walk.frames.Ways.{Ways}
-use Rattle.event_literals.specs.event_walk.Ready.{put_of}
+use Rattle.edbf_unfold.specs.declared.event_literals.event_walk.frames.Frame.{Frame}
+use Rattle.edbf_unfold.specs.declared.event_literals.event_walk.frames.Ways.{Ways}
+use Rattle.edbf_unfold.specs.event_literals.event_walk.Ready.{put_of}
 
 -- a latch drives the place's signal, and isn't the one that is read as a constant in the frame
 pub record IsOpenPlace (e : EventCircuitView) (frames : List Frame) (p : ℕ × ℕ) : Type 0 where

@@ -4,7 +4,7 @@ ghost use Rattle.std.specs.Prelude.{◌≡◌};
 ghost use Rattle.elaborate.specs.declared.error.FlatError.TheVariants as flat;
 
 use blif_read::{NoMemory, Word, Words};
-use std::alloc::{AllocError, AllocFailed};
+use std::alloc::AllocError;
 
 /// Why a design is no sound circuit. Names of signals are flat names: `m#k#` stands before a name for each instance
 /// around it, where m is the instance's model and k its number among the instances of the model around it.
@@ -56,14 +56,6 @@ impl From<AllocError> for FlatError {
     ghost from_gives = { λ _ e. e ≡ flat.NoMemory };
 
     fn from(_error: AllocError) -> FlatError {
-        FlatError::NoMemory
-    }
-}
-
-impl<T: Drop> From<AllocFailed<T>> for FlatError {
-    ghost from_gives = { λ _ e. e ≡ flat.NoMemory };
-
-    fn from(_error: AllocFailed<T>) -> FlatError {
         FlatError::NoMemory
     }
 }

@@ -4,8 +4,8 @@ use Rattle.std.specs.Prelude.{◌⊎◌}
 use Rattle.flat_net.specs.Comparable.{IsComparable}
 use Rattle.flat_net.specs.Sound.{IsSound}
 use Rattle.flat_net.specs.View.{NetView}
-use Rattle.interface.specs.declared.pairs.SignalPair.{SignalPair}
-use Rattle.interface.specs.Pairs.{places_of}
+use Rattle.sec_setup.specs.declared.ports.pairs.SignalPair.{SignalPair}
+use Rattle.sec_setup.specs.ports.Pairs.{places_of}
 use Rattle.sec_base.specs.declared.settings.Settings.{Settings}
 use Rattle.outcome.specs.declared.verdict.LimitAt.{LimitAt}
 use Rattle.outcome.specs.declared.verdict.Outcome.{Outcome}
@@ -14,14 +14,14 @@ use Rattle.sec_setup.specs.declared.error.SetupError.{SetupError}
 use Rattle.sec_setup.specs.declared.error.SetupError.TheVariants as unset
 use Rattle.under_base.specs.compare_base.Compared.{refusal_of}
 use Rattle.event_nodes.specs.View.{EventCircuitView}
-use Rattle.event_answers.specs.Circuits.{AreNets}
-use Rattle.event_answers.specs.Compared.{ComparedInEvents, IsComparedInEvents}
-use Rattle.event_answers.specs.Fitting.{EventOutcomeFits, HasCounts, IsComparedByPairs, IsUnclassed, IsUnrecovered}
-use Rattle.event_answers.specs.Reached.{AreClassed, StopsAtLimit}
-use Rattle.event_answers.specs.Totals.{IsWithinWith}
-use Rattle.event_answers.specs.declared.outcomes.Found.{Found}
-use Rattle.event_answers.specs.declared.reaching.Classed.{Classed}
-use Rattle.event_answers.proofs.Told.{limit_at, named, outcome_by}
+use Rattle.event_meaning.specs.event_names.event_fits.Circuits.{AreNets}
+use Rattle.event_meaning.specs.event_names.event_fits.Compared.{ComparedInEvents, IsComparedInEvents}
+use Rattle.event_meaning.specs.event_names.event_fits.Fitting.{EventOutcomeFits, HasCounts, IsComparedByPairs, IsUnclassed, IsUnrecovered}
+use Rattle.event_check.specs.event_answers.Reached.{AreClassed, StopsAtLimit}
+use Rattle.event_meaning.specs.event_names.event_fits.Totals.{IsWithinWith}
+use Rattle.event_check.specs.declared.event_answers.outcomes.Found.{Found}
+use Rattle.event_check.specs.declared.event_answers.reaching.Classed.{Classed}
+use Rattle.event_check.proofs.event_answers.Told.{limit_at, named, outcome_by}
 use Rattle.event_meaning.proofs.Saying.{cut_outcomes, different_outcomes, equal_outcomes}
 use Rattle.event_meaning.proofs.Framing.{unshown_outcomes}
 use Rattle.event_check.specs.Pairs.{ArePairsFound}

@@ -1,25 +1,25 @@
 -- What is found of the pairs of two circuits, by what their comparison says.
 use Rattle.std.proofs.Common.{◌≡◌, ◌∙◌, ◌≤◌, ℕ, List, sym, subst}
 use Rattle.std.specs.List.{All}
-use Rattle.interface.specs.declared.pairs.SignalPair.{SignalPair}
-use Rattle.interface.specs.Pairs.{ArePairsOf}
-use Rattle.event_answers.specs.class_events.Made.{AreEnablesCounted}
-use Rattle.class_queries.specs.Laws.{AreKept}
+use Rattle.sec_setup.specs.declared.ports.pairs.SignalPair.{SignalPair}
+use Rattle.sec_setup.specs.ports.Pairs.{ArePairsOf}
+use Rattle.event_check.specs.event_answers.class_events.Made.{AreEnablesCounted}
+use Rattle.edbf_unfold.specs.class_queries.Laws.{AreKept}
 use Rattle.event_nodes.specs.View.{EventCircuitView}
-use Rattle.event_agreement.specs.pair_events.View.{EventsView, IsEvents}
-use Rattle.event_agreement.specs.pair_events.Within.{IsCountedOnce}
-use Rattle.event_answers.specs.Findings.{FindingsFit}
-use Rattle.event_answers.specs.EventFindings.{EventFindings}
-use Rattle.event_answers.specs.EventPairs.{EventPairs}
-use Rattle.event_answers.specs.Counted.{ArePairsCounted}
-use Rattle.event_answers.specs.Askable.{AreAskable, IsAskedBy}
-use Rattle.event_answers.specs.Finding.{AreUnfolded, IsNamedFound}
-use Rattle.event_answers.specs.Nameable.{CanBeNamed}
-use Rattle.event_answers.specs.Names.{Names}
-use Rattle.event_answers.specs.declared.outcomes.Found.{Found}
-use Rattle.event_answers.specs.declared.reaching.Asked.{Asked}
-use Rattle.event_answers.proofs.Finding.{long, unfolded}
-use Rattle.event_answers.proofs.Naming.{verdict_named}
+use Rattle.event_form.specs.event_agreement.pair_events.View.{EventsView, IsEvents}
+use Rattle.event_form.specs.event_agreement.pair_events.Within.{IsCountedOnce}
+use Rattle.event_check.specs.event_answers.Findings.{FindingsFit}
+use Rattle.event_check.specs.event_answers.EventFindings.{EventFindings}
+use Rattle.event_check.specs.event_answers.EventPairs.{EventPairs}
+use Rattle.event_check.specs.event_answers.Counted.{ArePairsCounted}
+use Rattle.event_check.specs.event_answers.Askable.{AreAskable, IsAskedBy}
+use Rattle.event_check.specs.event_answers.Finding.{AreUnfolded, IsNamedFound}
+use Rattle.event_check.specs.event_answers.Nameable.{CanBeNamed}
+use Rattle.event_check.specs.event_answers.Names.{Names}
+use Rattle.event_check.specs.declared.event_answers.outcomes.Found.{Found}
+use Rattle.event_check.specs.declared.event_answers.reaching.Asked.{Asked}
+use Rattle.event_check.proofs.event_answers.Finding.{long, unfolded}
+use Rattle.event_check.proofs.event_answers.Naming.{verdict_named}
 use Rattle.event_check.specs.Pairs.{ArePairsFound}
 
 module _ (e : EventsView) (n : Names) (x : Asked) (askable : AreAskable e n x) (c : EventPairs) (asked : IsAskedBy n x c) (kept : AreKept e.left e.right e.events) (f : EventsView) (conflicts : ℕ) (findings : EventFindings) (counted : ArePairsCounted c.pairs.now e f)

@@ -1,2 +1,4 @@
 pub mod Pairs
-pub use Rattle.event_answers.specs.Compared
+pub mod event_check_under
+pub mod event_answers
+pub use Rattle.event_meaning.specs.event_names.event_fits.Compared

@@ -1,16 +1,16 @@
 -- What is found of the pairs of two circuits with their class map.
 use Rattle.std.specs.Prelude.{◌≡◌, ℕ, Result, Ok, Err}
 use Rattle.event_nodes.specs.View.{EventCircuitView}
-use Rattle.event_answers.specs.Findings.{FindingsFit}
-use Rattle.event_answers.specs.EventFindings.{EventFindings}
-use Rattle.event_answers.specs.EventPairs.{EventPairs}
+use Rattle.event_check.specs.event_answers.Findings.{FindingsFit}
+use Rattle.event_check.specs.event_answers.EventFindings.{EventFindings}
+use Rattle.event_check.specs.event_answers.EventPairs.{EventPairs}
 use Rattle.event_meaning.specs.event_meaning_under.CompareError.{CompareError}
-use Rattle.event_answers.specs.Askable.{IsAskedBy}
-use Rattle.event_answers.specs.Finding.{AreNotUnfolded, AreUnfolded}
-use Rattle.event_answers.specs.Named.{NamesVerdict}
-use Rattle.event_answers.specs.Names.{Names}
-use Rattle.event_answers.specs.declared.outcomes.Found.{Found}
-use Rattle.event_answers.specs.declared.reaching.Asked.{Asked}
+use Rattle.event_check.specs.event_answers.Askable.{IsAskedBy}
+use Rattle.event_check.specs.event_answers.Finding.{AreNotUnfolded, AreUnfolded}
+use Rattle.event_meaning.specs.event_names.event_fits.Named.{NamesVerdict}
+use Rattle.event_check.specs.event_answers.Names.{Names}
+use Rattle.event_check.specs.declared.event_answers.outcomes.Found.{Found}
+use Rattle.event_check.specs.declared.event_answers.reaching.Asked.{Asked}
 
 -- what is found of them fits the circuits, and all is within its numbers
 pub record ArePairsFound (a b : EventCircuitView) (n : Names) (x : Asked) (conflicts : ℕ) (f : Found) : Type 0 where

@@ -1,13 +1,13 @@
 //! What is found of the pairs of two circuits with their class map.
 
 ghost use Rattle.std.specs.Prelude.{◌≡◌, ◌≤◌};
-ghost use Rattle.event_answers.specs.class_events.Made.{AreEnablesCounted};
-ghost use Rattle.event_answers.specs.class_events.Separated.{AreSeparated};
-ghost use Rattle.event_answers.specs.Askable.{AreAskable};
-ghost use Rattle.event_answers.specs.Finding.{refusal_of};
+ghost use Rattle.event_check.specs.event_answers.class_events.Made.{AreEnablesCounted};
+ghost use Rattle.event_check.specs.event_answers.class_events.Separated.{AreSeparated};
+ghost use Rattle.event_check.specs.event_answers.Askable.{AreAskable};
+ghost use Rattle.event_check.specs.event_answers.Finding.{refusal_of};
 ghost use Rattle.event_check.specs.Pairs.{FindsPairs};
 
-use event_answers::{
+use crate::event_answers::{
     Asked, EventFormError, EventPairs, Found, Names, Separated, compare_events, named_findings,
 };
 use event_meaning::CompareError;

@@ -3,11 +3,11 @@ use Rattle.std.proofs.Common.{◌≡◌, ◌<◌, ◌≤◌, ℕ, false, List, [
 use Rattle.circuit_theory.specs.Tree.{Tree}
 use Rattle.circuit_theory.specs.EventFrames.{AreNodeVariables, IsClassTree}
 use Rattle.event_nodes.specs.View.{side_of, Enabled, EventCircuitView, IsEventCircuit}
-use Rattle.event_variables.specs.Variables.{variables_of}
-use Rattle.event_variables.specs.Laws.{IsEnableCareTree}
-use Rattle.event_variables.proofs.Meaning.{enable_variables}
-use Rattle.reset_laws.proofs.class_extension.Sides.{sides_have_variables_in_nets}
-use Rattle.class_queries.proofs.Meaning.{numbered, lits_are_functions}
+use Rattle.event_nodes.specs.event_variables.Variables.{variables_of}
+use Rattle.event_nodes.specs.event_variables.Laws.{IsEnableCareTree}
+use Rattle.event_nodes.proofs.event_variables.Meaning.{enable_variables}
+use Rattle.circuit_laws.proofs.reset_laws.class_extension.Sides.{sides_have_variables_in_nets}
+use Rattle.edbf_unfold.proofs.class_queries.Meaning.{numbered, lits_are_functions}
 use Rattle.circuit_theory.specs.declared.Side.{Side}
 use Rattle.circuit_theory.specs.declared.Side.TheVariants.{A, B}
 use Rattle.circuit_theory.specs.Run.{IsEnabled}
@@ -18,20 +18,20 @@ use Rattle.flat_net.specs.Sound.{IsSound}
 use Rattle.flat_net.specs.View.{circuit_of}
 use Rattle.flat_net.proofs.Nets.{sound_is_net}
 use Rattle.event_nodes.specs.Nodes.{EventGraphView, IsEventGraph}
-use Rattle.class_totals.specs.event_walk.Walk.{IsCounting, HasCountedStart, enable_start}
+use Rattle.edbf_unfold.specs.event_literals.event_walk.Walk.{IsCounting, HasCountedStart, enable_start}
 use Rattle.event_nodes.specs.Visited.{CounterView}
 use Rattle.std.proofs.lemmas.Option.{slice_get_within}
 use Rattle.circuit_theory.specs.Joined.{Either, Left, Right}
-use Rattle.class_totals.specs.Totals.{HaveCounted}
-use Rattle.class_totals.proofs.Going.{totals_go_on}
-use Rattle.event_order.specs.Order.{IsTagOf, place_of}
-use Rattle.class_totals.specs.EnableFunctions.{IsEnableFunctionOf}
-use Rattle.class_totals.proofs.Covering.{two_roots, care_supports}
-use Rattle.class_totals.proofs.EnableCovering.{own_enable_supports}
+use Rattle.event_functions.specs.class_totals.Totals.{HaveCounted}
+use Rattle.event_functions.proofs.class_totals.Going.{totals_go_on}
+use Rattle.class_search.specs.event_order.Order.{IsTagOf, place_of}
+use Rattle.event_functions.specs.class_totals.EnableFunctions.{IsEnableFunctionOf}
+use Rattle.event_functions.proofs.Covering.{two_roots, care_supports}
+use Rattle.event_functions.proofs.class_totals.EnableCovering.{own_enable_supports}
 use Rattle.class_search.specs.declared.compare.Enable.{Enable}
 use Rattle.class_search.specs.Comparing.{IsReadyEnable}
-use Rattle.class_queries.specs.Enables.{both_of, class_map, IsEnableFunction}
-use Rattle.class_queries.specs.Laws.{AreKept}
+use Rattle.edbf_unfold.specs.class_queries.Enables.{both_of, class_map, IsEnableFunction}
+use Rattle.edbf_unfold.specs.class_queries.Laws.{AreKept}
 use Rattle.event_classes.specs.declared.map.ClassMap.{ClassMap}
 use Rattle.event_classes.specs.Map.{IsEnableOf, IsEnableOn}
 use Rattle.event_classes.proofs.Setting.{latch_there}

@@ -19,26 +19,26 @@ use Rattle.sec_base.specs.declared.basics.Tag.{Tag}
 use Rattle.class_search.specs.pair_decide.Queries.{assigned_to}
 use Rattle.event_nodes.specs.Nodes.{EventGraphView, IsEventGraph, GrowsEvents}
 use Rattle.event_nodes.specs.View.{EventCircuitView}
-use Rattle.event_variables.specs.Variables.{variables_of}
-use Rattle.event_variables.proofs.Cones.{reached_among}
+use Rattle.event_nodes.specs.event_variables.Variables.{variables_of}
+use Rattle.event_nodes.proofs.event_variables.Cones.{reached_among}
 use Rattle.class_search.specs.declared.compare.Enable.{Enable}
 use Rattle.class_search.specs.Comparing.{IsReadyEnable}
 use Rattle.class_search.proofs.Queries.{distinct_in_order}
-use Rattle.class_queries.specs.Enables.{both_of, IsEnableFunction}
-use Rattle.class_queries.specs.Laws.{AreKept}
-use Rattle.class_queries.proofs.Meaning.{equal_law}
-use Rattle.class_queries.proofs.Staying.{functions_grow_with_graph}
+use Rattle.edbf_unfold.specs.class_queries.Enables.{both_of, IsEnableFunction}
+use Rattle.edbf_unfold.specs.class_queries.Laws.{AreKept}
+use Rattle.edbf_unfold.proofs.class_queries.Meaning.{equal_law}
+use Rattle.edbf_unfold.proofs.class_queries.Staying.{functions_grow_with_graph}
 use Rattle.class_search.specs.declared.class.Class.{Class}
 use Rattle.class_search.specs.declared.told.Difference.{Difference}
 use Rattle.class_search.specs.declared.told.Told.{Told}
 use Rattle.class_search.specs.Told.{IsTold, IsAlwaysTold}
 use Rattle.class_search.specs.Search.{AreReadyClasses, AreTold, IsFit}
-use Rattle.class_fits.specs.Members.{HasMembers, HaveMembers}
-use Rattle.reset_laws.specs.class_extension.Telling.{TellsApart, TellsFromAlways}
-use Rattle.class_separations.specs.Telling.{IsToldIn, AreToldIn}
-use Rattle.class_separations.specs.Apart.{HaveOwnVariables, IsToldOf, AreToldOf}
-use Rattle.class_separations.proofs.Variables.{variables_same, within_later}
-use Rattle.class_separations.proofs.Telling.{told_apart, told_always}
+use Rattle.class_search.specs.class_fits.Members.{HasMembers, HaveMembers}
+use Rattle.circuit_laws.specs.reset_laws.class_extension.Telling.{TellsApart, TellsFromAlways}
+use Rattle.class_search.specs.class_separations.Telling.{IsToldIn, AreToldIn}
+use Rattle.class_search.specs.class_separations.Apart.{HaveOwnVariables, IsToldOf, AreToldOf}
+use Rattle.class_search.proofs.class_separations.Variables.{variables_same, within_later}
+use Rattle.class_search.proofs.class_separations.Telling.{told_apart, told_always}
 use Rattle.event_classes.specs.declared.map.ClassMap.{ClassMap}
 use Rattle.class_search.specs.declared.search.Fit.{Fit}
 use Rattle.class_search.specs.declared.search.Fit.TheVariants as fit

@@ -14,21 +14,21 @@ use Rattle.flat_net.proofs.Places.{one_at}
 use Rattle.sec_base.specs.declared.basics.Tag.{Tag}
 use Rattle.class_search.specs.pair_decide.Proof.{Proof}
 use Rattle.event_nodes.specs.Nodes.{EventGraphView, GrowsEvents}
-use Rattle.event_order.specs.Order.{IsTagOf}
-use Rattle.event_variables.specs.Variables.{variables_of}
+use Rattle.class_search.specs.event_order.Order.{IsTagOf}
+use Rattle.event_nodes.specs.event_variables.Variables.{variables_of}
 use Rattle.class_search.specs.pair_decide.Query.{Query}
 use Rattle.class_search.specs.Comparing.{IsReadyEnable}
 use Rattle.class_search.specs.declared.compare.Enable.{Enable}
-use Rattle.class_queries.specs.Enables.{both_of, IsEnableFunction, AsksEnables}
-use Rattle.class_queries.specs.Laws.{AreKept}
-use Rattle.class_queries.proofs.Staying.{functions_grow_with_graph}
+use Rattle.edbf_unfold.specs.class_queries.Enables.{both_of, IsEnableFunction, AsksEnables}
+use Rattle.edbf_unfold.specs.class_queries.Laws.{AreKept}
+use Rattle.edbf_unfold.proofs.class_queries.Staying.{functions_grow_with_graph}
 use Rattle.class_search.specs.declared.class.Class.{Class}
 use Rattle.class_search.specs.declared.search.Unfit.{Unfit}
 use Rattle.class_search.specs.declared.search.Unfit.TheVariants as unfit
 use Rattle.class_search.specs.Search.{IsUnfit}
-use Rattle.class_fits.specs.Members.{HaveMembers}
-use Rattle.class_fits.proofs.Fitting.{limit_asked}
-use Rattle.class_separations.proofs.Variables.{variables_same, merged_variables}
+use Rattle.class_search.specs.class_fits.Members.{HaveMembers}
+use Rattle.class_search.proofs.class_fits.Fitting.{limit_asked}
+use Rattle.class_search.proofs.class_separations.Variables.{variables_same, merged_variables}
 use Rattle.event_classes.specs.declared.error.EventError.{EventError}
 use Rattle.event_classes.specs.declared.error.EventError.TheVariants as event_error
 use Rattle.event_classes.specs.declared.map.ClassMap.{ClassMap}

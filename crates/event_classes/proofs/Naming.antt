@@ -8,14 +8,14 @@ use Rattle.flat_net.proofs.CutNets.{slice_get-append_cases}
 use Rattle.flat_net.proofs.Nets.{some_at}
 use Rattle.sec_base.specs.declared.basics.Tag.{Tag}
 use Rattle.event_nodes.specs.Nodes.{EventGraphView}
-use Rattle.event_order.specs.Order.{IsTagOf}
+use Rattle.class_search.specs.event_order.Order.{IsTagOf}
 use Rattle.class_search.specs.declared.class.Class.{Class}
 use Rattle.class_search.specs.declared.told.Difference.{Difference}
 use Rattle.class_search.specs.declared.told.Told.{Told}
-use Rattle.class_separations.specs.declared.apart.Apart.{Apart}
-use Rattle.class_separations.specs.Telling.{HasKept, IsApartOf, always_apart}
+use Rattle.class_search.specs.declared.class_separations.apart.Apart.{Apart}
+use Rattle.class_search.specs.class_separations.Telling.{HasKept, IsApartOf, always_apart}
 use Rattle.event_classes.specs.Named.{NamesLatches, AreNamed}
-use Rattle.class_fits.proofs.Standing.{at_set}
+use Rattle.class_search.proofs.class_fits.Standing.{at_set}
 
 none_at : {X : Type 0} (i : ℕ) (y : X) → slice_get [] i ≡ Some y → ⊥
 none_at zero y q = cc

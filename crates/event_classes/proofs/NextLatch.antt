@@ -12,40 +12,40 @@ use Rattle.sec_base.specs.declared.basics.Tag.{Tag}
 use Rattle.event_nodes.specs.Nodes.{EventGraphView, IsEventGraph, GrowsEvents}
 use Rattle.event_nodes.specs.View.{EventCircuitView}
 use Rattle.event_nodes.specs.Visited.{IsWeighed}
-use Rattle.event_order.specs.Order.{IsTagOf, place_of}
+use Rattle.class_search.specs.event_order.Order.{IsTagOf, place_of}
 use Rattle.flat_net.proofs.Places.{All-at}
 use Rattle.class_search.specs.declared.compare.Enable.{Enable}
 use Rattle.class_search.specs.Comparing.{IsReadyEnable}
-use Rattle.reset_laws.specs.class_extension.Laws.{IsNextGiven}
+use Rattle.circuit_laws.specs.reset_laws.class_extension.Laws.{IsNextGiven}
 use Rattle.flat_net.specs.View.{circuit_of}
-use Rattle.class_queries.specs.Enables.{both_of, class_map, IsEnableFunction}
-use Rattle.class_queries.specs.Laws.{AreKept}
-use Rattle.class_queries.proofs.Staying.{functions_grow_with_graph}
-use Rattle.class_fits.specs.class_joining.Joining.{HasJoined}
-use Rattle.class_fits.proofs.class_joining.Tables.{found_fits}
+use Rattle.edbf_unfold.specs.class_queries.Enables.{both_of, class_map, IsEnableFunction}
+use Rattle.edbf_unfold.specs.class_queries.Laws.{AreKept}
+use Rattle.edbf_unfold.proofs.class_queries.Staying.{functions_grow_with_graph}
+use Rattle.class_search.specs.class_fits.class_joining.Joining.{HasJoined}
+use Rattle.class_search.proofs.class_fits.class_joining.Tables.{found_fits}
 use Rattle.class_search.specs.declared.class.Class.{Class}
 use Rattle.class_search.specs.declared.search.Fit.{Fit}
 use Rattle.class_search.specs.declared.search.Fit.TheVariants as fit
 use Rattle.class_search.specs.Search.{IsFit}
-use Rattle.class_fits.specs.Members.{IsAmong, HaveMembers, class_of_fit}
-use Rattle.class_fits.proofs.Fitting.{fit_first}
+use Rattle.class_search.specs.class_fits.Members.{IsAmong, HaveMembers, class_of_fit}
+use Rattle.class_search.proofs.class_fits.Fitting.{fit_first}
 use Rattle.event_classes.specs.declared.map.ClassMap.{ClassMap}
 use Rattle.event_classes.specs.Named.{AreNamed}
-use Rattle.class_fits.specs.Stand.{IsStand}
+use Rattle.class_search.specs.class_fits.Stand.{IsStand}
 use Rattle.event_classes.specs.Map.{IsWithin, IsMade, IsEnableAt, IsOwnAt, AreToldAt, FitsIn, IsClassSet, GoesOn, places_in, taken_of, with_next}
 use Rattle.event_classes.proofs.Naming.{named_joins, named_founds}
 use Rattle.event_classes.proofs.Ready.{ready_grows}
-use Rattle.class_separations.specs.declared.apart.Apart.{Apart}
-use Rattle.class_separations.specs.Apart.{AreTakenMembers, AreToldApart}
-use Rattle.class_separations.specs.Telling.{HasKept}
-use Rattle.class_separations.proofs.Going.{told_grows, told_stays, told_joins, told_founds}
+use Rattle.class_search.specs.declared.class_separations.apart.Apart.{Apart}
+use Rattle.class_search.specs.class_separations.Apart.{AreTakenMembers, AreToldApart}
+use Rattle.class_search.specs.class_separations.Telling.{HasKept}
+use Rattle.class_search.proofs.class_separations.Going.{told_grows, told_stays, told_joins, told_founds}
 use Rattle.class_search.specs.declared.told.Difference.{Difference}
 use Rattle.class_search.specs.declared.told.Told.{Told}
 use Rattle.circuit_theory.specs.Frame.{EventSide}
 use Rattle.flat_net.proofs.Nets.{some_at}
 use Rattle.circuit_theory.proofs.Lists.{Contains-head}
 use Rattle.event_classes.proofs.Setting.{next_enabled, goes_on_with, next_given, class_now}
-use Rattle.class_fits.proofs.Standing.{stand_grows, classes_ready, class_within, function_moves, at_set, stand_known, stand_always, stand_joined, stand_founded}
+use Rattle.class_search.proofs.class_fits.Standing.{stand_grows, classes_ready, class_within, function_moves, at_set, stand_known, stand_always, stand_joined, stand_founded}
 
 -- the map is right while its event graph grows
 pub made_grows : (m n : ClassMap) → n ≡ record m { events = n.events; left_count = n.left_count; right_count = n.right_count } → IsEventGraph m.events → GrowsEvents m.events n.events → (IsWithin m → IsWithin n) → (rest : List (Either ℕ ℕ)) → IsMade m rest → IsMade n rest

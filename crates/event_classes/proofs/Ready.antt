@@ -4,11 +4,11 @@ use Rattle.std.proofs.lemmas.List.Elements.{All-weaker, All-get_or}
 use Rattle.circuit_theory.specs.Query.{Variable}
 use Rattle.circuit_theory.specs.Frame.{NodeBefore}
 use Rattle.event_nodes.specs.Nodes.{EventGraphView, IsEventGraph, GrowsEvents}
-use Rattle.event_variables.specs.Variables.{AreInOrder, variable_of}
+use Rattle.event_nodes.specs.event_variables.Variables.{AreInOrder, variable_of}
 use Rattle.class_search.specs.declared.compare.Enable.{Enable}
 use Rattle.class_search.specs.Comparing.{IsReadyEnable}
 use Rattle.class_search.proofs.Queries.{ready_later}
-use Rattle.class_separations.proofs.Variables.{variable_same}
+use Rattle.class_search.proofs.class_separations.Variables.{variable_same}
 
 module _ (w x : EventGraphView) (is : IsEventGraph w) (grows : GrowsEvents w x) where
   order_later : (vars : List ℕ) → AreInOrder w vars → AreInOrder x vars

@@ -13,10 +13,10 @@ use Rattle.event_nodes.specs.declared.error.EventUnfoldError.TheVariants as unfo
 use Rattle.event_nodes.specs.Nodes.{EventGraphView, IsEventGraph}
 use Rattle.event_nodes.specs.View.{EventCircuitView, Enabled}
 use Rattle.event_nodes.specs.Visited.{CounterView}
-use Rattle.class_totals.specs.event_walk.Walk.{IsCounting, enable_start}
-use Rattle.class_totals.specs.Refused.{IsRefusal}
-use Rattle.class_totals.specs.Totals.{HaveCounted, ReachTooMany, ReachFew, WeighTooMuch}
-use Rattle.class_totals.proofs.Over.{many_nodes_are_over, heavy_is_over, few_nodes_are_within}
+use Rattle.edbf_unfold.specs.event_literals.event_walk.Walk.{IsCounting, enable_start}
+use Rattle.event_functions.specs.Refused.{IsRefusal}
+use Rattle.event_functions.specs.class_totals.Totals.{HaveCounted, ReachTooMany, ReachFew, WeighTooMuch}
+use Rattle.event_functions.proofs.class_totals.Over.{many_nodes_are_over, heavy_is_over, few_nodes_are_within}
 use Rattle.event_classes.proofs.Enabling.{parents_of}
 use Rattle.event_classes.proofs.Setting.{latch_there}
 

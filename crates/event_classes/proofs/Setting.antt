@@ -18,19 +18,19 @@ use Rattle.sec_base.specs.declared.basics.Tag.{Tag}
 use Rattle.event_nodes.specs.Nodes.{EventGraphView}
 use Rattle.event_nodes.specs.View.{EventCircuitView, IsEventCircuit, class_at}
 use Rattle.event_nodes.specs.Visited.{CounterView, IsWeighed}
-use Rattle.event_order.specs.Order.{place_of, IsTagOf}
-use Rattle.class_queries.specs.Enables.{both_of, class_map}
-use Rattle.class_fits.specs.class_joining.Joining.{with_class, HasJoined}
-use Rattle.class_fits.proofs.class_joining.Classes.{class_kept}
-use Rattle.class_fits.proofs.class_joining.Giving.{class_given}
-use Rattle.reset_laws.specs.class_extension.Laws.{IsNextGiven}
-use Rattle.class_separations.specs.Apart.{AreToldApart}
-use Rattle.class_totals.specs.Totals.{HaveCounted}
-use Rattle.class_totals.proofs.Going.{totals_stay}
+use Rattle.class_search.specs.event_order.Order.{place_of, IsTagOf}
+use Rattle.edbf_unfold.specs.class_queries.Enables.{both_of, class_map}
+use Rattle.class_search.specs.class_fits.class_joining.Joining.{with_class, HasJoined}
+use Rattle.class_search.proofs.class_fits.class_joining.Classes.{class_kept}
+use Rattle.class_search.proofs.class_fits.class_joining.Giving.{class_given}
+use Rattle.circuit_laws.specs.reset_laws.class_extension.Laws.{IsNextGiven}
+use Rattle.class_search.specs.class_separations.Apart.{AreToldApart}
+use Rattle.event_functions.specs.class_totals.Totals.{HaveCounted}
+use Rattle.event_functions.proofs.class_totals.Going.{totals_stay}
 use Rattle.flat_net.proofs.Nets.{sound_is_net}
 use Rattle.event_classes.specs.declared.map.ClassMap.{ClassMap}
 use Rattle.event_classes.specs.Named.{AreNamed}
-use Rattle.class_fits.specs.Stand.{IsStand}
+use Rattle.class_search.specs.class_fits.Stand.{IsStand}
 use Rattle.event_classes.specs.Map.{IsWithin, IsMade, FitsIn, IsSetOn, IsClassSet, Counts, GoesOn, places_in, taken_of, with_next}
 
 pub latch_there : (n : NetView) (j : ℕ) → j < length n.latches → slice_get n.latches j ≡ Some (latch_at n j)

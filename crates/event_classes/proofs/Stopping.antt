@@ -22,11 +22,11 @@ use Rattle.base_tables.specs.Table.{AreDistinct}
 use Rattle.class_search.specs.pair_decide.Proof.{Proof}
 use Rattle.event_nodes.specs.Nodes.{IsEventGraph}
 use Rattle.event_nodes.specs.View.{EventCircuitView, Enabled}
-use Rattle.event_order.specs.Order.{place_of, IsTagOf, IsTagOrder}
-use Rattle.class_queries.specs.Enables.{both_of, class_map}
-use Rattle.class_fits.proofs.class_joining.Bounds.{depths_of_both}
-use Rattle.class_totals.specs.Totals.{AreWithin}
-use Rattle.class_totals.proofs.Over.{totals_are_within}
+use Rattle.class_search.specs.event_order.Order.{place_of, IsTagOf, IsTagOrder}
+use Rattle.edbf_unfold.specs.class_queries.Enables.{both_of, class_map}
+use Rattle.class_search.proofs.class_fits.class_joining.Bounds.{depths_of_both}
+use Rattle.event_functions.specs.class_totals.Totals.{AreWithin}
+use Rattle.event_functions.proofs.class_totals.Over.{totals_are_within}
 use Rattle.event_classes.specs.declared.map.ClassMap.{ClassMap}
 use Rattle.event_classes.specs.Limits.{IsLimitQuery}
 use Rattle.event_classes.specs.Map.{IsWithin, IsMade, IsMadeTo, Counts, FitsIn, places_in, taken_of, with_next}

@@ -14,22 +14,22 @@ use Rattle.flat_net.specs.View.{NetView, circuit_of}
 use Rattle.sec_base.specs.declared.basics.Tag.{Tag}
 use Rattle.event_nodes.specs.Nodes.{EventGraphView, IsEventGraph}
 use Rattle.base_tables.specs.Table.{AreDistinct}
-use Rattle.class_totals.specs.Totals.{HaveCounted}
-use Rattle.class_totals.specs.Laws.{nothing}
-use Rattle.class_totals.proofs.Going.{totals_begin}
-use Rattle.class_totals.proofs.Over.{totals_are_within}
+use Rattle.event_functions.specs.class_totals.Totals.{HaveCounted}
+use Rattle.event_functions.specs.class_totals.Laws.{nothing}
+use Rattle.event_functions.proofs.class_totals.Going.{totals_begin}
+use Rattle.event_functions.proofs.class_totals.Over.{totals_are_within}
 use Rattle.event_nodes.specs.View.{EventCircuitView, IsEventCircuit, Enabled}
 use Rattle.event_nodes.specs.Visited.{CounterView, IsWeighed}
-use Rattle.event_order.specs.Order.{place_of, IsTagOf, IsTagOrder}
+use Rattle.class_search.specs.event_order.Order.{place_of, IsTagOf, IsTagOrder}
 use Rattle.class_search.specs.Comparing.{IsReadyEnable}
-use Rattle.class_queries.specs.Enables.{both_of}
-use Rattle.class_fits.proofs.class_joining.Bounds.{depths_of_both, map_begins, map_ends}
+use Rattle.edbf_unfold.specs.class_queries.Enables.{both_of}
+use Rattle.class_search.proofs.class_fits.class_joining.Bounds.{depths_of_both, map_begins, map_ends}
 use Rattle.class_search.specs.declared.class.Class.{Class}
 use Rattle.event_classes.specs.declared.map.ClassMap.{ClassMap}
-use Rattle.class_separations.specs.declared.apart.Apart.{Apart}
-use Rattle.class_separations.specs.Apart.{AreToldApart}
+use Rattle.class_search.specs.declared.class_separations.apart.Apart.{Apart}
+use Rattle.class_search.specs.class_separations.Apart.{AreToldApart}
 use Rattle.event_classes.specs.Named.{AreNamed}
-use Rattle.class_fits.specs.Stand.{IsStand}
+use Rattle.class_search.specs.class_fits.Stand.{IsStand}
 use Rattle.event_classes.proofs.Naming.{named_none}
 use Rattle.event_classes.specs.Map.{IsMade, GoesOn, IsBegun, IsMadeTo, IsClassMapOf, places_in, taken_of}
 

@@ -3,7 +3,7 @@ pub mod Map
 pub mod Limits
 pub mod Refused
 pub mod Steps
-pub use Rattle.event_order.specs.Order
-pub use Rattle.class_totals.specs.Totals
-pub use Rattle.class_separations.specs.declared.apart.Apart as KeptApart
-pub use Rattle.class_separations.specs.Apart
+pub use Rattle.class_search.specs.event_order.Order
+pub use Rattle.event_functions.specs.class_totals.Totals
+pub use Rattle.class_search.specs.declared.class_separations.apart.Apart as KeptApart
+pub use Rattle.class_search.specs.class_separations.Apart

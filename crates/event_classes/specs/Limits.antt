@@ -9,8 +9,8 @@ use Rattle.class_search.specs.pair_decide.Proof.{Proof}
 use Rattle.class_search.specs.pair_decide.Query.{Query}
 use Rattle.class_search.specs.pair_decide.Answers.{IsAtLimit}
 use Rattle.event_nodes.specs.Nodes.{EventGraphView, IsEventGraph}
-use Rattle.event_variables.specs.Variables.{variables_of}
-use Rattle.class_queries.specs.Enables.{IsEnableFunction, AsksEnables}
+use Rattle.event_nodes.specs.event_variables.Variables.{variables_of}
+use Rattle.edbf_unfold.specs.class_queries.Enables.{IsEnableFunction, AsksEnables}
 use Rattle.class_search.specs.declared.class.Class.{Class}
 use Rattle.class_search.specs.declared.search.Unfit.{Unfit}
 use Rattle.class_search.specs.declared.search.Unfit.TheVariants as unfit

@@ -13,23 +13,23 @@ use Rattle.aig.specs.declared.node.Node.TheVariants.{Constant}
 use Rattle.event_nodes.specs.Nodes.{EventGraphView}
 use Rattle.event_nodes.specs.View.{EventCircuitView}
 use Rattle.event_nodes.specs.Visited.{IsWeighed}
-use Rattle.event_order.specs.Order.{place_of}
-use Rattle.class_totals.specs.EnableFunctions.{IsEnableFunctionOf}
+use Rattle.class_search.specs.event_order.Order.{place_of}
+use Rattle.event_functions.specs.class_totals.EnableFunctions.{IsEnableFunctionOf}
 use Rattle.class_search.specs.declared.compare.Enable.{Enable}
-use Rattle.class_queries.specs.Enables.{both_of, IsEnableFunction}
-use Rattle.class_fits.specs.class_joining.Joining.{with_class}
+use Rattle.edbf_unfold.specs.class_queries.Enables.{both_of, IsEnableFunction}
+use Rattle.class_search.specs.class_fits.class_joining.Joining.{with_class}
 use Rattle.event_classes.specs.declared.map.ClassMap.{ClassMap}
 use Rattle.circuit_theory.specs.EventFrames.{AreNodeVariables, IsClassTree}
-use Rattle.event_variables.specs.Variables.{variables_of}
+use Rattle.event_nodes.specs.event_variables.Variables.{variables_of}
 use Rattle.class_search.specs.declared.search.Fit.{Fit}
 use Rattle.class_search.specs.declared.search.Fit.TheVariants as fit
 use Rattle.class_search.specs.declared.told.Difference.{Difference}
 use Rattle.class_search.specs.declared.told.Told.{Told}
-use Rattle.class_separations.specs.Apart.{AreToldApart, AreToldOf}
-use Rattle.class_separations.specs.Telling.{AreToldIn}
-use Rattle.class_totals.specs.Totals.{HaveCounted, AreWithin}
+use Rattle.class_search.specs.class_separations.Apart.{AreToldApart, AreToldOf}
+use Rattle.class_search.specs.class_separations.Telling.{AreToldIn}
+use Rattle.event_functions.specs.class_totals.Totals.{HaveCounted, AreWithin}
 use Rattle.event_classes.specs.Named.{AreNamed}
-use Rattle.class_fits.specs.Stand.{IsStand}
+use Rattle.class_search.specs.class_fits.Stand.{IsStand}
 
 -- all that was counted is within its numbers
 pub record IsWithin (m : ClassMap) : Type 0 where

@@ -2,9 +2,9 @@
 use Rattle.std.specs.Prelude.{◌≡◌, ℕ, List, slice_get, Some}
 use Rattle.flat_net.specs.View.{NetView}
 use Rattle.sec_base.specs.declared.basics.Tag.{Tag}
-use Rattle.event_order.specs.Order.{IsTagOf}
+use Rattle.class_search.specs.event_order.Order.{IsTagOf}
 use Rattle.class_search.specs.declared.class.Class.{Class}
-use Rattle.class_separations.specs.declared.apart.Apart.{Apart}
+use Rattle.class_search.specs.declared.class_separations.apart.Apart.{Apart}
 
 -- the latches of what is told apart are latches of the two nets
 pub record NamesLatches (a b : NetView) (x : Apart) : Type 0 where

@@ -7,9 +7,9 @@ use Rattle.circuit_theory.specs.EventTotals.{IsClassesOver}
 use Rattle.flat_net.specs.View.{circuit_of}
 use Rattle.sec_base.specs.declared.basics.Tag.{Tag}
 use Rattle.event_nodes.specs.View.{EventCircuitView, Enabled}
-use Rattle.event_order.specs.Order.{IsTagOf}
-use Rattle.class_queries.specs.Enables.{both_of}
-use Rattle.class_totals.specs.Totals.{AreWithin, ReachTooMany, ReachFew, WeighTooMuch}
+use Rattle.class_search.specs.event_order.Order.{IsTagOf}
+use Rattle.edbf_unfold.specs.class_queries.Enables.{both_of}
+use Rattle.event_functions.specs.class_totals.Totals.{AreWithin, ReachTooMany, ReachFew, WeighTooMuch}
 use Rattle.class_search.specs.pair_decide.Proof.{Proof}
 use Rattle.event_classes.specs.declared.map.ClassMap.{ClassMap}
 use Rattle.event_classes.specs.Limits.{IsLimitQuery}

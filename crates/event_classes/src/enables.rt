@@ -4,13 +4,13 @@ ghost use Rattle.std.specs.Prelude.{◌≡◌, ◌<◌, length, slice_get, Optio
 ghost use Rattle.circuit_theory.specs.declared.Side.{Side};
 ghost use Rattle.circuit_theory.specs.declared.Side.TheVariants.{A, B};
 ghost use Rattle.flat_net.specs.declared.parts.LatchAt.{LatchAt};
-ghost use Rattle.class_totals.specs.event_walk.Walk.{HasCountedStart, IsCounting, enable_start};
+ghost use Rattle.edbf_unfold.specs.event_literals.event_walk.Walk.{HasCountedStart, IsCounting, enable_start};
 ghost use Rattle.event_nodes.specs.declared.error.EventUnfoldError.TheVariants as unfold_error;
 ghost use Rattle.event_nodes.specs.Nodes.{GrowsEvents};
 ghost use Rattle.event_nodes.specs.Visited.{IsWeighed};
-ghost use Rattle.class_totals.specs.Refused.{IsRefusal};
+ghost use Rattle.event_functions.specs.Refused.{IsRefusal};
 ghost use Rattle.class_search.specs.Comparing.{IsReadyEnable};
-ghost use Rattle.event_order.specs.Order.{IsTagOf};
+ghost use Rattle.class_search.specs.event_order.Order.{IsTagOf};
 ghost use Rattle.class_search.specs.pair_decide.Proof.{Proof};
 ghost use Rattle.sec_base.specs.declared.basics.Tag.{Tag};
 ghost use Rattle.event_classes.specs.declared.error.EventError.TheVariants as event_error;
@@ -19,8 +19,8 @@ ghost use Rattle.event_classes.specs.Steps.{AreNodesOver, IsWeightOver};
 
 use crate::error::EventError;
 use crate::map::ClassMap;
-use class_fits::Enable;
-use class_totals::{EnableFunction, unfold_enable};
+use class_search::class_fits::Enable;
+use event_functions::class_totals::{EnableFunction, unfold_enable};
 use event_nodes::{Counter, EventCircuit, EventGraph, EventUnfoldError};
 use sec_base::{Side, Tag};
 use std::alloc::Global;

@@ -1,8 +1,7 @@
 //! Why classes aren't made.
 
-use class_fits::Proof;
+use class_search::class_fits::Proof;
 use sec_base::{NoMemory, Side, Tag};
-use std::alloc::{AllocError, AllocFailed};
 
 /// Why classes aren't made.
 #[derive(Drop)]
@@ -29,28 +28,6 @@ impl From<NoMemory> for EventError {
     ghost from_gives = { λ _ e. e ≡ event_error.NoMemory };
 
     fn from(_error: NoMemory) -> EventError {
-        EventError::NoMemory
-    }
-}
-
-impl From<AllocError> for EventError {
-    ghost use Rattle.std.specs.Prelude.{◌≡◌};
-    ghost use Rattle.event_classes.specs.declared.error.EventError.TheVariants as event_error;
-
-    ghost from_gives = { λ _ e. e ≡ event_error.NoMemory };
-
-    fn from(_error: AllocError) -> EventError {
-        EventError::NoMemory
-    }
-}
-
-impl<T: Drop> From<AllocFailed<T>> for EventError {
-    ghost use Rattle.std.specs.Prelude.{◌≡◌};
-    ghost use Rattle.event_classes.specs.declared.error.EventError.TheVariants as event_error;
-
-    ghost from_gives = { λ _ e. e ≡ event_error.NoMemory };
-
-    fn from(_error: AllocFailed<T>) -> EventError {
         EventError::NoMemory
     }
 }

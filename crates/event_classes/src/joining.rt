@@ -4,8 +4,8 @@ ghost use Rattle.std.specs.Prelude.{◌≡◌, ◌<◌, ◌≤◌, ℕ, suc, Lis
 ghost use Rattle.circuit_theory.specs.declared.Side.{Side};
 ghost use Rattle.circuit_theory.specs.Joined.{Either};
 ghost use Rattle.class_search.specs.Comparing.{IsReadyEnable};
-ghost use Rattle.event_order.specs.Order.{IsTagOf};
-ghost use Rattle.class_fits.specs.Members.{class_of_fit};
+ghost use Rattle.class_search.specs.event_order.Order.{IsTagOf};
+ghost use Rattle.class_search.specs.class_fits.Members.{class_of_fit};
 ghost use Rattle.class_search.specs.declared.search.Fit.TheVariants as fit_is;
 ghost use Rattle.class_search.specs.pair_decide.Proof.{Proof};
 ghost use Rattle.sec_base.specs.declared.basics.Tag.{Tag};
@@ -18,8 +18,8 @@ use crate::enables::next_enable;
 use crate::error::EventError;
 use crate::map::ClassMap;
 use crate::places::take_latch;
-use class_fits::{Class, Difference, Enable, Fit, Told, Unfit, first_fit};
-use class_separations::keep_apart;
+use class_search::class_fits::{Class, Difference, Enable, Fit, Told, Unfit, first_fit};
+use class_search::class_separations::keep_apart;
 use sec_base::{MAX_CONFLICTS, NoMemory, Tag};
 use std::alloc::Global;
 

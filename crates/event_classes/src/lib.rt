@@ -9,7 +9,7 @@ mod making;
 mod map;
 mod places;
 
-pub use class_separations::Apart;
+pub use class_search::class_separations::Apart;
 pub use error::EventError;
 pub use event_nodes::EventCircuit;
 pub use making::make_classes;

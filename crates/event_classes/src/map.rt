@@ -1,7 +1,7 @@
 //! Class maps.
 
-use class_fits::{Class, EnableTable};
-use class_separations::Apart;
+use class_search::class_fits::{Class, EnableTable};
+use class_search::class_separations::Apart;
 use event_nodes::{Counter, EventCircuit, EventGraph};
 use sec_base::Tag;
 

@@ -1,7 +1,7 @@
 //! A latch is given its class.
 
 ghost use Rattle.std.specs.Prelude.{◌≡◌, [], ◌∷◌, ◌++◌, OnOk};
-ghost use Rattle.event_order.specs.Order.{IsTagOf};
+ghost use Rattle.class_search.specs.event_order.Order.{IsTagOf};
 ghost use Rattle.event_classes.specs.Map.{IsClassSet};
 
 use crate::map::ClassMap;

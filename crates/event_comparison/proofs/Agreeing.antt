@@ -14,14 +14,14 @@ use Rattle.circuit_theory.specs.Frame.{EventSide}
 use Rattle.flat_net.specs.View.{circuit_of}
 use Rattle.sec_base.specs.declared.basics.PairAnswer.{PairAnswer}
 use Rattle.sec_base.specs.declared.basics.PairAnswer.TheVariants as answer
-use Rattle.class_queries.specs.Enables.{both_of}
-use Rattle.class_queries.specs.Laws.{AreKept}
+use Rattle.edbf_unfold.specs.class_queries.Enables.{both_of}
+use Rattle.edbf_unfold.specs.class_queries.Laws.{AreKept}
 use Rattle.event_nodes.specs.Nodes.{EventGraphView}
 use Rattle.event_nodes.specs.View.{EventCircuitView}
-use Rattle.event_agreement.specs.Laws.{HasSameQuery}
-use Rattle.event_agreement.proofs.Agreeing.{queries_agree}
-use Rattle.event_agreement.proofs.CutCircuits.{cut_queries_agree}
-use Rattle.interface.specs.declared.pairs.SignalPair.{SignalPair}
+use Rattle.event_form.specs.event_agreement.Laws.{HasSameQuery}
+use Rattle.event_form.proofs.event_agreement.Agreeing.{queries_agree}
+use Rattle.event_form.proofs.event_agreement.CutCircuits.{cut_queries_agree}
+use Rattle.sec_setup.specs.declared.ports.pairs.SignalPair.{SignalPair}
 use Rattle.obligations.specs.declared.obligation.Obligation.{Obligation}
 use Rattle.obligations.specs.Decided.{AnswerIs, IsAnswered}
 use Rattle.outcome.specs.declared.verdict.PairResult.{PairResult}

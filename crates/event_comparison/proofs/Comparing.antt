@@ -4,11 +4,11 @@ use Rattle.std.specs.List.{All}
 use Rattle.circuit_theory.proofs.Lists.{All-from_each}
 use Rattle.std.proofs.lemmas.List.Elements.{All-contains}
 use Rattle.event_nodes.specs.View.{EventCircuitView}
-use Rattle.interface.specs.declared.pairs.SignalPair.{SignalPair}
+use Rattle.sec_setup.specs.declared.ports.pairs.SignalPair.{SignalPair}
 use Rattle.obligations.specs.declared.obligation.Obligation.{Obligation}
-use Rattle.event_agreement.specs.pair_events.View.{EventsView, IsWithinLimits, side_of_both}
-use Rattle.event_findings.specs.Separated.{AreSeparated}
-use Rattle.class_separations.specs.declared.apart.Apart.{Apart}
+use Rattle.event_form.specs.event_agreement.pair_events.View.{EventsView, IsWithinLimits, side_of_both}
+use Rattle.event_findings.specs.unshown_pairs.class_events.Separated.{AreSeparated}
+use Rattle.class_search.specs.declared.class_separations.apart.Apart.{Apart}
 use Rattle.event_form.specs.Asked.{AreAsked, IsLater, IsPairOf}
 use Rattle.event_form.specs.Counted.{CountsOn}
 use Rattle.event_form.proofs.Asking.{pair_on, side_same}

@@ -8,9 +8,9 @@ use Rattle.circuit_theory.proofs.Lists.{zip_right}
 use Rattle.circuit_theory.specs.Classes.{HasClasses}
 use Rattle.sec_base.specs.declared.basics.PairAnswer.{PairAnswer}
 use Rattle.sec_base.specs.declared.basics.PairAnswer.TheVariants as answer
-use Rattle.class_queries.specs.Laws.{AreKept}
+use Rattle.edbf_unfold.specs.class_queries.Laws.{AreKept}
 use Rattle.event_nodes.specs.Nodes.{EventGraphView, IsEventGraph, GrowsEvents}
-use Rattle.interface.specs.declared.pairs.SignalPair.{SignalPair}
+use Rattle.sec_setup.specs.declared.ports.pairs.SignalPair.{SignalPair}
 use Rattle.obligations.specs.declared.decision.Decided.{Decided}
 use Rattle.obligations.specs.declared.obligation.Difference.{Difference}
 use Rattle.obligations.specs.declared.obligation.Obligation.{Obligation}
@@ -20,18 +20,18 @@ use Rattle.obligations.specs.Decided.{HaveDecided, IsAnswered, IsFirst, IsFirstO
 use Rattle.obligations.specs.Verdict.{IsVerdictAt}
 use Rattle.outcome.specs.declared.verdict.PairResult.{PairResult}
 use Rattle.pair_decide.specs.declared.query.Query.{Query}
-use Rattle.event_agreement.specs.pair_events.View.{EventsView, side_of_both}
+use Rattle.event_form.specs.event_agreement.pair_events.View.{EventsView, side_of_both}
 use Rattle.obligations.proofs.swept_queries.Listed.{zip_left}
 use Rattle.witness_report.specs.declared.witness.Witness.{Witness}
 use Rattle.event_form.specs.Answers.{PairFits}
 use Rattle.event_form.specs.Asked.{AreAsked, IsAskedOf, IsDecisive}
-use Rattle.event_findings.specs.UnshownFrame.{UnshownFrame}
-use Rattle.event_findings.specs.Sequences.{IsWitnessOf}
-use Rattle.event_findings.specs.Shown.{IsQueryAt, IsUnshownAt, IsWitnessAt}
-use Rattle.event_findings.specs.Unshown.{IsUnshownOf}
-use Rattle.event_findings.proofs.Differing.{only_query}
-use Rattle.event_findings.proofs.Growing.{differences_later}
-use Rattle.event_findings.specs.Reached.{BothReachAlways}
+use Rattle.event_findings.specs.declared.event_witness.unshown.UnshownFrame.{UnshownFrame}
+use Rattle.event_findings.specs.event_witness.Sequences.{IsWitnessOf}
+use Rattle.event_findings.specs.event_witness.Shown.{IsQueryAt, IsUnshownAt, IsWitnessAt}
+use Rattle.event_findings.specs.event_witness.Unshown.{IsUnshownOf}
+use Rattle.event_findings.proofs.event_witness.Differing.{only_query}
+use Rattle.event_findings.proofs.event_witness.Growing.{differences_later}
+use Rattle.event_findings.specs.unshown_pairs.Reached.{BothReachAlways}
 use Rattle.event_findings.specs.Compared.{AreCompared, IsEventDepth}
 use Rattle.event_comparison.specs.Decided.{AreFound}
 use Rattle.event_findings.specs.Findings.{IsFirstWith, IsFirstDifference, IsFirstLimit, IsFrameOf, IsSequenceOf, VerdictFits, FindingsFit}

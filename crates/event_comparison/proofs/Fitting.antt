@@ -1,11 +1,11 @@
 -- What is found of pairs that were asked about fits the circuits, once the event graph has grown.
 use Rattle.std.proofs.Common.{◌≡◌, ℕ, List, subst}
 use Rattle.std.specs.List.{All}
-use Rattle.class_queries.specs.Laws.{AreKept}
+use Rattle.edbf_unfold.specs.class_queries.Laws.{AreKept}
 use Rattle.event_nodes.specs.Nodes.{IsEventGraph}
 use Rattle.obligations.specs.declared.obligation.Obligation.{Obligation}
 use Rattle.outcome.specs.declared.verdict.PairResult.{PairResult}
-use Rattle.event_agreement.specs.pair_events.View.{EventsView, IsEvents, side_of_both}
+use Rattle.event_form.specs.event_agreement.pair_events.View.{EventsView, IsEvents, side_of_both}
 use Rattle.sec_base.specs.declared.basics.PairAnswer.TheVariants as answer
 use Rattle.event_form.specs.Asked.{AreAsked, IsLater}
 use Rattle.event_form.proofs.Asking.{all_asked_on}

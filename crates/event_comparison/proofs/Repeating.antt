@@ -11,13 +11,13 @@ use Rattle.circuit_theory.specs.EventSizes.{Start, WeighedAtNode, IsEventWeight,
 use Rattle.circuit_theory.specs.EventTotals.{IsNodesOver, IsNodesWithin}
 use Rattle.circuit_theory.specs.Frame.{EventSide}
 use Rattle.flat_net.proofs.Nets.{sound_is_net}
-use Rattle.class_queries.specs.Laws.{AreKept}
+use Rattle.edbf_unfold.specs.class_queries.Laws.{AreKept}
 use Rattle.event_nodes.specs.View.{EventCircuitView, side_of, Enabled}
-use Rattle.interface.specs.declared.pairs.SignalPair.{SignalPair}
-use Rattle.event_agreement.specs.pair_events.Counted.{both_starts}
-use Rattle.event_agreement.specs.pair_events.View.{EventsView, IsWithinLimits, circuit_at, side_of_both}
-use Rattle.event_agreement.specs.pair_events.Within.{AreTotalsWithin, IsCountedOnce}
-use Rattle.event_agreement.proofs.pair_events.Within.{is_within}
+use Rattle.sec_setup.specs.declared.ports.pairs.SignalPair.{SignalPair}
+use Rattle.event_form.specs.event_agreement.pair_events.Counted.{both_starts}
+use Rattle.event_form.specs.event_agreement.pair_events.View.{EventsView, IsWithinLimits, circuit_at, side_of_both}
+use Rattle.event_form.specs.event_agreement.pair_events.Within.{AreTotalsWithin, IsCountedOnce}
+use Rattle.event_form.proofs.event_agreement.pair_events.Within.{is_within}
 use Rattle.event_form.specs.Asked.{IsLater}
 use Rattle.event_form.specs.Counted.{CountsOn, left_starts, right_starts}
 use Rattle.event_form.specs.Refused.{starts_at, IsRefusedFor}

@@ -11,14 +11,14 @@ use Rattle.circuit_theory.specs.EventFrames.{IsUnshownFrame}
 use Rattle.flat_net.specs.View.{circuit_of}
 use Rattle.flat_net.proofs.Places.{All-at}
 use Rattle.aig.specs.Values.{value}
-use Rattle.class_queries.specs.Enables.{both_of}
-use Rattle.class_queries.specs.Laws.{AreKept}
+use Rattle.edbf_unfold.specs.class_queries.Enables.{both_of}
+use Rattle.edbf_unfold.specs.class_queries.Laws.{AreKept}
 use Rattle.event_nodes.specs.Nodes.{EventGraphView}
 use Rattle.event_nodes.specs.View.{EventCircuitView}
-use Rattle.event_variables.specs.Variables.{variables_of}
-use Rattle.event_agreement.specs.Laws.{IsFrameDifference}
-use Rattle.event_agreement.proofs.PairQueries.{differences_least}
-use Rattle.interface.specs.declared.pairs.SignalPair.{SignalPair}
+use Rattle.event_nodes.specs.event_variables.Variables.{variables_of}
+use Rattle.event_form.specs.event_agreement.Laws.{IsFrameDifference}
+use Rattle.event_form.proofs.event_agreement.PairQueries.{differences_least}
+use Rattle.sec_setup.specs.declared.ports.pairs.SignalPair.{SignalPair}
 use Rattle.obligations.specs.declared.obligation.Obligation.{Obligation}
 use Rattle.obligations.specs.Found.{IsDifferenceOf}
 use Rattle.pair_decide.specs.declared.query.Query.{Query}
@@ -28,15 +28,15 @@ use Rattle.witness_report.specs.declared.witness.Witness.{Witness}
 use Rattle.event_form.specs.Answers as form_answers
 use Rattle.event_form.specs.Asked.{IsAskedOf}
 use Rattle.event_form.proofs.Answers.{frames_of_differences}
-use Rattle.event_findings.specs.UnshownFrame.{UnshownFrame}
-use Rattle.event_findings.specs.Sequences.{HasInputsBelow, IsWitnessOf, rows_at}
-use Rattle.event_findings.specs.Unshown.{IsUnshownOf}
-use Rattle.event_findings.proofs.Differing.{only_query, always_differences}
+use Rattle.event_findings.specs.declared.event_witness.unshown.UnshownFrame.{UnshownFrame}
+use Rattle.event_findings.specs.event_witness.Sequences.{HasInputsBelow, IsWitnessOf, rows_at}
+use Rattle.event_findings.specs.event_witness.Unshown.{IsUnshownOf}
+use Rattle.event_findings.proofs.event_witness.Differing.{only_query, always_differences}
 use Rattle.event_findings.specs.Compared.{IsEventDepth, AreCompared}
 use Rattle.event_findings.specs.Findings.{IsSequenceOf, IsFrameOf}
 use Rattle.event_findings.specs.declared.pairs.EventPairs.{EventPairs}
-use Rattle.event_findings.specs.Reached.{BothReachAlways}
-use Rattle.event_findings.proofs.Frames.{bits_told}
+use Rattle.event_findings.specs.unshown_pairs.Reached.{BothReachAlways}
+use Rattle.event_findings.proofs.unshown_pairs.Frames.{bits_told}
 
 -- what makes a pair differ, by other names
 differ_told : (a b : Circuit ℕ) (left right : List ℕ) (p q : ℕ) (rows told : List (List Bool)) (last cycle : ℕ) (l x r y : Bool) → rows ≡ told → last ≡ cycle → l ≡ x → r ≡ y → MakesDiffer a b left right p q rows last l r → MakesDiffer a b left right p q told cycle x y

@@ -9,7 +9,7 @@ use Rattle.event_nodes.specs.Nodes.{EventGraphView, IsEventGraph}
 use Rattle.event_nodes.proofs.Growing.{grows_refl}
 use Rattle.event_form.specs.Functions.{signal_start}
 use Rattle.flat_net.proofs.Places.{All-at}
-use Rattle.interface.specs.declared.pairs.SignalPair.{SignalPair}
+use Rattle.sec_setup.specs.declared.ports.pairs.SignalPair.{SignalPair}
 use Rattle.obligations.specs.declared.obligation.Difference.{Difference}
 use Rattle.obligations.specs.declared.obligation.Obligation.{Obligation}
 use Rattle.obligations.specs.declared.decision.Decided.{Decided}
@@ -18,8 +18,8 @@ use Rattle.obligations.specs.declared.verdict.VerdictAt.TheVariants as at
 use Rattle.obligations.specs.Decided.{HaveDecided, IsFirst, IsFirstOf}
 use Rattle.obligations.specs.Verdict.{IsVerdictAt}
 use Rattle.outcome.specs.declared.verdict.PairResult.{PairResult}
-use Rattle.event_agreement.specs.pair_events.Counted.{HaveCounted}
-use Rattle.event_agreement.specs.pair_events.View.{EventsView, side_of_both}
+use Rattle.event_form.specs.event_agreement.pair_events.Counted.{HaveCounted}
+use Rattle.event_form.specs.event_agreement.pair_events.View.{EventsView, side_of_both}
 use Rattle.sec_base.specs.declared.basics.PairAnswer.{PairAnswer}
 use Rattle.sec_base.specs.declared.basics.PairAnswer.TheVariants as answer
 use Rattle.event_form.specs.Asked.{IsAskedOf, IsLater, IsPairOf}
@@ -29,14 +29,14 @@ use Rattle.event_form.specs.declared.error.EventFormError.{EventFormError}
 use Rattle.event_form.proofs.Asking.{all_asked_on, later_refl}
 use Rattle.event_form.proofs.Counted.{none_counted}
 use Rattle.event_form.proofs.Refusing.{all_within, nothing_within, one_within, refused_later}
-use Rattle.event_findings.specs.Shown.{IsShowable}
-use Rattle.event_findings.proofs.Growing.{differences_later}
-use Rattle.event_findings.proofs.Showing.{differences_shown}
-use Rattle.event_findings.specs.Reached.{StaysCounted}
+use Rattle.event_findings.specs.event_witness.Shown.{IsShowable}
+use Rattle.event_findings.proofs.event_witness.Growing.{differences_later}
+use Rattle.event_findings.proofs.event_witness.Showing.{differences_shown}
+use Rattle.event_findings.specs.unshown_pairs.Reached.{StaysCounted}
 use Rattle.event_comparison.specs.Asked.{AreAskedFrom, DiffersFirst, IsFoundAt, StayCounted}
 use Rattle.event_comparison.specs.Shown.{OfPair}
 use Rattle.event_findings.specs.declared.pairs.EventPairs.{EventPairs}
-use Rattle.class_separations.specs.declared.apart.Apart.{Apart}
+use Rattle.class_search.specs.declared.class_separations.apart.Apart.{Apart}
 
 -- the obligation of a pair stands at the pair's place
 pub pair_within : (e : EventsView) (aparts : List Apart) (c : EventPairs) (asked : List Obligation) → AreAskedFrom e aparts c asked → (i : ℕ) (o : Obligation) → slice_get asked i ≡ Some o → i < length c.pairs.now

@@ -7,7 +7,7 @@ use Rattle.circuit_theory.specs.Net.{IsNet, HasDistinctNames}
 use Rattle.flat_net.specs.Cut.{IsCutCircuit}
 use Rattle.flat_net.specs.View.{circuit_of}
 use Rattle.event_nodes.specs.View.{EventCircuitView}
-use Rattle.interface.specs.declared.pairs.SignalPair.{SignalPair}
+use Rattle.sec_setup.specs.declared.ports.pairs.SignalPair.{SignalPair}
 
 -- the pairs are all that are compared where the latches of these names are exposed
 abbrev pub AreAllPairs : List (List ℕ) → Circuit ℕ → Circuit ℕ → List SignalPair → Type 0

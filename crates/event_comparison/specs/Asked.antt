@@ -1,18 +1,18 @@
 -- What is asked of pairs, and what was decided of it.
 use Rattle.std.specs.Prelude.{◌≡◌, ℕ, ◌<◌, List, ◌++◌, length, All}
 use Rattle.circuit_theory.specs.EventSizes.{Start}
-use Rattle.event_findings.specs.Separated.{AreSeparated}
-use Rattle.class_separations.specs.declared.apart.Apart.{Apart}
+use Rattle.event_findings.specs.unshown_pairs.class_events.Separated.{AreSeparated}
+use Rattle.class_search.specs.declared.class_separations.apart.Apart.{Apart}
 use Rattle.event_nodes.specs.Nodes.{EventGraphView}
-use Rattle.interface.specs.declared.pairs.SignalPair.{SignalPair}
+use Rattle.sec_setup.specs.declared.ports.pairs.SignalPair.{SignalPair}
 use Rattle.obligations.specs.declared.obligation.Difference.{Difference}
 use Rattle.obligations.specs.declared.obligation.Obligation.{Obligation}
 use Rattle.obligations.specs.declared.verdict.VerdictAt.{VerdictAt}
 use Rattle.obligations.specs.declared.verdict.VerdictAt.TheVariants as at
 use Rattle.obligations.specs.Decided.{IsFirstOf}
 use Rattle.outcome.specs.declared.verdict.PairResult.{PairResult}
-use Rattle.event_agreement.specs.pair_events.Counted.{HaveCounted}
-use Rattle.event_agreement.specs.pair_events.View.{EventsView, IsWithinLimits, side_of_both}
+use Rattle.event_form.specs.event_agreement.pair_events.Counted.{HaveCounted}
+use Rattle.event_form.specs.event_agreement.pair_events.View.{EventsView, IsWithinLimits, side_of_both}
 use Rattle.base_tables.specs.Table.{AreDistinct}
 use Rattle.sec_base.specs.declared.basics.PairAnswer.TheVariants as answer
 use Rattle.event_form.specs.Asked.{AreAsked, IsPairOf}

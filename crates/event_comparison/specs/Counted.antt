@@ -1,9 +1,9 @@
 -- What is counted of the pairs that are compared, and why they can't be.
 use Rattle.std.specs.Prelude.{ℕ, List, Result}
 use Rattle.circuit_theory.specs.EventSizes.{Start}
-use Rattle.interface.specs.declared.pairs.SignalPair.{SignalPair}
-use Rattle.event_agreement.specs.pair_events.Counted.{HaveCounted}
-use Rattle.event_agreement.specs.pair_events.View.{EventsView, IsWithinLimits}
+use Rattle.sec_setup.specs.declared.ports.pairs.SignalPair.{SignalPair}
+use Rattle.event_form.specs.event_agreement.pair_events.Counted.{HaveCounted}
+use Rattle.event_form.specs.event_agreement.pair_events.View.{EventsView, IsWithinLimits}
 use Rattle.event_form.specs.Asked.{IsLater}
 use Rattle.event_form.specs.Counted.{CountsOn}
 use Rattle.event_form.specs.Stopped.{IsStoppedFor}

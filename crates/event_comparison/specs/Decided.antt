@@ -6,7 +6,7 @@ use Rattle.obligations.specs.declared.obligation.Obligation.{Obligation}
 use Rattle.obligations.specs.declared.verdict.VerdictAt.{VerdictAt}
 use Rattle.obligations.specs.Decided.{HaveDecided}
 use Rattle.obligations.specs.Verdict.{IsVerdictAt}
-use Rattle.event_agreement.specs.pair_events.View.{EventsView}
+use Rattle.event_form.specs.event_agreement.pair_events.View.{EventsView}
 use Rattle.event_comparison.specs.Shown.{IsShown}
 use Rattle.event_findings.specs.declared.findings.EventFindings.{EventFindings}
 use Rattle.event_findings.specs.declared.pairs.EventPairs.{EventPairs}

@@ -7,4 +7,4 @@ pub use Rattle.event_findings.specs.Compared
 pub use Rattle.event_findings.specs.declared.pairs.EventPairs
 pub use Rattle.event_findings.specs.Findings
 pub use Rattle.event_findings.specs.declared.findings.EventFindings
-pub use Rattle.event_findings.specs.class_events
+pub use Rattle.event_findings.specs.unshown_pairs.class_events

@@ -1,16 +1,16 @@
 -- What shows the verdict at an obligation.
 use Rattle.std.specs.Prelude.{◌≡◌, List, slice_get, Some}
-use Rattle.interface.specs.declared.pairs.SignalPair.{SignalPair}
+use Rattle.sec_setup.specs.declared.ports.pairs.SignalPair.{SignalPair}
 use Rattle.obligations.specs.declared.obligation.Difference.{Difference}
 use Rattle.obligations.specs.declared.obligation.Obligation.{Obligation}
 use Rattle.obligations.specs.declared.verdict.VerdictAt.{VerdictAt}
 use Rattle.obligations.specs.declared.verdict.VerdictAt.TheVariants as at
 use Rattle.outcome.specs.declared.verdict.PairResult.{PairResult}
-use Rattle.event_agreement.specs.pair_events.View.{EventsView, side_of_both}
+use Rattle.event_form.specs.event_agreement.pair_events.View.{EventsView, side_of_both}
 use Rattle.witness_report.specs.declared.witness.Witness.{Witness}
-use Rattle.event_findings.specs.Shown.{IsWitnessAt, IsUnshownAt}
-use Rattle.event_findings.specs.Reached.{BothReachAlways}
-use Rattle.event_findings.specs.Separations.{AreToldApart}
+use Rattle.event_findings.specs.event_witness.Shown.{IsWitnessAt, IsUnshownAt}
+use Rattle.event_findings.specs.unshown_pairs.Reached.{BothReachAlways}
+use Rattle.event_findings.specs.unshown_pairs.Separations.{AreToldApart}
 use Rattle.event_findings.specs.declared.pairs.EventPairs.{EventPairs}
 use Rattle.event_findings.specs.declared.verdict.EventVerdict.{EventVerdict}
 use Rattle.event_findings.specs.declared.verdict.EventVerdict.TheVariants as verdict

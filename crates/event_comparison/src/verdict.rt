@@ -4,7 +4,7 @@ ghost use Rattle.std.specs.Prelude.{◌≡◌, IfOk, OnOk};
 ghost use Rattle.event_form.specs.Asked.{IsLater};
 ghost use Rattle.event_form.specs.Counted.{left_starts, right_starts};
 ghost use Rattle.event_form.specs.Refused.{IsRefusedFor};
-ghost use Rattle.event_agreement.specs.pair_events.View.{IsWithinLimits};
+ghost use Rattle.event_form.specs.event_agreement.pair_events.View.{IsWithinLimits};
 ghost use Rattle.event_comparison.specs.Asked.{AreAskedFrom, DiffersFirst, IsFoundAt, StayCounted};
 ghost use Rattle.event_comparison.specs.Shown.{IsShown, IsShownUnshown};
 

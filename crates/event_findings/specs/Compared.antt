@@ -6,8 +6,8 @@ use Rattle.circuit_theory.specs.Tree.{AreNumbered}
 use Rattle.flat_net.specs.View.{circuit_of}
 use Rattle.base_tables.specs.Table.{AreDistinct}
 use Rattle.event_nodes.specs.View.{EventCircuitView, Enabled}
-use Rattle.interface.specs.declared.pairs.SignalPair.{SignalPair}
-use Rattle.event_witness.specs.Sequences.{HasInputsBelow}
+use Rattle.sec_setup.specs.declared.ports.pairs.SignalPair.{SignalPair}
+use Rattle.event_findings.specs.event_witness.Sequences.{HasInputsBelow}
 use Rattle.event_findings.specs.declared.pairs.EventPairs.{EventPairs}
 
 -- the depth of a pair is the greater of both depths, where the self-edges of enabled latches aren't counted

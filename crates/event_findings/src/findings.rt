@@ -1,7 +1,7 @@
 //! What is found of pairs.
 
+use crate::event_witness::PairResults;
 use crate::verdict::EventVerdict;
-use event_witness::PairResults;
 
 /// What is found of the pairs of two circuits.
 #[derive(Drop)]

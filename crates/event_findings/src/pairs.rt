@@ -1,7 +1,7 @@
 //! The pairs that are compared.
 
+use crate::unshown_pairs::SignalPair;
 use sec_base::Words;
-use unshown_pairs::SignalPair;
 
 /// What is compared of two circuits in the event form.
 #[derive(Drop)]

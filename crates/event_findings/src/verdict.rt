@@ -1,7 +1,7 @@
 //! The verdict of a comparison in the event form, with what shows it.
 
-use event_witness::{PairName, UnshownFrame, Witness};
-use unshown_pairs::ToldSeparations;
+use crate::event_witness::{PairName, UnshownFrame, Witness};
+use crate::unshown_pairs::ToldSeparations;
 
 /// A pair that reaches another class than 0: a frame in which its sides differ, and what tells apart each two classes in the paths of its event
 /// nodes.

@@ -14,15 +14,15 @@ use Rattle.aig.specs.Builds.{Builds}
 use Rattle.aig.specs.declared.node.Node.{Node}
 use Rattle.aig.specs.declared.node.Lit.{Lit}
 use Rattle.aig.proofs.Growth.{Builds-one}
-use Rattle.class_search.specs.event_nodes.Nodes.{EventGraphView, IsEventGraph, named_places, path_of}
+use Rattle.event_nodes.specs.Nodes.{EventGraphView, IsEventGraph, named_places, path_of}
 use Rattle.class_search.specs.event_variables.Variables.{variable_of, variables_of}
 use Rattle.class_search.proofs.event_variables.Named.{named_distinct}
-use Rattle.event_agreement.specs.Laws.{HasSameQuery}
-use Rattle.event_agreement.specs.Queries.{AsksEventPair}
-use Rattle.event_agreement.proofs.PairQueries.{within, are_variables, left_value, right_value, care_value, same_events, shown_frame}
-use Rattle.event_agreement.proofs.Agreeing.{queries_agree}
-use Rattle.event_agreement.specs.pair_events.Enables.{both_of}
-use Rattle.interface.specs.declared.pairs.SignalPair.{SignalPair}
+use Rattle.event_form.specs.event_agreement.Laws.{HasSameQuery}
+use Rattle.event_form.specs.event_agreement.Queries.{AsksEventPair}
+use Rattle.event_form.proofs.event_agreement.PairQueries.{within, are_variables, left_value, right_value, care_value, same_events, shown_frame}
+use Rattle.event_form.proofs.event_agreement.Agreeing.{queries_agree}
+use Rattle.event_form.specs.event_agreement.pair_events.Enables.{both_of}
+use Rattle.sec_setup.specs.declared.ports.pairs.SignalPair.{SignalPair}
 use Rattle.obligations.specs.declared.obligation.Obligation.{Obligation}
 use Rattle.obligations.specs.Decided.{AnswerIs, IsAnswered}
 use Rattle.obligations.specs.Found.{Differ, IsDifferenceOf}

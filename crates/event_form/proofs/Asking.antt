@@ -10,25 +10,25 @@ use Rattle.circuit_theory.proofs.Lists.{Contains-map, Contains-map_from, length-
 use Rattle.circuit_theory.specs.EventFits.{ReachesAlways}
 use Rattle.circuit_theory.specs.EventFrames.{IsEventSize}
 use Rattle.circuit_theory.specs.Frame.{EventSide, ConeLatches, IsNode}
-use Rattle.class_search.specs.event_nodes.Nodes.{EventGraphView, IsEventGraph, GrowsEvents, path_of}
-use Rattle.class_search.specs.event_nodes.View.{EventCircuitView}
-use Rattle.class_search.proofs.event_nodes.Growing.{grows_trans}
-use Rattle.class_search.proofs.event_nodes.Lists.{pairs_map}
-use Rattle.class_search.proofs.event_nodes.OnePath.{one_node}
+use Rattle.event_nodes.specs.Nodes.{EventGraphView, IsEventGraph, GrowsEvents, path_of}
+use Rattle.event_nodes.specs.View.{EventCircuitView}
+use Rattle.event_nodes.proofs.Growing.{grows_trans}
+use Rattle.event_nodes.proofs.Lists.{pairs_map}
+use Rattle.event_nodes.proofs.OnePath.{one_node}
 use Rattle.class_search.specs.event_variables.Order.{IsOnce}
-use Rattle.event_agreement.specs.event_pairs.SignalFunction.{SignalFunction}
-use Rattle.event_agreement.specs.pair_events.Enables.{both_of}
-use Rattle.event_agreement.specs.event_pairs.Functions.{IsEventFunction, AreNodesOf}
-use Rattle.event_agreement.proofs.event_pairs.Growing.{function_later}
-use Rattle.event_agreement.proofs.event_pairs.Unions.{pair_nodes}
-use Rattle.event_agreement.specs.Queries.{AsksEventPair}
-use Rattle.event_agreement.proofs.PairQueries.{queries_later, queries_of_pairs}
-use Rattle.interface.specs.declared.pairs.SignalPair.{SignalPair}
+use Rattle.event_form.specs.event_agreement.event_pairs.SignalFunction.{SignalFunction}
+use Rattle.event_form.specs.event_agreement.pair_events.Enables.{both_of}
+use Rattle.event_form.specs.event_agreement.event_pairs.Functions.{IsEventFunction, AreNodesOf}
+use Rattle.event_form.proofs.event_agreement.event_pairs.Growing.{function_later}
+use Rattle.event_form.proofs.event_agreement.event_pairs.Unions.{pair_nodes}
+use Rattle.event_form.specs.event_agreement.Queries.{AsksEventPair}
+use Rattle.event_form.proofs.event_agreement.PairQueries.{queries_later, queries_of_pairs}
+use Rattle.sec_setup.specs.declared.ports.pairs.SignalPair.{SignalPair}
 use Rattle.obligations.specs.Asked.{AreAsked as AreQueries}
 use Rattle.obligations.specs.declared.obligation.Obligation.{Obligation}
 use Rattle.obligations.specs.pair_decide.Query.{Query}
 use Rattle.obligations.specs.pair_decide.Queries.{IsQuery}
-use Rattle.event_agreement.specs.pair_events.View.{EventsView, side_of_both}
+use Rattle.event_form.specs.event_agreement.pair_events.View.{EventsView, side_of_both}
 use Rattle.event_form.specs.Asked.{IsAskedOf, AreAsked, IsDecisive, IsLater, HasGraphMore, IsPairOf, IsQueryOf, IsUnion}
 
 -- numbers of two lists, each once

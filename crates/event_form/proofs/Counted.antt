@@ -4,9 +4,9 @@ use Rattle.std.proofs.lemmas.List.{map-append, take_more}
 use Rattle.circuit_theory.specs.declared.Side.TheVariants.{A, B}
 use Rattle.circuit_theory.specs.EventSizes.{Start}
 use Rattle.event_functions.specs.Functions.{signal_start}
-use Rattle.interface.specs.declared.pairs.SignalPair.{SignalPair}
-use Rattle.event_agreement.specs.pair_events.Counted.{HaveCounted, GoOnCounting}
-use Rattle.event_agreement.specs.pair_events.View.{EventsView, IsWithinLimits}
+use Rattle.sec_setup.specs.declared.ports.pairs.SignalPair.{SignalPair}
+use Rattle.event_form.specs.event_agreement.pair_events.Counted.{HaveCounted, GoOnCounting}
+use Rattle.event_form.specs.event_agreement.pair_events.View.{EventsView, IsWithinLimits}
 use Rattle.event_form.specs.Asked.{HasGraphMore}
 use Rattle.event_form.specs.Counted.{CountPairOn, CountsOn, left_starts, right_starts}
 

@@ -4,4 +4,3 @@ pub mod Answers
 pub mod Telling
 pub mod Refusing
 pub mod Stopping
-pub use Rattle.event_agreement.proofs.SameCircuits

@@ -11,13 +11,13 @@ use Rattle.circuit_theory.proofs.Lists.{All-from_each, Contains-map, Contains-ma
 use Rattle.circuit_theory.specs.EventSizes.{Start, IsEventOver}
 use Rattle.circuit_theory.specs.EventTotals.{IsNodesOver}
 use Rattle.circuit_theory.specs.Frame.{EventSide}
-use Rattle.class_search.specs.event_nodes.View.{EventCircuitView, side_of, Enabled}
-use Rattle.class_search.specs.event_nodes.EventUnfoldError.{EventUnfoldError}
-use Rattle.class_search.specs.event_nodes.EventUnfoldError.TheVariants as unfold_error
-use Rattle.class_search.proofs.event_nodes.Visits.{visits_more}
-use Rattle.event_agreement.specs.pair_events.Counted.{both_starts, left_with, right_with, starts_with, HaveCounted, IsRefusedBy}
-use Rattle.event_agreement.specs.pair_events.View.{EventsView, circuit_at, side_of_both}
-use Rattle.event_agreement.proofs.pair_events.Starts.{node_more, both_more}
+use Rattle.event_nodes.specs.View.{EventCircuitView, side_of, Enabled}
+use Rattle.event_nodes.specs.declared.error.EventUnfoldError.{EventUnfoldError}
+use Rattle.event_nodes.specs.declared.error.EventUnfoldError.TheVariants as unfold_error
+use Rattle.event_nodes.proofs.Visits.{visits_more}
+use Rattle.event_form.specs.event_agreement.pair_events.Counted.{both_starts, left_with, right_with, starts_with, HaveCounted, IsRefusedBy}
+use Rattle.event_form.specs.event_agreement.pair_events.View.{EventsView, circuit_at, side_of_both}
+use Rattle.event_form.proofs.event_agreement.pair_events.Starts.{node_more, both_more}
 use Rattle.event_form.specs.Asked.{IsLater}
 use Rattle.event_form.specs.Refused.{starts_at, IsRefusedFor, IsToldAs}
 use Rattle.event_form.specs.declared.error.EventFormError.{EventFormError}

@@ -5,13 +5,13 @@ use Rattle.std.proofs.Math.Seq.{drop-cons}
 use Rattle.circuit_theory.specs.declared.Side.{Side}
 use Rattle.circuit_theory.specs.declared.Side.TheVariants.{A, B}
 use Rattle.circuit_theory.specs.EventSizes.{Start}
-use Rattle.class_search.specs.event_nodes.EventUnfoldError.{EventUnfoldError}
+use Rattle.event_nodes.specs.declared.error.EventUnfoldError.{EventUnfoldError}
 use Rattle.event_functions.specs.Functions.{signal_start}
-use Rattle.event_agreement.specs.pair_events.Laws.{AreKept}
-use Rattle.interface.specs.declared.pairs.SignalPair.{SignalPair}
-use Rattle.event_agreement.specs.pair_events.Counted.{GoOnCounting, HaveCounted, IsRefusedBy, IsTooLarge}
-use Rattle.event_agreement.specs.pair_events.View.{EventsView, IsWithinLimits}
-use Rattle.event_agreement.specs.pair_events.Within.{IsCountedOnce}
+use Rattle.event_form.specs.event_agreement.pair_events.Laws.{AreKept}
+use Rattle.sec_setup.specs.declared.ports.pairs.SignalPair.{SignalPair}
+use Rattle.event_form.specs.event_agreement.pair_events.Counted.{GoOnCounting, HaveCounted, IsRefusedBy, IsTooLarge}
+use Rattle.event_form.specs.event_agreement.pair_events.View.{EventsView, IsWithinLimits}
+use Rattle.event_form.specs.event_agreement.pair_events.Within.{IsCountedOnce}
 use Rattle.event_form.specs.declared.error.EventFormError.{EventFormError}
 use Rattle.event_form.specs.declared.error.EventFormError.TheVariants as form_error
 use Rattle.event_form.specs.Asked.{IsLater}

@@ -4,7 +4,7 @@ use Rattle.std.specs.List.{AllZip}
 use Rattle.std.proofs.lemmas.List.{take_more}
 use Rattle.circuit_theory.specs.Query.{Variable}
 use Rattle.circuit_theory.proofs.Lists.{zip_push}
-use Rattle.class_search.specs.event_nodes.Nodes.{EventGraphView, IsEventGraph, path_of}
+use Rattle.event_nodes.specs.Nodes.{EventGraphView, IsEventGraph, path_of}
 use Rattle.class_search.proofs.event_variables.NodePaths.{variable_is}
 use Rattle.event_form.specs.Frames.{TellsVariable, TellsFrame}
 use Rattle.event_form.specs.declared.frames.FrameBit.{FrameBit}

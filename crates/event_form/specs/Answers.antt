@@ -18,9 +18,9 @@ use Rattle.aig.specs.Graph.{IsGraph}
 use Rattle.aig.specs.Values.{value}
 use Rattle.obligations.specs.cnf_encode.Encoding.{IsEncoding}
 use Rattle.obligations.specs.sat_search.Found.{IsFruitless}
-use Rattle.class_search.specs.event_nodes.Nodes.{EventGraphView}
+use Rattle.event_nodes.specs.Nodes.{EventGraphView}
 use Rattle.class_search.specs.event_variables.Variables.{variables_of}
-use Rattle.interface.specs.declared.pairs.SignalPair.{SignalPair}
+use Rattle.sec_setup.specs.declared.ports.pairs.SignalPair.{SignalPair}
 use Rattle.obligations.specs.PairResult.{PairResult}
 use Rattle.obligations.specs.pair_decide.Proof.{Proof}
 use Rattle.obligations.specs.pair_decide.Query.{Query}

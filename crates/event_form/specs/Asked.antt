@@ -6,14 +6,14 @@ use Rattle.circuit_theory.specs.EventFits.{ReachesAlways}
 use Rattle.circuit_theory.specs.EventFrames.{IsEventSize}
 use Rattle.circuit_theory.specs.Frame.{EventSide}
 use Rattle.aig.specs.Rules.{IsAndOf}
-use Rattle.class_search.specs.event_nodes.Nodes.{EventGraphView, GrowsEvents}
+use Rattle.event_nodes.specs.Nodes.{EventGraphView, GrowsEvents}
 use Rattle.class_search.specs.event_variables.Variables.{AreInOrder, IsMergeOf}
-use Rattle.event_agreement.specs.event_pairs.SignalFunction.{SignalFunction}
-use Rattle.event_agreement.specs.Queries.{AsksEventPair}
-use Rattle.interface.specs.declared.pairs.SignalPair.{SignalPair}
+use Rattle.event_form.specs.event_agreement.event_pairs.SignalFunction.{SignalFunction}
+use Rattle.event_form.specs.event_agreement.Queries.{AsksEventPair}
+use Rattle.sec_setup.specs.declared.ports.pairs.SignalPair.{SignalPair}
 use Rattle.obligations.specs.declared.obligation.Obligation.{Obligation}
 use Rattle.obligations.specs.pair_decide.Query.{Query}
-use Rattle.event_agreement.specs.pair_events.View.{EventsView}
+use Rattle.event_form.specs.event_agreement.pair_events.View.{EventsView}
 
 -- Whether a difference of the pair shows that the circuits differ: no latch is cut open, and both sides reach latches of class 0 alone.
 abbrev pub IsDecisive : EventSide (Either ℕ ℕ) → Bool → ℕ → ℕ → Type 0

@@ -2,9 +2,9 @@
 use Rattle.std.specs.Prelude.{ℕ, List, [], ◌∷◌, ◌++◌, map}
 use Rattle.circuit_theory.specs.EventSizes.{Start}
 use Rattle.event_functions.specs.Functions.{signal_start}
-use Rattle.interface.specs.declared.pairs.SignalPair.{SignalPair}
-use Rattle.event_agreement.specs.pair_events.Counted.{HaveCounted}
-use Rattle.event_agreement.specs.pair_events.View.{EventsView}
+use Rattle.sec_setup.specs.declared.ports.pairs.SignalPair.{SignalPair}
+use Rattle.event_form.specs.event_agreement.pair_events.Counted.{HaveCounted}
+use Rattle.event_form.specs.event_agreement.pair_events.View.{EventsView}
 
 -- the starts of these pairs, in A and in B
 abbrev pub left_starts : List SignalPair → List (Start ℕ)

@@ -1,7 +1,7 @@
 -- Frames that are told: bits of inputs at event nodes.
 use Rattle.std.specs.Prelude.{◌≡◌, ℕ, Bool, List, reverse}
 use Rattle.std.specs.List.{AllZip}
-use Rattle.class_search.specs.event_nodes.Nodes.{EventGraphView}
+use Rattle.event_nodes.specs.Nodes.{EventGraphView}
 use Rattle.class_search.specs.event_variables.Variables.{variable_of}
 use Rattle.event_form.specs.declared.frames.FrameBit.{FrameBit}
 

@@ -9,13 +9,13 @@ use Rattle.circuit_theory.specs.Run.{IsEnabled}
 use Rattle.circuit_theory.specs.Tree.{AreNumbered}
 use Rattle.circuit_theory.specs.Classes.{HasClasses}
 use Rattle.circuit_theory.specs.Frame.{EventSide}
-use Rattle.interface.specs.flat_net.View.{circuit_of}
+use Rattle.sec_setup.specs.ports.flat_net.View.{circuit_of}
 use Rattle.aig.specs.sec_base.PairAnswer.TheVariants as answer
-use Rattle.class_search.specs.event_nodes.Nodes.{EventGraphView, IsEventGraph}
-use Rattle.class_search.specs.event_nodes.View.{EventCircuitView}
-use Rattle.event_agreement.specs.pair_events.Enables.{both_of}
-use Rattle.event_agreement.specs.pair_events.Laws.{AreKept}
-use Rattle.interface.specs.declared.pairs.SignalPair.{SignalPair}
+use Rattle.event_nodes.specs.Nodes.{EventGraphView, IsEventGraph}
+use Rattle.event_nodes.specs.View.{EventCircuitView}
+use Rattle.event_form.specs.event_agreement.pair_events.Enables.{both_of}
+use Rattle.event_form.specs.event_agreement.pair_events.Laws.{AreKept}
+use Rattle.sec_setup.specs.declared.ports.pairs.SignalPair.{SignalPair}
 use Rattle.obligations.specs.declared.obligation.Obligation.{Obligation}
 use Rattle.obligations.specs.Decided.{IsAnswered}
 use Rattle.obligations.specs.Found.{IsDifferenceOf}

@@ -5,9 +5,10 @@ pub mod Frames
 pub mod Refused
 pub mod Stopped
 pub mod Laws
+pub mod event_agreement
 pub use Rattle.obligations.specs.Found
 pub use Rattle.obligations.specs.Decided
 pub use Rattle.obligations.specs.declared.obligation.Obligation
 pub use Rattle.obligations.specs.declared.obligation.Difference
-pub use Rattle.event_agreement.specs.event_pairs.SignalFunction
+pub use Rattle.event_functions.specs.declared.signals.SignalFunction
 pub use Rattle.event_functions.specs.Functions

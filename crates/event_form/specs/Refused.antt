@@ -4,11 +4,11 @@ use Rattle.circuit_theory.specs.declared.Side.{Side}
 use Rattle.circuit_theory.specs.declared.Side.TheVariants.{A, B}
 use Rattle.circuit_theory.specs.EventSizes.{Start, IsEventOver}
 use Rattle.circuit_theory.specs.EventTotals.{IsNodesOver}
-use Rattle.class_search.specs.event_nodes.View.{side_of, Enabled}
-use Rattle.class_search.specs.event_nodes.EventUnfoldError.{EventUnfoldError}
-use Rattle.class_search.specs.event_nodes.EventUnfoldError.TheVariants as unfold_error
-use Rattle.event_agreement.specs.pair_events.Counted.{both_starts, HaveCounted}
-use Rattle.event_agreement.specs.pair_events.View.{EventsView, circuit_at, side_of_both}
+use Rattle.event_nodes.specs.View.{side_of, Enabled}
+use Rattle.event_nodes.specs.declared.error.EventUnfoldError.{EventUnfoldError}
+use Rattle.event_nodes.specs.declared.error.EventUnfoldError.TheVariants as unfold_error
+use Rattle.event_form.specs.event_agreement.pair_events.Counted.{both_starts, HaveCounted}
+use Rattle.event_form.specs.event_agreement.pair_events.View.{EventsView, circuit_at, side_of_both}
 use Rattle.event_form.specs.declared.error.EventFormError.{EventFormError}
 use Rattle.event_form.specs.declared.error.EventFormError.TheVariants as form_error
 

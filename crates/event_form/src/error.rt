@@ -1,7 +1,7 @@
 //! Why pairs aren't asked about.
 
 use aig::{NoMemory, Side};
-use std::alloc::{AllocError, AllocFailed};
+use std::alloc::AllocFailed;
 
 /// Why pairs aren't asked about.
 #[derive(Drop)]
@@ -21,17 +21,6 @@ impl From<NoMemory> for EventFormError {
     ghost from_gives = { λ _ e. e ≡ form_error.NoMemory };
 
     fn from(_error: NoMemory) -> EventFormError {
-        EventFormError::NoMemory
-    }
-}
-
-impl From<AllocError> for EventFormError {
-    ghost use Rattle.std.specs.Prelude.{◌≡◌};
-    ghost use Rattle.event_form.specs.declared.error.EventFormError.TheVariants as form_error;
-
-    ghost from_gives = { λ _ e. e ≡ form_error.NoMemory };
-
-    fn from(_error: AllocError) -> EventFormError {
         EventFormError::NoMemory
     }
 }

@@ -2,22 +2,22 @@
 
 ghost use Rattle.std.specs.Prelude.{◌≡◌, ◌<◌, ◌&&◌, not, [], ◌∷◌, length, All, IfOk, OnOk};
 ghost use Rattle.circuit_theory.specs.Joined.{Left, Right};
-ghost use Rattle.event_agreement.specs.event_pairs.Functions.{IsEventFunction};
+ghost use Rattle.event_form.specs.event_agreement.event_pairs.Functions.{IsEventFunction};
 ghost use Rattle.event_form.specs.Asked.{AreAsked, IsAskedOf, IsPairOf, IsLater, HasGraphMore, IsQueryOf, IsReadyFunction};
 ghost use Rattle.obligations.specs.Asked.{AreAsked as AreQueries};
 ghost use Rattle.event_form.specs.Counted.{CountsOn, CountPairOn, left_starts, right_starts};
 ghost use Rattle.event_form.specs.Refused.{IsRefusedFor, IsToldAs};
 ghost use Rattle.event_form.specs.Stopped.{IsPairStopped, IsSignalStopped, IsStoppedFor};
 ghost use Rattle.event_functions.specs.Functions.{signal_start};
-ghost use Rattle.event_agreement.specs.pair_events.Counted.{GoOnCounting, left_with, right_with};
-ghost use Rattle.event_agreement.specs.pair_events.View.{IsWithinLimits, circuit_at, side_of_both, signal_at};
+ghost use Rattle.event_form.specs.event_agreement.pair_events.Counted.{GoOnCounting, left_with, right_with};
+ghost use Rattle.event_form.specs.event_agreement.pair_events.View.{IsWithinLimits, circuit_at, side_of_both, signal_at};
 
 use crate::error::EventFormError;
+use crate::event_agreement::pair_events::{EventUnfoldError, Events, Query, SignalFunction};
 use crate::nodes::union_of;
 use aig::{NoMemory, Side};
-use event_agreement::pair_events::{EventUnfoldError, Events, Query, SignalFunction};
-use interface::{Signal, SignalPair};
 use obligations::{Obligation, Queries, copy_name};
+use sec_setup::ports::{Signal, SignalPair};
 use std::alloc::Global;
 
 /// What is asked of each pair, in order: whether both event functions agree wherever both have care. A difference shows that the circuits

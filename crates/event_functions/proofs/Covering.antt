@@ -12,25 +12,25 @@ use Rattle.circuit_theory.specs.EventFrames.{IsCareTree}
 use Rattle.circuit_theory.specs.EventSizes.{Start}
 use Rattle.circuit_theory.specs.EventTotals.{StartLatches}
 use Rattle.circuit_theory.specs.Frame.{EventUnfolds, ReachedAt}
-use Rattle.event_variables.specs.flat_net.LatchAt.{LatchAt}
-use Rattle.event_variables.specs.flat_net.Sound.{IsSound}
-use Rattle.event_variables.specs.flat_net.View.{circuit_of}
-use Rattle.event_variables.proofs.flat_net.Nets.{latch_stands}
-use Rattle.event_variables.specs.aig.Node.TheVariants.{Input}
-use Rattle.event_variables.specs.aig.Graph.{flip}
-use Rattle.event_variables.specs.aig.Cone.{IsReached}
-use Rattle.event_variables.specs.event_nodes.Nodes.{EventGraphView, IsEventGraph, named_places, path_of}
-use Rattle.event_variables.specs.event_nodes.Reach.{IsBegun}
-use Rattle.event_variables.specs.event_nodes.View.{EventCircuitView, IsEventCircuit, side_of, Enabled}
-use Rattle.event_literals.specs.Known.{IsKnownAt, IsEnableLit}
+use Rattle.event_nodes.specs.event_variables.flat_net.LatchAt.{LatchAt}
+use Rattle.event_nodes.specs.event_variables.flat_net.Sound.{IsSound}
+use Rattle.event_nodes.specs.event_variables.flat_net.View.{circuit_of}
+use Rattle.event_nodes.proofs.event_variables.flat_net.Nets.{latch_stands}
+use Rattle.event_nodes.specs.event_variables.aig.Node.TheVariants.{Input}
+use Rattle.event_nodes.specs.event_variables.aig.Graph.{flip}
+use Rattle.event_nodes.specs.event_variables.aig.Cone.{IsReached}
+use Rattle.event_nodes.specs.Nodes.{EventGraphView, IsEventGraph, named_places, path_of}
+use Rattle.event_nodes.specs.Reach.{IsBegun}
+use Rattle.event_nodes.specs.View.{EventCircuitView, IsEventCircuit, side_of, Enabled}
+use Rattle.edbf_unfold.specs.event_literals.Known.{IsKnownAt, IsEnableLit}
 use Rattle.edbf_unfold.specs.Care.{IsCareLit, IsEnableOnward, IsAndOfAll}
-use Rattle.event_variables.specs.Variables.{variable_of}
-use Rattle.event_variables.proofs.Cones.{From, Supports, supports_tree, supports_flip, supports_and_of, supports_constant, reached_one, from_one}
+use Rattle.event_nodes.specs.event_variables.Variables.{variable_of}
+use Rattle.event_nodes.proofs.event_variables.Cones.{From, Supports, supports_tree, supports_flip, supports_and_of, supports_constant, reached_one, from_one}
 use Rattle.event_functions.proofs.Shortening.{supports_short_or}
-use Rattle.event_variables.proofs.Named.{named_distinct}
-use Rattle.event_variables.specs.Inputs.{AreVisitedInputs}
-use Rattle.event_variables.proofs.Leaves.{IsVisitedLeaf, put_latch}
-use Rattle.event_variables.proofs.Meaning.{own_leaf, care_leaf}
+use Rattle.event_nodes.proofs.event_variables.Named.{named_distinct}
+use Rattle.event_nodes.specs.event_variables.Inputs.{AreVisitedInputs}
+use Rattle.event_nodes.proofs.event_variables.Leaves.{IsVisitedLeaf, put_latch}
+use Rattle.event_nodes.proofs.event_variables.Meaning.{own_leaf, care_leaf}
 
 -- what two supported literals reach
 pub two_roots : (w : EventGraphView) (is : IsEventGraph w) (vars : List ℕ) (x y : ℕ) → Supports w.graph is.is_graph (Contains vars) x → Supports w.graph is.is_graph (Contains vars) y → (n v : ℕ) → IsReached w.graph (x ∷ y ∷ []) n → slice_get w.graph n ≡ Some (Input v) → Contains vars v

@@ -1,9 +1,9 @@
 -- What is known of a care stays while the event graph grows.
 use Rattle.std.proofs.Common.{ℕ, arith}
 use Rattle.circuit_theory.specs.EventSizes.{Start}
-use Rattle.event_variables.specs.event_nodes.Nodes.{EventGraphView, IsEventGraph, GrowsEvents}
-use Rattle.event_variables.specs.event_nodes.View.{EventCircuitView}
-use Rattle.event_variables.proofs.aig.Growth.{Grows-length}
+use Rattle.event_nodes.specs.Nodes.{EventGraphView, IsEventGraph, GrowsEvents}
+use Rattle.event_nodes.specs.View.{EventCircuitView}
+use Rattle.event_nodes.proofs.event_variables.aig.Growth.{Grows-length}
 use Rattle.edbf_unfold.specs.Care.{IsCareLit}
 use Rattle.edbf_unfold.proofs.Caring.{onward_later, all_later}
 

@@ -4,4 +4,4 @@ pub mod Growing
 pub mod Visiting
 pub mod Shortening
 pub mod Covering
-pub use Rattle.event_literals.proofs.Known
+pub use Rattle.edbf_unfold.proofs.event_literals.Known

@@ -3,10 +3,10 @@ use Rattle.std.proofs.Common.{◌≡◌, true, Result, Ok, Err, OnOk, ℕ, List}
 use Rattle.std.specs.Result.{is_ok}
 use Rattle.std.proofs.lemmas.Bool.{false≢true}
 use Rattle.circuit_theory.specs.EventSizes.{Start}
-use Rattle.event_variables.specs.event_nodes.View.{EventCircuitView}
+use Rattle.event_nodes.specs.View.{EventCircuitView}
 use Rattle.event_functions.specs.Refused.{IsRefusal}
-use Rattle.event_variables.specs.event_nodes.EventUnfoldError.{EventUnfoldError}
-use Rattle.event_variables.specs.event_nodes.EventUnfoldError.TheVariants as unfold_error
+use Rattle.event_nodes.specs.declared.error.EventUnfoldError.{EventUnfoldError}
+use Rattle.event_nodes.specs.declared.error.EventUnfoldError.TheVariants as unfold_error
 
 -- one error is the other
 pub error_is : {X : Type 0} {e f : EventUnfoldError} → ◌≡◌ {A = Result X EventUnfoldError} (Err e) (Err f) → e ≡ f

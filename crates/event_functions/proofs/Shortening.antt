@@ -1,12 +1,12 @@
 -- What the literal of an or reads, also a short one, one of both reads.
 use Rattle.std.proofs.Common.{◌≡◌, ◌∙◌, ℕ, ◌/◌, List, slice_get, Option, Some, None, refl, sym, ap, subst, arith, inl, inr}
-use Rattle.event_variables.specs.aig.Node.{Node}
-use Rattle.event_variables.specs.aig.Node.TheVariants.{And}
-use Rattle.event_variables.specs.aig.Cone.{Reads}
-use Rattle.event_variables.specs.aig.Graph.{IsGraph, flip}
-use Rattle.event_variables.proofs.Cones.{From, Supports, supports_flip, supports_and_of}
-use Rattle.event_literals.specs.ShortOr.{short_or, IsShortOrBy, IsShortOr}
-use Rattle.event_literals.proofs.OrStaying.{IsOperand, short_operand}
+use Rattle.event_nodes.specs.event_variables.aig.Node.{Node}
+use Rattle.event_nodes.specs.event_variables.aig.Node.TheVariants.{And}
+use Rattle.event_nodes.specs.event_variables.aig.Cone.{Reads}
+use Rattle.event_nodes.specs.event_variables.aig.Graph.{IsGraph, flip}
+use Rattle.event_nodes.proofs.event_variables.Cones.{From, Supports, supports_flip, supports_and_of}
+use Rattle.edbf_unfold.specs.event_literals.ShortOr.{short_or, IsShortOrBy, IsShortOr}
+use Rattle.edbf_unfold.proofs.event_literals.OrStaying.{IsOperand, short_operand}
 
 -- what is reached from a node that another one reads is reached from that one
 from_reader : (g : List Node) (m y : ℕ) (node : Node) → slice_get g m ≡ Some node → Reads node y → {k : ℕ} → From g (y / 2) k → From g m k

@@ -6,17 +6,17 @@ use Rattle.std.proofs.lemmas.Bool.{cases_lt}
 use Rattle.std.proofs.lemmas.List.Elements.{All-nil, All-contains, All-weaker}
 use Rattle.circuit_theory.proofs.Lists.{All-from_each, Contains-head}
 use Rattle.circuit_theory.specs.EventSizes.{Start, EventVisits, IsEventOver}
-use Rattle.event_variables.specs.flat_net.Sound.{IsSound}
-use Rattle.event_variables.specs.flat_net.View.{NetView}
-use Rattle.event_variables.proofs.flat_net.Places.{one_at}
-use Rattle.event_variables.specs.event_nodes.Adds.{Adds}
-use Rattle.event_variables.specs.event_nodes.Nodes.{EventGraphView, IsEventGraph, path_of}
-use Rattle.event_variables.specs.event_nodes.View.{EventCircuitView, side_of, Enabled}
-use Rattle.event_variables.specs.event_nodes.Visited.{CounterView, IsWeighed, IsVisitedPair}
-use Rattle.event_variables.proofs.event_nodes.Lists.{adds_contains, adds_from}
-use Rattle.event_variables.proofs.event_nodes.Paths.{path_grows}
-use Rattle.event_variables.proofs.event_nodes.Totals.{passed_over}
-use Rattle.event_literals.specs.Walk.{IsCounting, HasCountedStart}
+use Rattle.event_nodes.specs.event_variables.flat_net.Sound.{IsSound}
+use Rattle.event_nodes.specs.event_variables.flat_net.View.{NetView}
+use Rattle.event_nodes.proofs.event_variables.flat_net.Places.{one_at}
+use Rattle.event_nodes.specs.Adds.{Adds}
+use Rattle.event_nodes.specs.Nodes.{EventGraphView, IsEventGraph, path_of}
+use Rattle.event_nodes.specs.View.{EventCircuitView, side_of, Enabled}
+use Rattle.event_nodes.specs.Visited.{CounterView, IsWeighed, IsVisitedPair}
+use Rattle.event_nodes.proofs.Lists.{adds_contains, adds_from}
+use Rattle.event_nodes.proofs.Paths.{path_grows}
+use Rattle.event_nodes.proofs.Totals.{passed_over}
+use Rattle.edbf_unfold.specs.event_literals.event_walk.Walk.{IsCounting, HasCountedStart}
 use Rattle.event_functions.specs.Refused.{IsOverweight}
 
 abbrev pub nothing : CounterView

@@ -2,14 +2,14 @@
 use Rattle.std.proofs.Common.{◌≡◌, ◌+◌, ◌*◌, ◌^◌, ◌<◌, ◌≤◌, ℕ, List, [], length, sym, ap, subst, arith}
 use Rattle.std.proofs.lemmas.List.Elements.{All-weaker}
 use Rattle.circuit_theory.specs.EventSizes.{Start}
-use Rattle.event_variables.specs.event_nodes.Nodes.{EventGraphView, IsTree, GrowsEvents}
-use Rattle.event_variables.specs.event_nodes.View.{EventCircuitView}
-use Rattle.event_variables.specs.event_nodes.Visited.{CounterView, IsVisitedPair, AreNodesFrom}
-use Rattle.event_variables.proofs.event_nodes.Lists.{adds_trans}
-use Rattle.event_reach.proofs.Making.{nodes_since}
-use Rattle.event_literals.specs.Walk.{IsCounting}
-use Rattle.event_literals.specs.Known.{EventUnfolderView, AreKnown}
-use Rattle.event_literals.specs.Built.{IsReadyFor}
+use Rattle.event_nodes.specs.Nodes.{EventGraphView, IsTree, GrowsEvents}
+use Rattle.event_nodes.specs.View.{EventCircuitView}
+use Rattle.event_nodes.specs.Visited.{CounterView, IsVisitedPair, AreNodesFrom}
+use Rattle.event_nodes.proofs.Lists.{adds_trans}
+use Rattle.event_functions.proofs.event_reach.Making.{nodes_since}
+use Rattle.edbf_unfold.specs.event_literals.event_walk.Walk.{IsCounting}
+use Rattle.edbf_unfold.specs.event_literals.Known.{EventUnfolderView, AreKnown}
+use Rattle.edbf_unfold.specs.event_literals.Built.{IsReadyFor}
 use Rattle.event_functions.proofs.Totaling.{nothing, pair_later}
 
 module _ (u : EventUnfolderView) (e : EventCircuitView) (begins : u ≡ record { circuit = e; frames = []; memo = [] }) where

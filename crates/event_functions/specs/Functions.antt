@@ -1,12 +1,12 @@
 -- When an event function is right.
 use Rattle.std.specs.Prelude.{ℕ, [], None}
 use Rattle.circuit_theory.specs.EventSizes.{Start}
-use Rattle.event_variables.specs.event_nodes.Nodes.{EventGraphView}
-use Rattle.event_variables.specs.event_nodes.View.{EventCircuitView}
-use Rattle.event_literals.specs.Known.{IsKnownAt}
+use Rattle.event_nodes.specs.Nodes.{EventGraphView}
+use Rattle.event_nodes.specs.View.{EventCircuitView}
+use Rattle.edbf_unfold.specs.event_literals.Known.{IsKnownAt}
 use Rattle.edbf_unfold.specs.Care.{IsCareLit}
 use Rattle.edbf_unfold.specs.Reached.{IsReachOf}
-use Rattle.event_variables.specs.Inputs.{AreVisitedInputs}
+use Rattle.event_nodes.specs.event_variables.Inputs.{AreVisitedInputs}
 use Rattle.event_functions.specs.declared.signals.SignalFunction.{SignalFunction}
 
 -- the start of a signal's function

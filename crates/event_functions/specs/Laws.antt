@@ -1,10 +1,10 @@
 -- What the variables of event functions are. The law is the contract of a function of this crate.
 use Rattle.std.specs.Prelude.{◌≡◌, ℕ, List, [], ◌∷◌, slice_get, Some, Contains}
-use Rattle.event_variables.specs.flat_net.Sound.{IsSound}
-use Rattle.event_variables.specs.aig.Node.TheVariants.{Input}
-use Rattle.event_variables.specs.aig.Cone.{IsReached}
-use Rattle.event_variables.specs.event_nodes.Nodes.{EventGraphView, IsEventGraph}
-use Rattle.event_variables.specs.event_nodes.View.{EventCircuitView, IsEventCircuit}
+use Rattle.event_nodes.specs.event_variables.flat_net.Sound.{IsSound}
+use Rattle.event_nodes.specs.event_variables.aig.Node.TheVariants.{Input}
+use Rattle.event_nodes.specs.event_variables.aig.Cone.{IsReached}
+use Rattle.event_nodes.specs.Nodes.{EventGraphView, IsEventGraph}
+use Rattle.event_nodes.specs.View.{EventCircuitView, IsEventCircuit}
 use Rattle.event_functions.specs.declared.signals.SignalFunction.{SignalFunction}
 use Rattle.event_functions.specs.Functions.{IsFunctionOf}
 

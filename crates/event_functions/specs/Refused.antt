@@ -2,12 +2,12 @@
 use Rattle.std.specs.Prelude.{◌≡◌, ℕ, ◌<◌, ◌≤◌, List, length, Result, Err, All, Contains}
 use Rattle.circuit_theory.specs.Depth.{LatchesHaveDepths}
 use Rattle.circuit_theory.specs.EventSizes.{Start, IsEventOver}
-use Rattle.event_variables.specs.flat_net.View.{NetView, circuit_of}
+use Rattle.event_nodes.specs.event_variables.flat_net.View.{NetView, circuit_of}
 use Rattle.base_tables.specs.Table.{AreDistinct}
-use Rattle.event_variables.specs.event_nodes.EventUnfoldError.{EventUnfoldError}
-use Rattle.event_variables.specs.event_nodes.EventUnfoldError.TheVariants as unfold_error
-use Rattle.event_variables.specs.event_nodes.View.{EventCircuitView, side_of, Enabled}
-use Rattle.event_variables.specs.event_nodes.Visited.{IsVisitedPair, HoldsNodes, places_weight}
+use Rattle.event_nodes.specs.declared.error.EventUnfoldError.{EventUnfoldError}
+use Rattle.event_nodes.specs.declared.error.EventUnfoldError.TheVariants as unfold_error
+use Rattle.event_nodes.specs.View.{EventCircuitView, side_of, Enabled}
+use Rattle.event_nodes.specs.Visited.{IsVisitedPair, HoldsNodes, places_weight}
 
 -- distinct places weigh too much
 pub record IsOverweight (n : NetView) (places : List (ℕ × ℕ)) : Type 0 where

@@ -1,12 +1,14 @@
 //! What a start visits is counted with what was counted before.
 
 ghost use Rattle.std.specs.Prelude.{◌≡◌, ◌+◌, ◌*◌, ◌^◌, ◌<◌, ◌≤◌, length, All, Contains, IfOk, OnOk, Err};
-ghost use Rattle.event_variables.specs.event_nodes.EventUnfoldError.TheVariants as unfold_error;
-ghost use Rattle.event_variables.specs.event_nodes.Adds.{Adds};
-ghost use Rattle.event_variables.specs.event_nodes.Visited.{IsWeighed};
+ghost use Rattle.event_nodes.specs.declared.error.EventUnfoldError.TheVariants as unfold_error;
+ghost use Rattle.event_nodes.specs.Adds.{Adds};
+ghost use Rattle.event_nodes.specs.Visited.{IsWeighed};
 ghost use Rattle.event_functions.specs.Refused.{IsOverweight};
 
-use event_variables::{Counter, EventGraph, EventUnfoldError, Net, NoMemory, Place, Signal};
+use event_nodes::event_variables::{
+    Counter, EventGraph, EventUnfoldError, Net, NoMemory, Place, Signal,
+};
 
 /// The most places of one unfolding.
 const PLACES: u32 = 67_108_864;

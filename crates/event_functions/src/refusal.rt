@@ -1,14 +1,14 @@
 //! What is answered where what was counted weighs too much.
 
 ghost use Rattle.std.specs.Prelude.{◌≡◌, ◌<◌, ◌≤◌, true, length};
-ghost use Rattle.event_variables.specs.event_nodes.EventUnfoldError.TheVariants as unfold_error;
-ghost use Rattle.event_variables.specs.event_nodes.Nodes.{GrowsEvents, IsEventGraph};
-ghost use Rattle.event_variables.specs.event_nodes.Visited.{AreNodesFrom, places_weight};
+ghost use Rattle.event_nodes.specs.declared.error.EventUnfoldError.TheVariants as unfold_error;
+ghost use Rattle.event_nodes.specs.Nodes.{GrowsEvents, IsEventGraph};
+ghost use Rattle.event_nodes.specs.Visited.{AreNodesFrom, places_weight};
 ghost use Rattle.event_functions.specs.Functions.{signal_start};
 ghost use Rattle.event_functions.specs.Refused.{HasFewNodes, IsOverweight};
 
-use event_reach::reached_latches;
-use event_variables::{Counter, EventCircuit, EventGraph, EventUnfoldError, Signal};
+use crate::event_reach::reached_latches;
+use event_nodes::event_variables::{Counter, EventCircuit, EventGraph, EventUnfoldError, Signal};
 use std::alloc::Global;
 
 /// The most event nodes that are reached, the root among them.

@@ -1,20 +1,20 @@
 //! Signals as event functions.
 
 ghost use Rattle.std.specs.Prelude.{◌≡◌, ◌^◌, ◌<◌, ◌≤◌, [], length, None, IfOk, OnOk, Err};
-ghost use Rattle.event_variables.specs.event_nodes.EventUnfoldError.TheVariants as unfold_error;
-ghost use Rattle.event_variables.specs.event_nodes.Nodes.{GrowsEvents};
-ghost use Rattle.event_variables.specs.event_nodes.Visited.{IsWeighed};
-ghost use Rattle.event_literals.specs.Walk.{HasCountedStart, IsCounting};
+ghost use Rattle.event_nodes.specs.declared.error.EventUnfoldError.TheVariants as unfold_error;
+ghost use Rattle.event_nodes.specs.Nodes.{GrowsEvents};
+ghost use Rattle.event_nodes.specs.Visited.{IsWeighed};
+ghost use Rattle.edbf_unfold.specs.event_literals.event_walk.Walk.{HasCountedStart, IsCounting};
 ghost use Rattle.edbf_unfold.specs.Care.{IsCareLit};
 ghost use Rattle.edbf_unfold.specs.Reached.{IsReachOf};
-ghost use Rattle.event_literals.specs.Known.{IsKnownAt};
+ghost use Rattle.edbf_unfold.specs.event_literals.Known.{IsKnownAt};
 ghost use Rattle.event_functions.specs.Functions.{IsFunctionOf, signal_start};
 ghost use Rattle.event_functions.specs.Refused.{HasFewNodes, IsTooHeavy, IsRefusal};
 
 use crate::counting::{count_all, room_in};
 use crate::refusal::signal_refusal;
 use edbf_unfold::{EventFunction, EventUnfolder};
-use event_variables::{
+use event_nodes::event_variables::{
     Counter, EventCircuit, EventGraph, EventUnfoldError, Ids, Lit, Signal, visited_variables,
 };
 use std::alloc::Global;

@@ -10,11 +10,11 @@ use Rattle.outcome.specs.declared.verdict.Unshown.{Unshown}
 use Rattle.outcome.specs.declared.verdict.Verdict.{Verdict}
 use Rattle.outcome.specs.declared.verdict.Verdict.TheVariants as verdict
 use Rattle.outcome.specs.declared.verdict.Why.TheVariants as why
-use Rattle.event_names.specs.event_fits.EventVerdict.{EventVerdict}
-use Rattle.event_names.specs.event_fits.EventVerdict.TheVariants as found
-use Rattle.event_names.specs.event_fits.UnshownPair.{UnshownPair}
-use Rattle.event_names.specs.event_fits.Fitting.{class_limit, EventOutcomeFits, IsUnrecovered, IsUnclassed, IsComparedByPairs}
-use Rattle.event_names.specs.event_fits.Named.{latch_names, NamesUnshown, NamesVerdict}
+use Rattle.event_meaning.specs.event_names.event_fits.EventVerdict.{EventVerdict}
+use Rattle.event_meaning.specs.event_names.event_fits.EventVerdict.TheVariants as found
+use Rattle.event_meaning.specs.event_names.event_fits.UnshownPair.{UnshownPair}
+use Rattle.event_meaning.specs.event_names.event_fits.Fitting.{class_limit, EventOutcomeFits, IsUnrecovered, IsUnclassed, IsComparedByPairs}
+use Rattle.event_meaning.specs.event_names.event_fits.Named.{latch_names, NamesUnshown, NamesVerdict}
 
 -- the pairs are compared where the verdict is no limit
 pub compared : (a b : NetView) (expose : Bool) (conflicts : ℕ) (o : Outcome) → EventOutcomeFits a b expose conflicts o → ((at : LimitAt) → o.verdict ≡ verdict.Limit at → ⊥) → IsComparedByPairs a b expose conflicts o

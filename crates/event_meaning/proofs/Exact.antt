@@ -16,12 +16,12 @@ use Rattle.sec_base.specs.declared.basics.PairAnswer.{PairAnswer}
 use Rattle.sec_base.specs.declared.basics.PairAnswer.TheVariants as answer
 use Rattle.pair_decide.specs.declared.query.Proof.{Proof}
 use Rattle.outcome.specs.declared.verdict.PairResult.{PairResult}
-use Rattle.class_queries.specs.Enables.{both_of}
-use Rattle.class_queries.proofs.Meaning.{numbered}
-use Rattle.event_names.specs.event_fits.Answers.{AnswerFits, PairFits}
-use Rattle.event_names.specs.event_fits.Asked.{IsDecisive}
+use Rattle.edbf_unfold.specs.class_queries.Enables.{both_of}
+use Rattle.edbf_unfold.proofs.class_queries.Meaning.{numbered}
+use Rattle.event_meaning.specs.event_names.event_fits.Answers.{AnswerFits, PairFits}
+use Rattle.event_meaning.specs.event_names.event_fits.Asked.{IsDecisive}
 use Rattle.event_nodes.specs.View.{EventCircuitView}
-use Rattle.event_names.specs.event_fits.Circuits.{IsReadyCircuit}
+use Rattle.event_meaning.specs.event_names.event_fits.Circuits.{IsReadyCircuit}
 use Rattle.event_meaning.specs.Laws.{AnswersAreExact}
 
 module _ (a b : EventCircuitView) (left_ready : IsReadyCircuit a) (right_ready : IsReadyCircuit b) where

@@ -6,15 +6,15 @@ use Rattle.circuit_theory.specs.Query.{Variable}
 use Rattle.circuit_theory.proofs.Lists.{Contains-map, of_at}
 use Rattle.circuit_theory.specs.EventFrames.{IsUnshownFrame}
 use Rattle.witness_report.specs.declared.frame_report.frame.Spot.{Spot}
-use Rattle.interface.specs.Pairs.{NamedPair, places_of}
+use Rattle.sec_setup.specs.ports.Pairs.{NamedPair, places_of}
 use Rattle.sec_setup.specs.Cuts.{columns_of}
-use Rattle.class_queries.specs.Enables.{both_of}
-use Rattle.event_names.specs.event_fits.FrameBit.{FrameBit}
-use Rattle.event_names.specs.event_fits.Told as told
-use Rattle.event_names.specs.event_fits.Findings.{VerdictFits}
+use Rattle.edbf_unfold.specs.class_queries.Enables.{both_of}
+use Rattle.event_meaning.specs.event_names.event_fits.FrameBit.{FrameBit}
+use Rattle.event_meaning.specs.event_names.event_fits.Told as told
+use Rattle.event_meaning.specs.event_names.event_fits.Findings.{VerdictFits}
 use Rattle.event_meaning.specs.Laws.{UnshownOutcomesAreFramed}
-use Rattle.event_names.specs.event_fits.Named.{latch_names, NamesSpot}
-use Rattle.event_names.specs.event_fits.Shown.{TellsVariable, TellsFrame}
+use Rattle.event_meaning.specs.event_names.event_fits.Named.{latch_names, NamesSpot}
+use Rattle.event_meaning.specs.event_names.event_fits.Shown.{TellsVariable, TellsFrame}
 use Rattle.event_meaning.proofs.Cases.{compared, events_found, unshown_no_limit}
 
 -- what is told of each is told of what names it

@@ -6,8 +6,8 @@ use Rattle.circuit_theory.specs.Sequence.{sequence_rows}
 use Rattle.circuit_theory.specs.Frame.{bits_as_shifts}
 use Rattle.circuit_theory.specs.EventFrames.{frame_of}
 use Rattle.flat_net.specs.View.{NetView, circuit_of}
-use Rattle.interface.specs.declared.pairs.SignalPair.{SignalPair}
-use Rattle.interface.specs.Pairs.{NamedPair, named_pairs, places_of}
+use Rattle.sec_setup.specs.declared.ports.pairs.SignalPair.{SignalPair}
+use Rattle.sec_setup.specs.ports.Pairs.{NamedPair, named_pairs, places_of}
 use Rattle.sec_base.specs.declared.basics.PairAnswer.{PairAnswer}
 use Rattle.sec_base.specs.declared.basics.PairAnswer.TheVariants as answer
 use Rattle.pair_decide.specs.declared.query.Proof.{Proof}
@@ -16,15 +16,15 @@ use Rattle.witness_report.specs.declared.witness.Witness.{Witness}
 use Rattle.witness_report.specs.Shown.{MakesDiffer, MakesCutsDiffer}
 use Rattle.outcome.specs.declared.verdict.Outcome.{Outcome}
 use Rattle.outcome.specs.declared.verdict.PairResult.{PairResult}
-use Rattle.class_queries.specs.Enables.{both_of}
-use Rattle.event_names.specs.event_fits.Circuits.{AreNets}
-use Rattle.event_names.proofs.event_fits.Agreeing.{circuits_agree}
-use Rattle.event_names.proofs.event_fits.Differing.{cuts_differ, circuits_differ}
-use Rattle.event_names.specs.event_fits.Answers.{AnswerFits, PairFits}
+use Rattle.edbf_unfold.specs.class_queries.Enables.{both_of}
+use Rattle.event_meaning.specs.event_names.event_fits.Circuits.{AreNets}
+use Rattle.event_meaning.proofs.event_names.event_fits.Agreeing.{circuits_agree}
+use Rattle.event_meaning.proofs.event_names.event_fits.Differing.{cuts_differ, circuits_differ}
+use Rattle.event_meaning.specs.event_names.event_fits.Answers.{AnswerFits, PairFits}
 use Rattle.event_nodes.specs.View.{EventCircuitView}
-use Rattle.event_names.specs.event_fits.Findings.{IsFirstWith, IsSequenceOf, VerdictFits}
-use Rattle.event_names.specs.event_fits.Fitting.{IsComparedByPairs}
-use Rattle.event_names.specs.event_fits.Named.{latch_names}
+use Rattle.event_meaning.specs.event_names.event_fits.Findings.{IsFirstWith, IsSequenceOf, VerdictFits}
+use Rattle.event_meaning.specs.event_names.event_fits.Fitting.{IsComparedByPairs}
+use Rattle.event_meaning.specs.event_names.event_fits.Named.{latch_names}
 use Rattle.event_meaning.specs.Laws.{CutOutcomesDiffer, DifferentOutcomesDiffer, EqualOutcomesAgree}
 use Rattle.event_meaning.proofs.Cases.{compared, cut_found, cut_no_limit, different_found, different_no_limit, equal_found, equal_no_limit}
 

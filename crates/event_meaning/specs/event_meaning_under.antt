@@ -4,11 +4,9 @@ pub mod Framed
 pub mod Saying
 pub mod Heavy
 pub mod Answered
-pub use Rattle.event_shown_under.specs.event_under_fits.Findings
-pub use Rattle.event_names.specs.event_fits.Circuits
-pub use Rattle.event_names.specs.event_fits.Totals
-pub use Rattle.event_names.specs.event_fits.EventPairs
-pub use Rattle.event_names.specs.event_fits.UnshownPair
+pub use Rattle.event_under.specs.event_shown_under.event_under_fits.Findings
+pub use Rattle.event_findings.specs.declared.pairs.EventPairs
+pub use Rattle.event_findings.specs.declared.verdict.UnshownPair
 pub use Rattle.under_base.specs.Met
 pub use Rattle.under_base.specs.Taken
 pub use Rattle.under_base.specs.declared.compare_base.error.CompareError

@@ -6,6 +6,7 @@ pub mod Visited
 pub mod Laws
 pub mod aig
 pub mod flat_net
+pub mod event_variables
 pub use Rattle.aig.specs.declared.node.Lit
 pub use Rattle.aig.specs.Builds
 pub use Rattle.aig.specs.Cone

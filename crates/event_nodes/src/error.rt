@@ -1,7 +1,7 @@
 //! Why a signal isn't unfolded.
 
 use flat_net::NoMemory;
-use std::alloc::{AllocError, AllocFailed};
+use std::alloc::AllocFailed;
 use thiserror::Error;
 
 /// Why a signal isn't unfolded.
@@ -25,17 +25,6 @@ impl From<NoMemory> for EventUnfoldError {
     ghost from_gives = { λ _ e. e ≡ unfold_error.NoMemory };
 
     fn from(_error: NoMemory) -> EventUnfoldError {
-        EventUnfoldError::NoMemory
-    }
-}
-
-impl From<AllocError> for EventUnfoldError {
-    ghost use Rattle.std.specs.Prelude.{◌≡◌};
-    ghost use Rattle.event_nodes.specs.declared.error.EventUnfoldError.TheVariants as unfold_error;
-
-    ghost from_gives = { λ _ e. e ≡ unfold_error.NoMemory };
-
-    fn from(_error: AllocError) -> EventUnfoldError {
         EventUnfoldError::NoMemory
     }
 }

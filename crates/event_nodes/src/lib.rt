@@ -1,10 +1,11 @@
-//! Event nodes, the graph over inputs at event nodes, circuits whose latches have classes, and what unfoldings weigh (after the
-//! event-driven Boolean functions of Ranjan, Singhal, Somenzi and Brayton, DATE 1999).
+//! Event nodes, the graph over inputs at event nodes and the order of these inputs as variables, circuits whose latches have classes, and
+//! what unfoldings weigh (after the event-driven Boolean functions of Ranjan, Singhal, Somenzi and Brayton, DATE 1999).
 #![tactic(auto)]
 
 mod circuit;
 mod counter;
 mod error;
+pub mod event_variables;
 mod events;
 pub mod laws;
 mod net_parts;

@@ -1,6 +1,5 @@
 pub mod Acyclic
 pub mod Bits
-pub mod Choices
 pub mod SignalDepths
 pub mod Recovering
 pub mod SameCircuits

@@ -4,8 +4,8 @@ use Rattle.circuit_theory.specs.declared.Mode.TheVariants.{Event}
 use Rattle.circuit_theory.specs.declared.Side.{Side}
 use Rattle.circuit_theory.specs.declared.Side.TheVariants.{A, B}
 use Rattle.flat_net.specs.View.{NetView}
-use Rattle.inner_cone.specs.declared.latch_cone.kinds.LatchKind.{LatchKind}
-use Rattle.inner_cone.specs.latch_cone.Cones.{MarksEnabled}
+use Rattle.signal_graph.specs.declared.inner_cone.latch_cone.kinds.LatchKind.{LatchKind}
+use Rattle.signal_graph.specs.inner_cone.latch_cone.Cones.{MarksEnabled}
 use Rattle.latch_kinds.specs.Found.{AreFound}
 use Rattle.event_setup.specs.declared.error.RecoveryError.{RecoveryError}
 use Rattle.event_setup.specs.declared.error.RecoveryError.TheVariants as unknown

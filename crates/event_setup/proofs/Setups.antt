@@ -18,18 +18,19 @@ use Rattle.flat_net.specs.Cut.{IsCutCircuit}
 use Rattle.flat_net.specs.Sound.{IsSound}
 use Rattle.flat_net.specs.View.{NetView, circuit_of, ports_of}
 use Rattle.sec_setup.specs.declared.cut_points.exposed.Exposure.{Exposure}
-use Rattle.interface.specs.declared.pairs.SignalPair.{SignalPair}
-use Rattle.interface.specs.Numbered.{AreNumbered}
-use Rattle.interface.specs.Pairs.{ArePairsOf, outputs_of}
-use Rattle.interface.proofs.Columns.{cut_few, left_read, names_few, right_read}
-use Rattle.interface.proofs.Numbering.{few_shared}
-use Rattle.interface.proofs.Shared.{are_matched}
+use Rattle.sec_setup.specs.declared.ports.pairs.SignalPair.{SignalPair}
+use Rattle.sec_setup.specs.ports.Numbered.{AreNumbered}
+use Rattle.sec_setup.specs.ports.Pairs.{ArePairsOf, outputs_of}
+use Rattle.sec_setup.proofs.ports.Columns.{cut_few, left_read, names_few, right_read}
+use Rattle.sec_setup.proofs.ports.Numbering.{few_shared}
+use Rattle.sec_setup.proofs.ports.Shared.{are_matched}
+use Rattle.sec_setup.specs.Choosing.{IsChosenIn}
 use Rattle.sec_setup.specs.Cuts.{AreCutAt, columns_of}
 use Rattle.sec_setup.specs.Matching.{InterfacesMatch}
 use Rattle.sec_setup.specs.Setup.{AreColumns}
 use Rattle.event_setup.specs.declared.cutting.CutNets.{CutNets}
 use Rattle.event_setup.specs.declared.setup.EventSetup.{EventSetup}
-use Rattle.event_setup.specs.Choosing.{AreChosen, AreOpened}
+use Rattle.event_setup.specs.Choosing.{AreOpened}
 use Rattle.event_setup.specs.Cutting.{AreMarkedCuts}
 use Rattle.event_setup.specs.Recovered.{AreMarked}
 use Rattle.event_setup.specs.Numbering.{IsBegun, IsOrder}
@@ -150,12 +151,12 @@ cut_in a b m k names x y left right begun_left begun_right cuts =
     subst (λ (n : NetView). AreCutAt a b names n y.net) (sym begun_left.net) (subst (λ (n : NetView). AreCutAt a b names m n) (sym begun_right.net) cuts)
 
 -- the setup of two nets by the chosen latches
-pub chosen_setup : (a b : NetView) (expose : Bool) (e : Exposure) (s : EventSetup) → AreChosen a b expose e → IsSetupBy a b e s → IsEventSetupOf a b expose s
+pub chosen_setup : (a b : NetView) (expose : Bool) (e : Exposure) (s : EventSetup) → IsChosenIn Event a b expose e → IsSetupBy a b e s → IsEventSetupOf a b expose s
 chosen_setup a b expose e s chosen setup = record {
   is = setup.is;
-  minimal = subst (IsMinimalCut Event (circuit_of a) (circuit_of b)) (sym setup.exposed) chosen.opened.minimal;
+  minimal = subst (IsMinimalCut Event (circuit_of a) (circuit_of b)) (sym setup.exposed) chosen.cut_open.minimal;
   closed = λ none. setup.exposed ∙ chosen.closed none;
-  no_cycles = chosen.no_cycles;
+  no_cycles = chosen.broken;
   are_cut = setup.are_cut;
   inputs = setup.inputs;
   columns = setup.columns;

@@ -4,7 +4,7 @@ use Rattle.std.specs.List.{All}
 use Rattle.base_tables.specs.Table.{AreDistinct}
 use Rattle.sec_base.specs.declared.basics.Orders.{Orders}
 use Rattle.flat_net.specs.View.{NetView}
-use Rattle.interface.specs.Numbered.{AreNumbered}
+use Rattle.sec_setup.specs.ports.Numbered.{AreNumbered}
 use Rattle.event_nodes.specs.View.{EventCircuitView}
 use Rattle.event_setup.specs.declared.circuits.NumberedCircuits.{NumberedCircuits}
 use Rattle.event_setup.specs.declared.cutting.CutNets.{CutNets}

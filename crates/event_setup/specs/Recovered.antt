@@ -4,9 +4,9 @@ use Rattle.circuit_theory.specs.declared.Mode.TheVariants.{Event}
 use Rattle.circuit_theory.specs.declared.Side.{Side}
 use Rattle.circuit_theory.specs.declared.Side.TheVariants.{A, B}
 use Rattle.flat_net.specs.View.{NetView}
-use Rattle.inner_cone.specs.declared.latch_cone.kinds.LatchKind.{LatchKind}
-use Rattle.inner_cone.specs.latch_cone.Cones.{MarksEnabled}
-use Rattle.inner_cone.specs.latch_cone.Kinds.{AreKindsIn}
+use Rattle.signal_graph.specs.declared.inner_cone.latch_cone.kinds.LatchKind.{LatchKind}
+use Rattle.signal_graph.specs.inner_cone.latch_cone.Cones.{MarksEnabled}
+use Rattle.signal_graph.specs.inner_cone.latch_cone.Kinds.{AreKindsIn}
 use Rattle.latch_kinds.specs.Found.{AreLight, HasLimit, HasTooLarge}
 use Rattle.event_setup.specs.declared.enables.EnabledLatches.{EnabledLatches}
 use Rattle.event_setup.specs.declared.error.RecoveryError.{RecoveryError}

@@ -7,14 +7,15 @@ ghost use Rattle.circuit_theory.specs.Depth.{IsDepth};
 ghost use Rattle.circuit_theory.specs.Run.{IsEnabled};
 ghost use Rattle.flat_net.specs.View.{circuit_of};
 ghost use Rattle.signal_graph.specs.Graph.{IsGraphIn};
-ghost use Rattle.event_setup.specs.Choosing.{AreEventGraphs, IsAcyclic};
+ghost use Rattle.sec_setup.specs.Setup.{AreGraphedIn};
+ghost use Rattle.event_setup.specs.Choosing.{IsAcyclic};
 ghost use Rattle.event_setup.specs.Setup.{HaveDepths, IsPairDepthIn, IsPairWithin};
 
 use flat_net::{Net, Signal};
-use interface::SignalPair;
 use latch_graph::LatchGraph;
 use sec_base::{Ids, NoMemory};
 use sec_setup::Nets;
+use sec_setup::ports::SignalPair;
 use std::alloc::Global;
 
 /// The depth of each pair, in cycles, in nets in which no latch lies on a cycle.
@@ -23,7 +24,7 @@ pub(crate) fn pair_depths(
     nets: &Nets<'_>,
     pairs: &[SignalPair],
 ) -> Result<Ids, NoMemory>
-    requires graphs { AreEventGraphs nets.now }
+    requires graphs { AreGraphedIn Event nets.now }
     requires left { IsAcyclic nets.now.left.now }
     requires right { IsAcyclic nets.now.right.now }
     requires pairs { All (IsPairWithin nets.now.left.now nets.now.right.now) pairs.now }
@@ -38,7 +39,7 @@ pub(crate) fn pair_depths(
 
 /// The greater depth of both signals.
 fn pair_depth(nets: &Nets<'_>, pair: &SignalPair) -> u32
-    requires graphs { AreEventGraphs nets.now }
+    requires graphs { AreGraphedIn Event nets.now }
     requires left { IsAcyclic nets.now.left.now }
     requires right { IsAcyclic nets.now.right.now }
     requires pair { IsPairWithin nets.now.left.now nets.now.right.now pair.now }

@@ -6,9 +6,9 @@ ghost use Rattle.event_setup.specs.Recovered.{Recovers, RecoversBoth};
 use crate::error::RecoveryError;
 use circuit_theory::Mode;
 use flat_net::Net;
-use inner_cone::latch_cone::enabled_among;
 use latch_kinds::{KindsError, kinds_in};
 use sec_base::{Bits, MAX_CONFLICTS, Side};
+use signal_graph::inner_cone::latch_cone::enabled_among;
 use std::alloc::Global;
 
 /// Which latches of two circuits are enabled: a bit for each latch.

@@ -5,16 +5,16 @@ ghost use Rattle.circuit_theory.specs.Interface.{shared_inputs};
 ghost use Rattle.base_tables.specs.Table.{AreDistinct};
 ghost use Rattle.flat_net.specs.Comparable.{IsComparable};
 ghost use Rattle.flat_net.specs.View.{ports_of};
-ghost use Rattle.interface.specs.Numbered.{AreNumbered};
+ghost use Rattle.sec_setup.specs.ports.Numbered.{AreNumbered};
 ghost use Rattle.event_setup.specs.Choosing.{AreOpened};
 ghost use Rattle.event_setup.specs.Cutting.{AreMarkedCuts};
 
 use crate::cutting::CutNets;
 use base_tables::NameTable;
 use flat_net::Net;
-use interface::orders_of;
 use sec_base::{NoMemory, Orders, Words};
 use sec_setup::cut_points::Exposure;
+use sec_setup::ports::orders_of;
 use std::alloc::Global;
 
 /// The numbers of the inputs of both nets, and the names of the numbers.

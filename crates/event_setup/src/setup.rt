@@ -5,7 +5,7 @@ ghost use Rattle.std.specs.List.{AllZip};
 ghost use Rattle.circuit_theory.specs.Interface.{shared_inputs};
 ghost use Rattle.flat_net.specs.Comparable.{IsComparable};
 ghost use Rattle.flat_net.specs.View.{ports_of};
-ghost use Rattle.interface.specs.Pairing.{ArePairs};
+ghost use Rattle.sec_setup.specs.ports.Pairing.{ArePairs};
 ghost use Rattle.sec_setup.specs.Cuts.{is_cut};
 ghost use Rattle.sec_setup.specs.Matching.{InterfacesMatch};
 ghost use Rattle.event_setup.specs.Choosing.{AreOpened};
@@ -13,7 +13,7 @@ ghost use Rattle.event_setup.specs.Cutting.{AreMarkedCuts};
 ghost use Rattle.event_setup.specs.Recovered.{AreBothMarked};
 ghost use Rattle.event_setup.specs.Setup.{HaveDepths, IsPairDepthIn, IsSetupBy, SetsUpEvents};
 
-use crate::choice::{choose, event_graph};
+use crate::choice::{choose_latches, event_graph};
 use crate::circuits::{NumberedCircuits, number_circuits};
 use crate::cutting::{CutNets, cut_both};
 use crate::depths::{have_depths, pair_depths};
@@ -21,9 +21,9 @@ use crate::enables::EnabledLatches;
 use base_tables::NameTable;
 use event_nodes::EventCircuit;
 use flat_net::Net;
-use interface::{SignalPairs, pairs_of};
 use sec_base::{Ids, NoMemory, Words};
 use sec_setup::cut_points::Exposure;
+use sec_setup::ports::{SignalPairs, pairs_of};
 use sec_setup::{Nets, SetupError};
 use std::alloc::Global;
 
@@ -73,7 +73,7 @@ pub fn set_up_events(
     requires enabled { AreBothMarked a.now b.now enabled.now }
     ensures { SetsUpEvents a.now b.now may_cut result }
 {
-    let exposure = choose(alloc, a, b, enabled, may_cut)?;
+    let exposure = choose_latches(alloc, a, b, enabled, may_cut)?;
     let cut = cut_both(alloc, a, b, enabled, &exposure)?;
     let setup = set_up_cut(alloc, a, b, shared, exposure, cut)?;
     Ok(setup)

@@ -18,12 +18,12 @@ use Rattle.flat_net.specs.View.{circuit_of}
 use Rattle.flat_net.proofs.Nets.{sound_is_net}
 use Rattle.sec_base.specs.declared.basics.PairAnswer.{PairAnswer}
 use Rattle.sec_base.specs.declared.basics.PairAnswer.TheVariants as answer
-use Rattle.class_queries.specs.Enables.{both_of, class_map}
-use Rattle.class_queries.proofs.Meaning.{numbered}
-use Rattle.event_agreement.proofs.CutCircuits.{left_same, right_same, both_same, some, cut_meets}
-use Rattle.event_agreement.proofs.SameCircuits.{AreSame, same_part, same_classes, same_depths}
-use Rattle.event_agreement.proofs.event_pairs.Parts.{cone_up, care_tree_up}
-use Rattle.interface.specs.declared.pairs.SignalPair.{SignalPair}
+use Rattle.edbf_unfold.specs.class_queries.Enables.{both_of, class_map}
+use Rattle.edbf_unfold.proofs.class_queries.Meaning.{numbered}
+use Rattle.event_form.proofs.event_agreement.CutCircuits.{left_same, right_same, both_same, some, cut_meets}
+use Rattle.event_form.proofs.event_agreement.SameCircuits.{AreSame, same_part, same_classes, same_depths}
+use Rattle.event_form.proofs.event_agreement.event_pairs.Parts.{cone_up, care_tree_up}
+use Rattle.sec_setup.specs.declared.ports.pairs.SignalPair.{SignalPair}
 use Rattle.outcome.specs.declared.verdict.PairResult.{PairResult}
 use Rattle.outcome.specs.pair_decide.Proof.{Proof}
 use Rattle.assume_laws.specs.Assume.{Assumption, ReadsInputs, HasVariableAtNode, HaveEqualEventsUnder}

@@ -21,10 +21,10 @@ use Rattle.event_nodes.specs.Nodes.{EventGraphView}
 use Rattle.event_nodes.specs.View.{EventCircuitView}
 use Rattle.event_nodes.proofs.Bits.{kind_of}
 use Rattle.event_nodes.proofs.Visits.{reached_visited}
-use Rattle.event_variables.proofs.Leaves.{IsPart, leaf_visited, visited_part, part_leaf}
-use Rattle.class_queries.specs.Enables.{both_of}
-use Rattle.class_queries.specs.Laws.{AreKept}
-use Rattle.class_queries.proofs.Meaning.{numbered}
+use Rattle.event_nodes.proofs.event_variables.Leaves.{IsPart, leaf_visited, visited_part, part_leaf}
+use Rattle.edbf_unfold.specs.class_queries.Enables.{both_of}
+use Rattle.edbf_unfold.specs.class_queries.Laws.{AreKept}
+use Rattle.edbf_unfold.proofs.class_queries.Meaning.{numbered}
 use Rattle.assume_laws.specs.Sequences.{IsSideTree}
 use Rattle.event_under.specs.Laws.{SidesHaveAllVariables}
 

@@ -8,11 +8,11 @@ use Rattle.circuit_theory.specs.Query.{Variable}
 use Rattle.circuit_theory.proofs.Numbers.{slice_get-map}
 use Rattle.base_tables.proofs.TableLemmas.{take-push}
 use Rattle.event_nodes.specs.Nodes.{EventGraphView, IsEventGraph, GrowsEvents, path_of}
-use Rattle.event_variables.specs.Variables.{variable_of, variables_of}
-use Rattle.event_variables.proofs.NodePaths.{variable_is}
-use Rattle.event_agreement.proofs.event_pairs.Growing.{variables_stay}
+use Rattle.event_nodes.specs.event_variables.Variables.{variable_of, variables_of}
+use Rattle.event_nodes.proofs.event_variables.NodePaths.{variable_is}
+use Rattle.event_form.proofs.event_agreement.event_pairs.Growing.{variables_stay}
 use Rattle.event_under.specs.Asked.{variable_in, variables_in}
-use Rattle.event_variables.specs.ranked_nodes.Named.{named_ranks, path_at, path_by}
+use Rattle.event_nodes.specs.event_variables.ranked_nodes.Named.{named_ranks, path_at, path_by}
 
 more_places : (w x : EventGraphView) → GrowsEvents w x → length w.places ≤ length x.places
 more_places w x grows = let e = ap length grows.places.1 in let f = length-append w.places grows.places.0 in omega (arith, e, f)

@@ -23,8 +23,8 @@ use Rattle.outcome.specs.pair_decide.Answers.{IsDifference, IsAtLimit}
 use Rattle.outcome.specs.pair_decide.Queries.{IsSame, IsLeast, Distinguishes, assigned_to, roots_of}
 use Rattle.swept_queries.specs.InStead.{IsInStead, DecidesInStead}
 use Rattle.event_nodes.specs.Nodes.{EventGraphView}
-use Rattle.event_variables.specs.Variables.{variables_of}
-use Rattle.interface.specs.declared.pairs.SignalPair.{SignalPair}
+use Rattle.event_nodes.specs.event_variables.Variables.{variables_of}
+use Rattle.sec_setup.specs.declared.ports.pairs.SignalPair.{SignalPair}
 use Rattle.obligations.specs.declared.obligation.Obligation.{Obligation}
 use Rattle.obligations.specs.Decided.{AnswerIs, IsAnswered}
 use Rattle.obligations.specs.Found.{Differ}

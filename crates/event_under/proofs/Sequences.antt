@@ -7,8 +7,8 @@ use Rattle.flat_net.proofs.Nets.{sound_is_net}
 use Rattle.circuit_theory.specs.EventFrames.{frame_of}
 use Rattle.circuit_theory.specs.Frame.{bits_as_shifts}
 use Rattle.circuit_theory.specs.Sequence.{sequence_rows}
-use Rattle.class_queries.specs.Enables.{both_of, class_map}
-use Rattle.class_queries.proofs.Meaning.{numbered}
+use Rattle.edbf_unfold.specs.class_queries.Enables.{both_of, class_map}
+use Rattle.edbf_unfold.proofs.class_queries.Meaning.{numbered}
 use Rattle.assume_laws.specs.Sequences.{filled_frame}
 use Rattle.assume_laws.proofs.Filled.{event_difference_is_witness_under}
 use Rattle.event_under.specs.Laws.{AlwaysDifferencesShowUnder}

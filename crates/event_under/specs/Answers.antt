@@ -14,7 +14,7 @@ use Rattle.aig.specs.Graph.{IsGraph}
 use Rattle.aig.specs.Values.{value}
 use Rattle.outcome.specs.cnf_encode.Encoding.{IsEncoding}
 use Rattle.sat_search.specs.Found.{IsFruitless}
-use Rattle.interface.specs.declared.pairs.SignalPair.{SignalPair}
+use Rattle.sec_setup.specs.declared.ports.pairs.SignalPair.{SignalPair}
 use Rattle.outcome.specs.declared.verdict.PairResult.{PairResult}
 use Rattle.outcome.specs.pair_decide.Proof.{Proof}
 use Rattle.event_form.specs.Answers.{TakesBits, ReadOnly}

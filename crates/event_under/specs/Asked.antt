@@ -12,8 +12,8 @@ use Rattle.aig.specs.Values.{value}
 use Rattle.outcome.specs.pair_decide.Query.{Query}
 use Rattle.outcome.specs.pair_decide.Queries.{IsQuery}
 use Rattle.event_nodes.specs.Nodes.{EventGraphView}
-use Rattle.event_variables.specs.Variables.{variables_of}
-use Rattle.interface.specs.declared.pairs.SignalPair.{SignalPair}
+use Rattle.event_nodes.specs.event_variables.Variables.{variables_of}
+use Rattle.sec_setup.specs.declared.ports.pairs.SignalPair.{SignalPair}
 use Rattle.obligations.specs.declared.obligation.Obligation.{Obligation}
 use Rattle.event_form.specs.Answers.{TakesBits}
 use Rattle.event_form.specs.Asked.{IsAskedOf}

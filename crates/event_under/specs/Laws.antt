@@ -28,9 +28,9 @@ use Rattle.outcome.specs.pair_decide.Answers.{IsDifference}
 use Rattle.outcome.specs.pair_decide.Queries.{assigned_to}
 use Rattle.event_nodes.specs.Nodes.{EventGraphView}
 use Rattle.event_nodes.specs.View.{EventCircuitView, Enabled}
-use Rattle.class_queries.specs.Enables.{both_of}
-use Rattle.class_queries.specs.Laws.{AreKept}
-use Rattle.interface.specs.declared.pairs.SignalPair.{SignalPair}
+use Rattle.edbf_unfold.specs.class_queries.Enables.{both_of}
+use Rattle.edbf_unfold.specs.class_queries.Laws.{AreKept}
+use Rattle.sec_setup.specs.declared.ports.pairs.SignalPair.{SignalPair}
 use Rattle.obligations.specs.declared.obligation.Obligation.{Obligation}
 use Rattle.obligations.specs.Decided.{IsAnswered}
 use Rattle.outcome.specs.declared.verdict.PairResult.{PairResult}

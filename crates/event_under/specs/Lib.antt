@@ -2,3 +2,5 @@ pub mod Asked
 pub mod Answers
 pub mod Places
 pub mod Laws
+pub mod event_asked_under
+pub mod event_shown_under

@@ -4,7 +4,7 @@ use Rattle.std.specs.List.{AllPairs, AllZip, Contains, sum_by}
 use Rattle.circuit_theory.specs.Joined.{Either, Left, Right}
 use Rattle.circuit_theory.specs.Frame.{EventSide}
 use Rattle.sec_base.specs.declared.limits.TheConstants.{MAX_WEIGHT}
-use Rattle.interface.specs.declared.pairs.SignalPair.{SignalPair}
+use Rattle.sec_setup.specs.declared.ports.pairs.SignalPair.{SignalPair}
 use Rattle.assume_laws.specs.Assume.{HasVariableAtNode}
 
 -- the node has a variable of one of both sides or of their cares

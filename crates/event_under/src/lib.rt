@@ -1,5 +1,7 @@
-//! The event form under an assumption on the inputs: what it is that a pair is asked under one, and what the answers then say. How it is asked
-//! is no matter here.
+//! The event form under an assumption on the inputs: what a pair is asked under one, what the answers then say, and what shows a
+//! difference.
 #![tactic(auto)]
 
+pub mod event_asked_under;
+pub mod event_shown_under;
 pub mod laws;

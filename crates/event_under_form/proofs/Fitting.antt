@@ -1,22 +1,22 @@
 -- What is found of pairs fits the circuits under each assumption of the premise.
 use Rattle.std.proofs.Common.{◌≡◌, ◌∙◌, ℕ, Bool, List, length, sym, ap, subst}
 use Rattle.event_nodes.specs.View.{EventCircuitView}
-use Rattle.event_agreement.specs.pair_events.Laws.{AreKept}
-use Rattle.event_agreement.specs.pair_events.View.{EventsView, IsEvents}
+use Rattle.event_form.specs.event_agreement.pair_events.Laws.{AreKept}
+use Rattle.event_form.specs.event_agreement.pair_events.View.{EventsView, IsEvents}
 use Rattle.outcome.specs.declared.verdict.PairResult.{PairResult}
 use Rattle.event_form.specs.Asked.{IsLater}
 use Rattle.event_findings.specs.Compared.{AreCompared}
 use Rattle.event_findings.specs.declared.findings.EventFindings.{EventFindings}
 use Rattle.event_findings.specs.declared.pairs.EventPairs.{EventPairs}
 use Rattle.event_comparison.specs.Asked.{AreAskedFrom}
-use Rattle.assume_sequences.specs.Assumed.{CanBeAssumed}
-use Rattle.assume_sequences.specs.declared.premise.Premise.{Premise}
-use Rattle.assume_sequences.proofs.Numbers.{number_below}
-use Rattle.assume_sequences.specs.Filled.{bit_of}
+use Rattle.assume_queries.specs.assume_sequences.Assumed.{CanBeAssumed}
+use Rattle.assume_queries.specs.declared.assume_sequences.premise.Premise.{Premise}
+use Rattle.assume_queries.proofs.assume_sequences.Numbers.{number_below}
+use Rattle.assume_queries.specs.assume_sequences.Filled.{bit_of}
 use Rattle.assume_laws.specs.assume_shape.Shape.{assumption_of}
 use Rattle.assume_laws.specs.Sequences.{IsMeetingRow}
-use Rattle.event_under_verdicts.specs.event_shown_under.Findings.{FindingsFitUnder}
-use Rattle.event_under_verdicts.proofs.Firsts as verdicts
+use Rattle.event_under_form.specs.event_under_verdicts.event_shown_under.Findings.{FindingsFitUnder}
+use Rattle.event_under_form.proofs.event_under_verdicts.Firsts as verdicts
 use Rattle.event_under_form.specs.Asked.{AreAskedAssumed, CanShow}
 use Rattle.event_under_form.specs.Formed.{AreFoundUnder, FindingsFitAssumed}
 use Rattle.event_under_form.specs.declared.verdict.Shows.{Shows}

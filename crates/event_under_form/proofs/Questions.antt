@@ -11,7 +11,7 @@ use Rattle.flat_net.specs.View.{NetView}
 use Rattle.flat_net.proofs.Nets.{some_at}
 use Rattle.base_tables.specs.Table.{AreDistinct}
 use Rattle.pair_decide.specs.Queries.{IsQuery}
-use Rattle.interface.specs.declared.pairs.SignalPair.{SignalPair}
+use Rattle.sec_setup.specs.declared.ports.pairs.SignalPair.{SignalPair}
 use Rattle.obligations.specs.declared.obligation.Obligation.{Obligation}
 use Rattle.obligations.specs.declared.decision.Decided.{Decided}
 use Rattle.obligations.specs.declared.verdict.VerdictAt.{VerdictAt}
@@ -22,21 +22,21 @@ use Rattle.obligations.specs.Verdict.{IsVerdictAt}
 use Rattle.sec_base.specs.declared.basics.PairAnswer.TheVariants as answer
 use Rattle.event_nodes.specs.Nodes.{EventGraphView, IsEventGraph}
 use Rattle.event_nodes.specs.View.{EventCircuitView}
-use Rattle.event_agreement.proofs.PairQueries.{is_query, within}
-use Rattle.event_agreement.specs.pair_events.Enables.{both_of}
-use Rattle.event_agreement.specs.pair_events.Laws.{AreKept}
-use Rattle.event_agreement.specs.pair_events.View.{EventsView, side_of_both}
-use Rattle.event_variables.specs.ranked_nodes.Ranks.{AreRanked}
+use Rattle.event_form.proofs.event_agreement.PairQueries.{is_query, within}
+use Rattle.event_form.specs.event_agreement.pair_events.Enables.{both_of}
+use Rattle.event_form.specs.event_agreement.pair_events.Laws.{AreKept}
+use Rattle.event_form.specs.event_agreement.pair_events.View.{EventsView, side_of_both}
+use Rattle.event_nodes.specs.event_variables.ranked_nodes.Ranks.{AreRanked}
 use Rattle.event_form.specs.Asked.{AreAsked, IsAskedOf}
 use Rattle.event_findings.specs.declared.pairs.EventPairs.{EventPairs}
-use Rattle.assume_sequences.specs.Assumed.{IsAssumedBy}
-use Rattle.assume_sequences.specs.declared.premise.Premise.{Premise}
+use Rattle.assume_queries.specs.assume_sequences.Assumed.{IsAssumedBy}
+use Rattle.assume_queries.specs.declared.assume_sequences.premise.Premise.{Premise}
 use Rattle.assume_laws.specs.assume_shape.Shape.{assumption_of}
-use Rattle.event_under_verdicts.specs.event_under.Asked.{AreAskedUnder, IsAskedUnder}
-use Rattle.event_under_verdicts.specs.event_under.Places.{IsLightAtNodes}
-use Rattle.event_witness_under.specs.EventQuestions.{EventQuestions}
-use Rattle.event_witness_under.specs.Questions.{IsOneOver, named_at}
-use Rattle.event_under_verdicts.specs.Shown.{AreQuestions, IsFoundUnder}
+use Rattle.event_under.specs.Asked.{AreAskedUnder, IsAskedUnder}
+use Rattle.event_under.specs.Places.{IsLightAtNodes}
+use Rattle.event_under_form.specs.event_witness_under.EventQuestions.{EventQuestions}
+use Rattle.event_under_form.specs.event_witness_under.Questions.{IsOneOver, named_at}
+use Rattle.event_under_form.specs.event_under_verdicts.Shown.{AreQuestions, IsFoundUnder}
 use Rattle.event_under_form.specs.Asked.{AreAskedAssumed}
 
 -- each asks one query over the event graph

@@ -1,14 +1,14 @@
 -- Why pairs aren't compared under an assumption.
 use Rattle.std.specs.Prelude.{IsErrAnd}
 use Rattle.std.proofs.Common.{◌≡◌, List, Result, Ok, Err, refl, sym, subst}
-use Rattle.interface.specs.declared.pairs.SignalPair.{SignalPair}
-use Rattle.event_agreement.specs.pair_events.View.{EventsView}
+use Rattle.sec_setup.specs.declared.ports.pairs.SignalPair.{SignalPair}
+use Rattle.event_form.specs.event_agreement.pair_events.View.{EventsView}
 use Rattle.event_form.specs.declared.error.EventFormError.{EventFormError}
 use Rattle.event_form.specs.declared.error.EventFormError.TheVariants as form_error
 use Rattle.event_form.proofs.Stopping.{memory_stopped}
 use Rattle.event_comparison.specs.Counted.{AreRefused}
-use Rattle.event_under_verdicts.specs.assume_queries.UnderError.{UnderError}
-use Rattle.event_under_verdicts.specs.assume_queries.UnderError.TheVariants as asked_error
+use Rattle.event_under_form.specs.event_under_verdicts.assume_queries.UnderError.{UnderError}
+use Rattle.event_under_form.specs.event_under_verdicts.assume_queries.UnderError.TheVariants as asked_error
 use Rattle.event_under_form.specs.Formed.{AreRefusedUnder}
 use Rattle.event_under_form.specs.Refusals.{refusal_of, refusal_under}
 use Rattle.event_under_form.specs.declared.error.EventUnderError.{EventUnderError}

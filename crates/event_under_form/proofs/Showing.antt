@@ -12,33 +12,33 @@ use Rattle.flat_net.proofs.Nets.{some_at}
 use Rattle.flat_net.proofs.Places.{All-at}
 use Rattle.pair_decide.specs.declared.query.Query.{Query}
 use Rattle.pair_decide.specs.Queries.{IsQuery}
-use Rattle.interface.specs.declared.pairs.SignalPair.{SignalPair}
+use Rattle.sec_setup.specs.declared.ports.pairs.SignalPair.{SignalPair}
 use Rattle.obligations.specs.declared.obligation.Difference.{Difference}
 use Rattle.obligations.specs.declared.obligation.Obligation.{Obligation}
 use Rattle.obligations.specs.Decided.{IsFirstOf}
 use Rattle.witness_report.specs.declared.witness.Witness.{Witness}
 use Rattle.event_nodes.specs.Nodes.{EventGraphView, IsEventGraph, GrowsEvents}
-use Rattle.event_variables.specs.Variables.{variables_of}
-use Rattle.event_agreement.proofs.PairQueries.{within}
-use Rattle.event_agreement.specs.pair_events.View.{EventsView, side_of_both}
-use Rattle.event_agreement.proofs.event_pairs.Growing.{variables_stay}
-use Rattle.event_variables.specs.ranked_nodes.Named.{path_at}
+use Rattle.event_nodes.specs.event_variables.Variables.{variables_of}
+use Rattle.event_form.proofs.event_agreement.PairQueries.{within}
+use Rattle.event_form.specs.event_agreement.pair_events.View.{EventsView, side_of_both}
+use Rattle.event_form.proofs.event_agreement.event_pairs.Growing.{variables_stay}
+use Rattle.event_nodes.specs.event_variables.ranked_nodes.Named.{path_at}
 use Rattle.event_form.specs.Asked.{IsPairOf}
 use Rattle.event_comparison.specs.Shown.{OfPair}
-use Rattle.event_findings.specs.UnshownFrame.{UnshownFrame}
+use Rattle.event_findings.specs.declared.event_witness.unshown.UnshownFrame.{UnshownFrame}
 use Rattle.event_findings.specs.declared.pairs.EventPairs.{EventPairs}
-use Rattle.event_findings.specs.Told.{TellsBits}
-use Rattle.event_findings.proofs.Differing.{only_query}
-use Rattle.event_findings.proofs.Frames.{bits_told}
+use Rattle.event_findings.specs.unshown_pairs.Told.{TellsBits}
+use Rattle.event_findings.proofs.event_witness.Differing.{only_query}
+use Rattle.event_findings.proofs.unshown_pairs.Frames.{bits_told}
 use Rattle.assume_laws.specs.Sequences.{filled_frame}
-use Rattle.assume_sequences.specs.Filled.{bit_of}
-use Rattle.event_under_verdicts.specs.event_under.Asked.{IsAskedUnder}
-use Rattle.event_witness_under.specs.EventQuestions.{EventQuestions}
-use Rattle.event_witness_under.specs.Questions.{named_at}
-use Rattle.event_witness_under.specs.Ready.{IsReadyAt, IsShowableUnder}
-use Rattle.event_witness_under.specs.Shown.{HasSides, IsFrameOf, IsSequenceAt}
-use Rattle.event_witness_under.specs.declared.ready.ReadyDifference.{ReadyDifference}
-use Rattle.event_under_verdicts.specs.Shown.{AreQuestions, IsFrameAtUnder, IsWitnessUnder}
+use Rattle.assume_queries.specs.assume_sequences.Filled.{bit_of}
+use Rattle.event_under.specs.Asked.{IsAskedUnder}
+use Rattle.event_under_form.specs.event_witness_under.EventQuestions.{EventQuestions}
+use Rattle.event_under_form.specs.event_witness_under.Questions.{named_at}
+use Rattle.event_under_form.specs.event_witness_under.Ready.{IsReadyAt, IsShowableUnder}
+use Rattle.event_under_form.specs.event_witness_under.Shown.{HasSides, IsFrameOf, IsSequenceAt}
+use Rattle.event_under_form.specs.declared.event_witness_under.ready.ReadyDifference.{ReadyDifference}
+use Rattle.event_under_form.specs.event_under_verdicts.Shown.{AreQuestions, IsFrameAtUnder, IsWitnessUnder}
 use Rattle.event_under_form.specs.Asked.{CanShow, DiffersAt}
 use Rattle.event_under_form.specs.declared.verdict.Shows.{Shows}
 

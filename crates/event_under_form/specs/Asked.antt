@@ -3,22 +3,22 @@ use Rattle.std.specs.Prelude.{◌≡◌, ℕ, List, length}
 use Rattle.flat_net.specs.View.{NetView}
 use Rattle.base_tables.specs.Table.{AreDistinct}
 use Rattle.sec_base.specs.declared.basics.PairAnswer.{PairAnswer}
-use Rattle.event_agreement.specs.pair_events.View.{EventsView, side_of_both}
+use Rattle.event_form.specs.event_agreement.pair_events.View.{EventsView, side_of_both}
 use Rattle.obligations.specs.Decided.{IsFirstOf}
 use Rattle.obligations.specs.declared.obligation.Difference.{Difference}
 use Rattle.obligations.specs.declared.obligation.Obligation.{Obligation}
 use Rattle.outcome.specs.declared.verdict.PairResult.{PairResult}
-use Rattle.event_variables.specs.ranked_nodes.Ranks.{AreRanked}
+use Rattle.event_nodes.specs.event_variables.ranked_nodes.Ranks.{AreRanked}
 use Rattle.event_comparison.specs.Asked.{AreAskedFrom}
 use Rattle.event_findings.specs.declared.pairs.EventPairs.{EventPairs}
-use Rattle.assume_sequences.specs.Assumed.{IsAssumedBy}
-use Rattle.assume_sequences.specs.declared.premise.Premise.{Premise}
+use Rattle.assume_queries.specs.assume_sequences.Assumed.{IsAssumedBy}
+use Rattle.assume_queries.specs.declared.assume_sequences.premise.Premise.{Premise}
 use Rattle.assume_laws.specs.assume_shape.Shape.{assumption_of}
-use Rattle.event_under_verdicts.specs.event_under.Asked.{AreAskedUnder}
-use Rattle.event_under_verdicts.specs.event_under.Places.{IsLightAtNodes}
-use Rattle.event_witness_under.specs.EventQuestions.{EventQuestions}
-use Rattle.event_witness_under.specs.Questions.{named_at}
-use Rattle.event_under_verdicts.specs.Shown.{AreQuestions}
+use Rattle.event_under.specs.Asked.{AreAskedUnder}
+use Rattle.event_under.specs.Places.{IsLightAtNodes}
+use Rattle.event_under_form.specs.event_witness_under.EventQuestions.{EventQuestions}
+use Rattle.event_under_form.specs.event_witness_under.Questions.{named_at}
+use Rattle.event_under_form.specs.event_under_verdicts.Shown.{AreQuestions}
 use Rattle.event_under_form.specs.declared.verdict.Shows.{Shows}
 
 -- What is asked of the pairs is asked under each assumption of the premise, which is light at their nodes.

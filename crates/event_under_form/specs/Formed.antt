@@ -3,8 +3,8 @@ use Rattle.std.specs.Prelude.{◌≡◌, ℕ, List, length, Result, Err}
 use Rattle.flat_net.specs.View.{NetView}
 use Rattle.event_nodes.specs.Nodes.{EventGraphView}
 use Rattle.event_nodes.specs.View.{EventCircuitView}
-use Rattle.event_agreement.specs.pair_events.View.{EventsView, side_of_both}
-use Rattle.interface.specs.declared.pairs.SignalPair.{SignalPair}
+use Rattle.event_form.specs.event_agreement.pair_events.View.{EventsView, side_of_both}
+use Rattle.sec_setup.specs.declared.ports.pairs.SignalPair.{SignalPair}
 use Rattle.obligations.specs.declared.decision.Decided.{Decided}
 use Rattle.obligations.specs.declared.verdict.VerdictAt.{VerdictAt}
 use Rattle.obligations.specs.Decided.{HaveDecided}
@@ -13,13 +13,13 @@ use Rattle.event_form.specs.declared.error.EventFormError.{EventFormError}
 use Rattle.event_findings.specs.declared.findings.EventFindings.{EventFindings}
 use Rattle.event_findings.specs.declared.pairs.EventPairs.{EventPairs}
 use Rattle.event_comparison.specs.Counted.{AreRefused, ArePairsCounted}
-use Rattle.assume_sequences.specs.Assumed.{IsAssumedBy}
-use Rattle.assume_sequences.specs.declared.premise.Premise.{Premise}
-use Rattle.assume_sequences.specs.Filled.{bit_of}
+use Rattle.assume_queries.specs.assume_sequences.Assumed.{IsAssumedBy}
+use Rattle.assume_queries.specs.declared.assume_sequences.premise.Premise.{Premise}
+use Rattle.assume_queries.specs.assume_sequences.Filled.{bit_of}
 use Rattle.assume_laws.specs.assume_shape.Shape.{assumption_of}
-use Rattle.event_under_verdicts.specs.event_under.Places.{IsLightAtNodes, IsOverAtNodes}
-use Rattle.event_under_verdicts.specs.event_shown_under.Findings.{FindingsFitUnder}
-use Rattle.event_under_verdicts.specs.Shown.{IsShownUnder}
+use Rattle.event_under.specs.Places.{IsLightAtNodes, IsOverAtNodes}
+use Rattle.event_under_form.specs.event_under_verdicts.event_shown_under.Findings.{FindingsFitUnder}
+use Rattle.event_under_form.specs.event_under_verdicts.Shown.{IsShownUnder}
 use Rattle.event_under_form.specs.Refusals.{refusal_of}
 use Rattle.event_under_form.specs.declared.error.EventUnderError.{EventUnderError}
 use Rattle.event_under_form.specs.declared.verdict.Shows.{Shows}

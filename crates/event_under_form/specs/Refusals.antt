@@ -1,8 +1,8 @@
 -- Why a comparison under an assumption is refused, by why its parts are.
 use Rattle.event_form.specs.declared.error.EventFormError.{EventFormError}
 use Rattle.event_form.specs.declared.error.EventFormError.TheVariants as form_error
-use Rattle.event_under_verdicts.specs.assume_queries.UnderError.{UnderError}
-use Rattle.event_under_verdicts.specs.assume_queries.UnderError.TheVariants as asked_error
+use Rattle.event_under_form.specs.event_under_verdicts.assume_queries.UnderError.{UnderError}
+use Rattle.event_under_form.specs.event_under_verdicts.assume_queries.UnderError.TheVariants as asked_error
 use Rattle.event_under_form.specs.declared.error.EventUnderError.{EventUnderError}
 use Rattle.event_under_form.specs.declared.error.EventUnderError.TheVariants as under_error
 

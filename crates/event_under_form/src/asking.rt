@@ -1,17 +1,17 @@
 //! What is asked of the pairs under an assumption.
 
 ghost use Rattle.std.specs.Prelude.{◌≡◌, length, Err, IfOk};
-ghost use Rattle.event_agreement.specs.pair_events.View.{side_of_both};
+ghost use Rattle.event_form.specs.event_agreement.pair_events.View.{side_of_both};
 ghost use Rattle.event_form.specs.Asked.{AreAsked};
-ghost use Rattle.assume_sequences.specs.Assumed.{CanBeAssumed};
-ghost use Rattle.event_under_verdicts.specs.assume_queries.UnderError.TheVariants as asked_error;
-ghost use Rattle.event_under_verdicts.specs.event_under.Places.{IsOverAtNodes};
+ghost use Rattle.assume_queries.specs.assume_sequences.Assumed.{CanBeAssumed};
+ghost use Rattle.event_under_form.specs.event_under_verdicts.assume_queries.UnderError.TheVariants as asked_error;
+ghost use Rattle.event_under.specs.Places.{IsOverAtNodes};
 ghost use Rattle.event_under_form.specs.Asked.{AreAskedAssumed};
 
-use assume_sequences::Premise;
-use event_agreement::pair_events::Events;
+use crate::event_witness_under::{EventQuestions, UnderError, ask_under};
+use assume_queries::assume_sequences::Premise;
 use event_findings::EventPairs;
-use event_witness_under::{EventQuestions, UnderError, ask_under};
+use event_form::event_agreement::pair_events::Events;
 use obligations::Obligation;
 use std::alloc::Global;
 

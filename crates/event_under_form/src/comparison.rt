@@ -1,14 +1,14 @@
 //! Comparing the pairs of two circuits in the event form under an assumption.
 
 ghost use Rattle.std.specs.Prelude.{◌≡◌, ◌≤◌, length, All, Err, IfOk, OnOk};
-ghost use Rattle.event_agreement.specs.pair_events.View.{IsWithinLimits};
+ghost use Rattle.event_form.specs.event_agreement.pair_events.View.{IsWithinLimits};
 ghost use Rattle.event_form.specs.Asked.{IsLater, IsPairOf};
 ghost use Rattle.event_form.specs.Counted.{left_starts, right_starts};
 ghost use Rattle.event_form.specs.Refused.{IsRefusedFor};
 ghost use Rattle.event_comparison.specs.Asked.{StayCounted};
 ghost use Rattle.event_findings.specs.Compared.{AreCompared};
-ghost use Rattle.event_findings.specs.Separated.{AreSeparated};
-ghost use Rattle.assume_sequences.specs.Assumed.{CanBeAssumed};
+ghost use Rattle.event_findings.specs.unshown_pairs.class_events.Separated.{AreSeparated};
+ghost use Rattle.assume_queries.specs.assume_sequences.Assumed.{CanBeAssumed};
 ghost use Rattle.event_under_form.specs.Asked.{CanShow};
 ghost use Rattle.event_under_form.specs.Formed.{AreFoundUnder, ArePairsLight, ArePairsOver, AreRefusedUnder, FindingsFitAssumed};
 ghost use Rattle.event_under_form.specs.declared.error.EventUnderError.TheVariants as under_error;
@@ -16,9 +16,9 @@ ghost use Rattle.event_under_form.specs.declared.error.EventUnderError.TheVarian
 use crate::asking::questions_of;
 use crate::error::EventUnderError;
 use crate::verdict::{Shows, show};
-use assume_sequences::Premise;
-use event_agreement::pair_events::Events;
+use assume_queries::assume_sequences::Premise;
 use event_findings::{Apart, EventFindings, EventPairs};
+use event_form::event_agreement::pair_events::Events;
 use event_form::{EventFormError, ask_pairs};
 use obligations::{Decided, decide_all, verdict_at};
 use sec_base::MAX_CONFLICTS;

@@ -1,7 +1,7 @@
 //! Why two circuits aren't compared under an assumption.
 
+use crate::event_witness_under::UnderError;
 use event_form::EventFormError;
-use event_witness_under::UnderError;
 use sec_base::Side;
 
 /// Why two circuits aren't compared in the event form under an assumption.

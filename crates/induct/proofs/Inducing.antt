@@ -4,7 +4,7 @@ use Rattle.std.specs.List.{AllZip}
 use Rattle.sec_base.specs.declared.basics.Orders.{Orders}
 use Rattle.sec_base.specs.declared.basics.Tag.{Tag}
 use Rattle.circuit_theory.specs.Interface.{shared_inputs, first_mismatch}
-use Rattle.reset_laws.specs.Reset.{AgreeFromReset}
+use Rattle.circuit_laws.specs.reset_laws.Reset.{AgreeFromReset}
 use Rattle.flat_net.specs.Comparable.{IsComparable}
 use Rattle.flat_net.specs.Sound.{IsSound}
 use Rattle.flat_net.specs.View.{NetView, circuit_of, ports_of}

@@ -14,7 +14,7 @@ use Rattle.flat_net.specs.declared.parts.Gate.{Gate}
 use Rattle.flat_net.specs.declared.parts.LatchAt.{LatchAt}
 use Rattle.flat_net.specs.View.{NetView, is_read, cover_of, circuit_of, ports_of}
 use Rattle.flat_net.proofs.Nets.{OfGate, OfLatch, equation_from}
-use Rattle.interface.proofs.Shared.{Contains-filter_in}
+use Rattle.sec_setup.proofs.ports.Shared.{Contains-filter_in}
 
 or_left : (x y : Bool) → x ≡ true → (x || y) ≡ true
 or_left true y e = refl

@@ -4,7 +4,7 @@ use Rattle.std.proofs.lemmas.Bool.{eq-eqb, ne_eqb}
 use Rattle.std.proofs.lemmas.List.{append-nil, get_or_append_left, get_or_push, get_or-take, length_push, length-take-le, take_more}
 use Rattle.std.proofs.lemmas.Option.{get_or_from_slice_get}
 use Rattle.sec_base.specs.declared.basics.Tag.{Tag}
-use Rattle.latch_blocks.specs.Blocks.{block_at, AreInOrder}
+use Rattle.block_refine.specs.latch_blocks.Blocks.{block_at, AreInOrder}
 use Rattle.induct.specs.Inductions.{tag_at, tags_from, AreMembers, IsPut}
 use Rattle.induct.proofs.Putting.{below_or_here, below_or_above, put_own, put_other, put_long, put_places}
 

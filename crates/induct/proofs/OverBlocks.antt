@@ -3,12 +3,12 @@ use Rattle.std.proofs.Common.{◌≡◌, ℕ, ◌+◌, ◌<◌, ◌≤◌, ◌^�
 use Rattle.std.specs.List.{All, AllZip}
 use Rattle.std.proofs.lemmas.List.Elements.{All-nil, All-cons, All-weaker}
 use Rattle.circuit_theory.specs.Joined.{Left, Right}
-use Rattle.reset_laws.specs.Reset.{AgreeFromReset}
+use Rattle.circuit_laws.specs.reset_laws.Reset.{AgreeFromReset}
 use Rattle.flat_net.specs.Comparable.{IsComparable}
 use Rattle.flat_net.specs.Sound.{IsSound}
 use Rattle.flat_net.specs.View.{NetView, circuit_of, ports_of}
 use Rattle.circuit_theory.specs.Interface.{shared_inputs}
-use Rattle.latch_blocks.specs.Signals.{net_weight}
+use Rattle.block_refine.specs.latch_blocks.Signals.{net_weight}
 use Rattle.block_refine.specs.declared.block_graph.nets.BlockNets.{BlockNets}
 use Rattle.block_refine.specs.declared.block_graph.graph.BlockGraph.{BlockGraph}
 use Rattle.block_refine.specs.block_graph.Graph.{AreReady, IsBlockGraph}

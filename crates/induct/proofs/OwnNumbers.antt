@@ -11,7 +11,7 @@ use Rattle.flat_net.specs.View.{NetView, ports_of}
 use Rattle.flat_net.specs.Sound.{IsSound}
 use Rattle.flat_net.proofs.CutNets.{length-filter-le}
 use Rattle.flat_net.proofs.Nets.{some_at}
-use Rattle.latch_blocks.specs.Signals.{net_weight}
+use Rattle.block_refine.specs.latch_blocks.Signals.{net_weight}
 use Rattle.block_refine.proofs.block_graph.Numbered.{light_few}
 use Rattle.induct.specs.Inductions.{AreOwnNumbers, AreLowered}
 

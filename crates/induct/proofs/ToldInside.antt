@@ -14,10 +14,10 @@ use Rattle.flat_net.specs.declared.parts.Driver.TheVariants as driver
 use Rattle.flat_net.specs.Sound.{IsSound}
 use Rattle.flat_net.specs.View.{circuit_of, ports_of}
 use Rattle.flat_net.proofs.Places.{All-at}
-use Rattle.interface.proofs.Paired.{place_named-from}
-use Rattle.interface.proofs.Shared.{are_matched}
-use Rattle.latch_blocks.specs.Blocks.{block_at}
-use Rattle.latch_blocks.specs.Signals.{variable_of, IsLeaf}
+use Rattle.sec_setup.proofs.ports.Paired.{place_named-from}
+use Rattle.sec_setup.proofs.ports.Shared.{are_matched}
+use Rattle.block_refine.specs.latch_blocks.Blocks.{block_at}
+use Rattle.block_refine.specs.latch_blocks.Signals.{variable_of, IsLeaf}
 use Rattle.block_refine.specs.declared.block_graph.nets.BlockNets.{BlockNets}
 use Rattle.block_refine.specs.declared.block_graph.graph.BlockGraph.{BlockGraph}
 use Rattle.block_refine.specs.block_graph.Graph.{IsBlockGraph}

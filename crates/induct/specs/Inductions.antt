@@ -8,8 +8,8 @@ use Rattle.sec_base.specs.declared.basics.Tag.{Tag}
 use Rattle.sec_base.specs.declared.basics.PairAnswer.TheVariants as told
 use Rattle.sec_base.specs.declared.limits.TheConstants.{MAX_WEIGHT}
 use Rattle.flat_net.specs.View.{NetView, ports_of}
-use Rattle.latch_blocks.specs.Blocks.{block_at}
-use Rattle.latch_blocks.specs.Signals.{net_weight}
+use Rattle.block_refine.specs.latch_blocks.Blocks.{block_at}
+use Rattle.block_refine.specs.latch_blocks.Signals.{net_weight}
 use Rattle.block_refine.specs.declared.block_graph.nets.BlockNets.{BlockNets}
 use Rattle.block_refine.specs.declared.block_graph.graph.BlockGraph.{BlockGraph}
 use Rattle.block_refine.specs.block_graph.Graph.{IsBlockGraph}

@@ -2,10 +2,10 @@
 
 ghost use Rattle.std.specs.Prelude.{◌≡◌, ◌≤◌, None, IfOk, IfErr};
 ghost use Rattle.circuit_theory.specs.Interface.{first_mismatch, AreOrders};
-ghost use Rattle.reset_laws.specs.Reset.{AgreeFromReset};
+ghost use Rattle.circuit_laws.specs.reset_laws.Reset.{AgreeFromReset};
 ghost use Rattle.flat_net.specs.Comparable.{IsComparable};
 ghost use Rattle.flat_net.specs.View.{circuit_of, ports_of};
-ghost use Rattle.latch_blocks.specs.Signals.{net_weight};
+ghost use Rattle.block_refine.specs.latch_blocks.Signals.{net_weight};
 ghost use Rattle.induct.specs.declared.induction.InductVerdict.TheVariants as verdict;
 ghost use Rattle.block_refine.specs.Refining.{AreCoarsest, IsSplitLimit};
 ghost use Rattle.induct.specs.Inductions.{AreOwnNumbers, IsOver, IsSplitLimitOf, IsInduction, IsRefusal};
@@ -15,13 +15,13 @@ use crate::members::{members, tag_at};
 use crate::numbers::own_numbers;
 use crate::verdict::judge;
 use block_refine::block_graph::{BlockGraph, BlockNets};
+use block_refine::latch_blocks::is_light;
 use flat_net::Net;
-use interface::inputs_beside;
-use latch_blocks::is_light;
 use pair_decide::Proof;
 use sec_base::{
     Bits, Ids, MAX_CONFLICTS, MAX_WEIGHT, NoMemory, Orders, PairAnswer, Seq, Side, Tag, Word,
 };
+use sec_setup::ports::inputs_beside;
 use std::alloc::Global;
 
 /// The latches of one block: A's before B's, each circuit's in its order.

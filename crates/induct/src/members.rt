@@ -1,7 +1,7 @@
 //! The blocks as lists of latches.
 
 ghost use Rattle.std.specs.Prelude.{◌≡◌, ◌+◌, ◌^◌, ◌<◌, ◌≤◌, length, map, IfOk, OnOk};
-ghost use Rattle.latch_blocks.specs.Blocks.{AreInOrder};
+ghost use Rattle.block_refine.specs.latch_blocks.Blocks.{AreInOrder};
 ghost use Rattle.induct.specs.Inductions.{tag_at, AreMembers, IsPut};
 
 use crate::induction::{Block, Blocks};

@@ -3,7 +3,7 @@
 ghost use Rattle.std.specs.Prelude.{◌≡◌, ◌+◌, ◌^◌, ◌<◌, ◌≤◌, length, IfOk};
 ghost use Rattle.circuit_theory.specs.Interface.{AreOrders};
 ghost use Rattle.flat_net.specs.View.{ports_of};
-ghost use Rattle.latch_blocks.specs.Signals.{net_weight};
+ghost use Rattle.block_refine.specs.latch_blocks.Signals.{net_weight};
 ghost use Rattle.induct.specs.Inductions.{AreOwnNumbers, AreLowered};
 
 use flat_net::Net;

@@ -8,8 +8,8 @@ use Rattle.blif_read.specs.declared.error.ReadKind.{ReadKind}
 use Rattle.blif_read.specs.declared.error.ReadKind.TheVariants as kind
 use Rattle.text_numbers.specs.declared.kinds.TextKind.{TextKind}
 use Rattle.text_numbers.specs.declared.kinds.TextKind.TheVariants as text_kind
-use Rattle.sim_report.specs.declared.refusal.Misfit.{Misfit}
-use Rattle.sim_report.specs.declared.refusal.Misfit.TheVariants as misfit
+use Rattle.circuit_report.specs.declared.sim_report.refusal.Misfit.{Misfit}
+use Rattle.circuit_report.specs.declared.sim_report.refusal.Misfit.TheVariants as misfit
 use Rattle.aiger_records.specs.declared.error.AigerKind.{AigerKind}
 use Rattle.aiger_records.specs.declared.error.AigerKind.TheVariants as aiger
 use Rattle.assume_laws.specs.declared.assume_shape.shape.ShapeFault.{ShapeFault}

@@ -2,7 +2,7 @@
 
 ghost use Rattle.std.specs.Prelude.{◌≡◌, ◌≢◌, ◌≤◌, [], ◌∷◌, Ok, IfOk, OnOk, option_to_list, ◌++◌};
 ghost use Rattle.std.specs.List.{filter_map};
-ghost use Rattle.sec_base.specs.Outside.{Rose};
+ghost use Rattle.sec_base.specs.base_shelves.Outside.{Rose};
 ghost use Rattle.outcome.specs.Report.{report_text};
 ghost use Rattle.job_base.specs.Lines.{finding_text, undecided_text, unrefuted_text, unsettled_text};
 ghost use Rattle.job_base.specs.Written.{status_of, generated_status, unrefuted_status, judgement_status, outcome_proofs, proofs_of, unrefuted_proofs, IsWritten};

@@ -4,11 +4,11 @@ use crate::status::Proofs;
 use aiger_records::AigerKind;
 use assume_laws::assume_shape::ShapeFault;
 use blif_read::ReadKind;
+use circuit_report::sim_report::Misfit;
 use cycle_sim::pair_runs::Differences;
 use elaborate::FlatError;
 use outcome::{Outcome, Proof, Settings};
 use sec_base::{Side, Text, Word, Words};
-use sim_report::Misfit;
 use text_numbers::TextKind;
 
 /// A file of a job, by what it is.

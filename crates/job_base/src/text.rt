@@ -9,9 +9,9 @@ use crate::finding::{File, LineFault, Refusal};
 use aiger_records::AigerKind;
 use assume_laws::assume_shape::ShapeFault;
 use blif_read::ReadKind;
+use circuit_report::sim_report::Misfit;
 use elaborate::FlatError;
 use sec_base::{NoMemory, Seq, Side, Text, Word, Words, put, put_names, put_number};
-use sim_report::Misfit;
 use std::alloc::Global;
 use text_numbers::TextKind;
 

@@ -1,6 +1,6 @@
 -- What the status of a certificate means.
 use Rattle.std.proofs.Common.{◌≡◌, ℕ, Bool, true, false, List, refl, sym, subst, Option}
-use Rattle.sec_base.specs.Outside.{Takes}
+use Rattle.sec_base.specs.base_shelves.Outside.{Takes}
 use Rattle.flat_net.specs.View.{NetView}
 use Rattle.proof_check.specs.Clauses.{Unsatisfiable}
 use Rattle.cnf_encode.specs.declared.cnf.Cnf.{Cnf}

@@ -4,3 +4,4 @@ pub mod Found
 pub mod Made
 pub mod pair_clauses
 pub mod sec_files
+pub mod job_lrat

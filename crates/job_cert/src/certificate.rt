@@ -1,7 +1,7 @@
 //! Certificates of two files.
 
 ghost use Rattle.std.specs.Prelude.{◌≡◌, ◌≤◌, ◌∷◌, [], ℕ, List, IsErrOf};
-ghost use Rattle.sec_base.specs.Outside.{Rose, SameHeld, NoneFell};
+ghost use Rattle.sec_base.specs.base_shelves.Outside.{Rose, SameHeld, NoneFell};
 ghost use Rattle.flat_net.specs.Comparable.{IsComparable};
 ghost use Rattle.job_cert.specs.Made.{wanted_of};
 ghost use Rattle.job_cert.specs.Ends.{compare_end, cert_end, CertFound, EndsBeside};

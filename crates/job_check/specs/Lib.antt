@@ -1,2 +1,3 @@
-pub use Rattle.check_found.specs.Found
-pub use Rattle.check_found.specs.Check
+pub mod compare_under
+pub use Rattle.check_meaning.specs.check_found.Found
+pub use Rattle.check_meaning.specs.check_found.Check

@@ -3,13 +3,13 @@
 ghost use Rattle.std.specs.Prelude.{◌≡◌, ◌≤◌, ℕ, List, true, false, option_map, Some, IsErrOf};
 ghost use Rattle.std.specs.List.{All};
 ghost use Rattle.circuit_theory.specs.declared.Mode.TheVariants.{Plain};
-ghost use Rattle.sec_base.specs.Outside.{SameHeld, NoneFell};
+ghost use Rattle.sec_base.specs.base_shelves.Outside.{SameHeld, NoneFell};
 ghost use Rattle.flat_net.specs.Comparable.{IsComparable};
-ghost use Rattle.check_found.specs.Check.{Check, all_paths, assumed_paths};
-ghost use Rattle.check_found.specs.Ends.{compare_end, EndsBeside, EndsBoth, FoundOf};
+ghost use Rattle.check_meaning.specs.check_found.Check.{Check, all_paths, assumed_paths};
+ghost use Rattle.check_meaning.specs.check_found.Ends.{compare_end, EndsBeside, EndsBoth, FoundOf};
 
 use crate::sec_check::{CompareError, Outcome, Settings, compare, compare_under};
-use check_found::{File, Finding, Refusal, Stop, load, load_end};
+use check_meaning::check_found::{File, Finding, Refusal, Stop, load, load_end};
 use flat_net::Net;
 use sec_base::{MAX_CONFLICTS, Shelf};
 use std::alloc::Global;

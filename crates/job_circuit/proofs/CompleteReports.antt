@@ -7,7 +7,7 @@ use Rattle.circuit_theory.specs.declared.Mode.{Mode}
 use Rattle.circuit_theory.specs.declared.Mode.TheVariants.{Plain, Event}
 use Rattle.circuit_theory.specs.declared.Side.TheVariants.{A, B}
 use Rattle.flat_net.specs.View.{NetView}
-use Rattle.sim_report.specs.Checks.{first_misfit}
+use Rattle.circuit_report.specs.sim_report.Checks.{first_misfit}
 use Rattle.pair_decide.specs.declared.query.Proof.{Proof}
 use Rattle.job_base.specs.declared.finding.File.TheVariants as file
 use Rattle.job_base.specs.declared.finding.LineFault.TheVariants as line_fault
@@ -18,8 +18,8 @@ use Rattle.job_base.specs.declared.finding.Finding.TheVariants as finding
 use Rattle.job_base.specs.declared.status.StatusName.TheVariants as status
 use Rattle.job_base.specs.Written.{status_of}
 use Rattle.latch_kinds.specs.declared.kinds.KindsError.TheVariants as kinds_error
-use Rattle.graph_report.specs.Jobs.{IsUnknown}
-use Rattle.graph_report.proofs.Ended.{large_or_light}
+use Rattle.circuit_report.specs.graph_report.Jobs.{IsUnknown}
+use Rattle.circuit_report.proofs.graph_report.Ended.{large_or_light}
 use Rattle.sec_files.specs.Loading.{IsAccepted, Loads, IsTooLong}
 use Rattle.sec_files.specs.Stimuli.{IsStimulus, HasBadHeader, HasBadRow}
 use Rattle.sec_files.proofs.Texts.{text_sound}

@@ -3,8 +3,8 @@ use Rattle.std.specs.Prelude.{IfSome}
 use Rattle.std.proofs.Common.{◌≡◌, ℕ, ◌≤◌, Bool, List, [], subst, Option, Result, Ok, Err}
 use Rattle.circuit_theory.specs.declared.Side.TheVariants.{A, B}
 use Rattle.circuit_theory.specs.declared.Mode.{Mode}
-use Rattle.sec_base.specs.FetchError.TheVariants as fetch_error
-use Rattle.sec_base.specs.Outside.{Rose}
+use Rattle.sec_base.specs.declared.base_shelves.whole_file.FetchError.TheVariants as fetch_error
+use Rattle.sec_base.specs.base_shelves.Outside.{Rose}
 use Rattle.witness_report.specs.declared.error.StimError.TheVariants as stim_error
 use Rattle.flat_net.specs.View.{NetView}
 use Rattle.blif_read.specs.declared.error.ReadError.TheVariants as read_error
@@ -19,9 +19,9 @@ use Rattle.job_base.specs.declared.finding.Finding.TheVariants as finding
 use Rattle.job_base.specs.Ends.{EndsBy}
 use Rattle.latch_kinds.specs.declared.kinds.KindsError.{KindsError}
 use Rattle.latch_kinds.specs.declared.kinds.KindsError.TheVariants as kinds_error
-use Rattle.graph_report.specs.declared.runs.SimulateError.{SimulateError}
-use Rattle.graph_report.specs.declared.runs.SimulateError.TheVariants as simulate_error
-use Rattle.graph_report.specs.Jobs.{Tells, Simulates}
+use Rattle.circuit_report.specs.declared.graph_report.runs.SimulateError.{SimulateError}
+use Rattle.circuit_report.specs.declared.graph_report.runs.SimulateError.TheVariants as simulate_error
+use Rattle.circuit_report.specs.graph_report.Jobs.{Tells, Simulates}
 use Rattle.sec_files.specs.declared.loader.LoadError.{LoadError}
 use Rattle.sec_files.specs.declared.loader.LoadError.TheVariants as load_error
 use Rattle.sec_files.specs.declared.stimuli.StimulusError.{StimulusError}

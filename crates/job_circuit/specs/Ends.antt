@@ -10,8 +10,8 @@ use Rattle.job_base.specs.declared.finding.Stop.{Stop}
 use Rattle.job_base.specs.declared.finding.Stop.TheVariants as stop
 use Rattle.latch_kinds.specs.declared.kinds.KindsError.{KindsError}
 use Rattle.latch_kinds.specs.declared.kinds.KindsError.TheVariants as kinds_error
-use Rattle.graph_report.specs.declared.runs.SimulateError.{SimulateError}
-use Rattle.graph_report.specs.declared.runs.SimulateError.TheVariants as simulate_error
+use Rattle.circuit_report.specs.declared.graph_report.runs.SimulateError.{SimulateError}
+use Rattle.circuit_report.specs.declared.graph_report.runs.SimulateError.TheVariants as simulate_error
 use Rattle.sec_files.specs.job_files.Reading.{Held, ReadFailed}
 use Rattle.job_circuit.specs.Reports.{graph_paths, sim_paths, IsGraphFound, IsSimFound}
 

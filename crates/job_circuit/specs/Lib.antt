@@ -1,2 +1,4 @@
 pub mod Ends
 pub mod Reports
+pub mod job_replay
+pub mod replay

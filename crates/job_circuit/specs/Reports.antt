@@ -3,12 +3,12 @@ use Rattle.std.specs.Prelude.{◌≡◌, ℕ, Bool, List, [], ◌∷◌, Option,
 use Rattle.circuit_theory.specs.declared.Mode.TheVariants.{Event}
 use Rattle.circuit_theory.specs.declared.Mode.{Mode}
 use Rattle.circuit_theory.specs.declared.Side.TheVariants.{A}
-use Rattle.sec_base.specs.Outside.{Takes}
+use Rattle.sec_base.specs.base_shelves.Outside.{Takes}
 use Rattle.flat_net.specs.View.{NetView}
-use Rattle.sim_report.specs.declared.refusal.Misfit.{Misfit}
-use Rattle.sim_report.specs.Checks.{first_misfit}
-use Rattle.sim_report.specs.Report.{IsSimReport}
-use Rattle.graph_report.specs.Report.{IsGraphReport}
+use Rattle.circuit_report.specs.declared.sim_report.refusal.Misfit.{Misfit}
+use Rattle.circuit_report.specs.sim_report.Checks.{first_misfit}
+use Rattle.circuit_report.specs.sim_report.Report.{IsSimReport}
+use Rattle.circuit_report.specs.graph_report.Report.{IsGraphReport}
 use Rattle.pair_decide.specs.declared.query.Proof.{Proof}
 use Rattle.job_base.specs.declared.status.StatusName.{StatusName}
 use Rattle.job_base.specs.declared.status.StatusName.TheVariants as status
@@ -22,7 +22,7 @@ use Rattle.job_base.specs.declared.finding.Finding.{Finding}
 use Rattle.job_base.specs.declared.finding.Finding.TheVariants as finding
 use Rattle.latch_kinds.specs.declared.kinds.KindsError.{KindsError}
 use Rattle.latch_kinds.specs.declared.kinds.KindsError.TheVariants as kinds_error
-use Rattle.graph_report.specs.Jobs.{AreLightIn, IsUnknown}
+use Rattle.circuit_report.specs.graph_report.Jobs.{AreLightIn, IsUnknown}
 use Rattle.sec_files.specs.Loading.{IsAccepted, Loads, IsTooLong, HasFault, HasDesignFault, HasRecordFault}
 use Rattle.sec_files.specs.Stimuli.{IsStimulus, HasBadHeader, HasBadRow}
 use Rattle.sec_files.specs.job_files.Reading.{IsLoaded}

@@ -1,6 +1,8 @@
-//! The jobs that report on one circuit: its latch graph, and its run over a stimulus.
+//! The jobs that report on circuits: the latch graph of one, its run over a stimulus, and the runs of two over one stimulus.
 #![tactic(auto)]
 
+pub mod job_replay;
+pub mod replay;
 mod reports;
 
 pub use reports::{Simulation, simulate, tell_graph};

@@ -1,11 +1,11 @@
 //! The jobs that report on one circuit.
 
 ghost use Rattle.std.specs.Prelude.{◌≡◌, ℕ, List, option_map, IsErrOf};
-ghost use Rattle.sec_base.specs.Outside.{SameHeld, NoneFell};
+ghost use Rattle.sec_base.specs.base_shelves.Outside.{SameHeld, NoneFell};
 ghost use Rattle.job_circuit.specs.Ends.{GraphFound, SimFound, graph_end, sim_end};
 
+use circuit_report::graph_report::{KindsError, SimulateError, simulate as run_circuit, tell};
 use circuit_theory::Mode;
-use graph_report::{KindsError, SimulateError, simulate as run_circuit, tell};
 use job_base::{File, Finding, Refusal, Stop};
 use sec_base::{Shelf, Side, Text};
 use sec_files::job_files::{load_end, stimulus_end};

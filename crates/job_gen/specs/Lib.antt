@@ -1,1 +1,2 @@
 pub mod gen_meaning
+pub mod pair_gen

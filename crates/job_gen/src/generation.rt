@@ -5,10 +5,10 @@ ghost use Rattle.plain_check.specs.Compared.{IsCompared};
 ghost use Rattle.job_gen.specs.gen_meaning.Found.{AreTwins, GenFound, settings_of};
 
 use crate::gen_meaning::{Generation, summary};
+use crate::pair_gen::{Twins, generate};
 use circuit_theory::Mode;
 use job_base::{Finding, Stop};
 use outcome::{Outcome, Settings};
-use pair_gen::{Twins, generate};
 use plain_check::{CompareError, compare_plainly};
 use sec_base::NoMemory;
 use std::alloc::Global;

@@ -2,7 +2,7 @@
 use Rattle.std.specs.Prelude.{IsErrAnd}
 use Rattle.std.proofs.Common.{◌≡◌, ℕ, sym, subst, None, Result, Ok, Err}
 use Rattle.circuit_theory.specs.Interface.{first_mismatch}
-use Rattle.reset_laws.specs.Reset.{AgreeFromReset}
+use Rattle.circuit_laws.specs.reset_laws.Reset.{AgreeFromReset}
 use Rattle.flat_net.specs.Sound.{IsSound}
 use Rattle.flat_net.specs.View.{NetView, circuit_of, ports_of}
 use Rattle.sec_setup.specs.declared.error.SetupError.{SetupError}

@@ -1,7 +1,7 @@
 //! Two files compared by blocks of latches.
 
 ghost use Rattle.std.specs.Prelude.{◌≡◌, ◌≤◌, ◌∷◌, [], ℕ, List, IsErrOf};
-ghost use Rattle.sec_base.specs.Outside.{Rose, SameHeld, NoneFell};
+ghost use Rattle.sec_base.specs.base_shelves.Outside.{Rose, SameHeld, NoneFell};
 ghost use Rattle.flat_net.specs.Comparable.{IsComparable};
 ghost use Rattle.job_induct.specs.Ends.{InductFound, EndsBeside};
 

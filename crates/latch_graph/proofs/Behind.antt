@@ -16,7 +16,7 @@ use Rattle.signal_graph.specs.declared.nodes.Node.{Node}
 use Rattle.latch_graph.specs.declared.states.State.{State}
 use Rattle.latch_graph.specs.declared.states.State.TheVariants.{New, Endless, Removed}
 use Rattle.signal_graph.specs.Graph.{GraphView, IsGraphOf, AreNodes}
-use Rattle.signal_graph.specs.Cones.{IsMarkedBy}
+use Rattle.signal_graph.specs.inner_cone.latch_cone.Cones.{IsMarkedBy}
 use Rattle.latch_graph.specs.Settling.{ReadsEndless, IsTable, SameRemoved}
 use Rattle.latch_graph.specs.Rounds.{latch_in, IsEndless, TakesOver, AreRemoved}
 use Rattle.signal_graph.proofs.Lists.{set_same, set_other, set_cases}

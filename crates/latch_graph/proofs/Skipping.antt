@@ -11,7 +11,7 @@ use Rattle.std.proofs.lemmas.Option.{slice_get_within}
 use Rattle.signal_graph.proofs.flat_net.Nets.{OfGate, OfLatch, equation_from, some_at}
 use Rattle.circuit_theory.specs.Depth.{LatchReads, LatchPath, LatchChain, ChainFrom, HasCycle, IsCycle, IsDepth, HasNoDepth}
 use Rattle.signal_graph.specs.Graph.{GraphView, IsGraphOf, IsGraphIn, IsPlainGraphOf, SkippedBy}
-use Rattle.signal_graph.specs.Cones.{MarksEnabled}
+use Rattle.signal_graph.specs.inner_cone.latch_cone.Cones.{MarksEnabled}
 
 -- what is left out by the second is left out by the first, where it is a latch
 pub record IsLessLeftOut {P : Type 0} (c : Circuit P) (more less : P → Type 0) : Type 0 where

@@ -21,7 +21,7 @@ use Rattle.signal_graph.specs.declared.nodes.Node.{Node}
 use Rattle.latch_graph.specs.declared.states.State.{State}
 use Rattle.latch_graph.specs.declared.states.State.TheVariants.{New, Open, Known, Endless, Removed}
 use Rattle.signal_graph.specs.Graph.{GraphView, IsGraphOf, marked_names, signals_at, step_of}
-use Rattle.signal_graph.specs.Cones.{IsMarkedBy}
+use Rattle.signal_graph.specs.inner_cone.latch_cone.Cones.{IsMarkedBy}
 use Rattle.latch_graph.specs.Settling.{HasDepth, IsDepthOf, IsSettled, depth_of}
 use Rattle.latch_graph.specs.Rounds.{latch_in, IsEndless, TakesOver, StandsBack, IsTurnedRound}
 use Rattle.latch_graph.proofs.Tables.{one_depth}

@@ -11,7 +11,7 @@ use Rattle.signal_graph.specs.declared.nodes.Node.{Node}
 use Rattle.latch_graph.specs.declared.states.State.{State}
 use Rattle.latch_graph.specs.declared.states.State.TheVariants.{New, Endless, Removed}
 use Rattle.signal_graph.specs.Graph.{IsGraphOf}
-use Rattle.signal_graph.specs.Cones.{IsMarkedBy}
+use Rattle.signal_graph.specs.inner_cone.latch_cone.Cones.{IsMarkedBy}
 
 abbrev pub latch_in : List LatchAt → ℕ → LatchAt
 latch_in latches j = slice_index_or latches j no_latch

@@ -4,7 +4,7 @@ ghost use Rattle.std.specs.Prelude.{◌≡◌, ℕ, ◌<◌, length, map, slice_
 ghost use Rattle.circuit_theory.specs.Depth.{IsDepth, HasNoDepth, HasCycle, IsCycle, BeginsWithLeast};
 ghost use Rattle.circuit_theory.specs.declared.Mode.{Mode};
 ghost use Rattle.circuit_theory.specs.declared.Mode.TheVariants.{Plain};
-ghost use Rattle.signal_graph.specs.Cones.{MarksEnabled};
+ghost use Rattle.signal_graph.specs.inner_cone.latch_cone.Cones.{MarksEnabled};
 ghost use Rattle.signal_graph.specs.flat_net.View.{NetView, circuit_of};
 ghost use Rattle.signal_graph.specs.Graph.{AreNodes, IsGraphOf, IsGraphIn, SkippedBy, marked_names, signals_at};
 ghost use Rattle.latch_graph.specs.Settling.{IsSettled};

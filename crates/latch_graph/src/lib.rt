@@ -1,7 +1,9 @@
-//! The latch graph of a flat circuit: sequential depth, cycles, and the weight of its unfolding.
+//! The latch graph of a flat circuit: sequential depth, cycles, and the weight of its unfolding; and a minimal cut among pairs of latches
+//! of two such graphs.
 #![tactic(auto)]
 
 mod graph;
+pub mod minimal_cut;
 mod rounds;
 mod states;
 

@@ -10,7 +10,7 @@ ghost use Rattle.signal_graph.specs.flat_net.View.{NetView, circuit_of};
 ghost use Rattle.signal_graph.specs.declared.nodes.Node.{Node};
 ghost use Rattle.latch_graph.specs.declared.states.State.{State};
 ghost use Rattle.signal_graph.specs.Graph.{AreNodes, IsGraphOf, marked_names, signals_at};
-ghost use Rattle.signal_graph.specs.Cones.{IsMarkedBy};
+ghost use Rattle.signal_graph.specs.inner_cone.latch_cone.Cones.{IsMarkedBy};
 ghost use Rattle.latch_graph.specs.Settling.{IsSettled};
 ghost use Rattle.latch_graph.specs.Rounds.{latch_in, IsEndless, TakesOver, IsRound, IsLeast, IsTurned, IsTurnedRound, AreRemoved};
 

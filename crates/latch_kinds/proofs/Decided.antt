@@ -10,9 +10,9 @@ use Rattle.flat_net.specs.View.{NetView, circuit_of}
 use Rattle.flat_net.specs.Sound.{IsSound}
 use Rattle.flat_net.proofs.Growth.{slice_get-push_cases}
 use Rattle.flat_net.proofs.Nets.{some_at, latch_stands, sound_is_net}
-use Rattle.inner_cone.specs.declared.latch_cone.kinds.LatchKind.{LatchKind}
-use Rattle.inner_cone.specs.declared.latch_cone.kinds.LatchKind.TheVariants as kind
-use Rattle.inner_cone.specs.latch_cone.Kinds.{IsInOwnCone, IsKindIn, AreKindsIn}
+use Rattle.signal_graph.specs.declared.inner_cone.latch_cone.kinds.LatchKind.{LatchKind}
+use Rattle.signal_graph.specs.declared.inner_cone.latch_cone.kinds.LatchKind.TheVariants as kind
+use Rattle.signal_graph.specs.inner_cone.latch_cone.Kinds.{IsInOwnCone, IsKindIn, AreKindsIn}
 use Rattle.latch_kinds.specs.unate_enable.Recovery.{HasSelfEdge, IsLight}
 use Rattle.latch_kinds.specs.declared.kinds.KindsError.{KindsError}
 use Rattle.latch_kinds.specs.declared.kinds.KindsError.TheVariants as refused

@@ -5,9 +5,9 @@ use Rattle.circuit_theory.specs.declared.Mode.{Mode}
 use Rattle.circuit_theory.specs.declared.Mode.TheVariants.{Plain, Event}
 use Rattle.flat_net.specs.Cut.{latch_at}
 use Rattle.flat_net.specs.View.{NetView, circuit_of}
-use Rattle.inner_cone.specs.declared.latch_cone.kinds.LatchKind.{LatchKind}
-use Rattle.inner_cone.specs.declared.latch_cone.kinds.LatchKind.TheVariants as kind
-use Rattle.inner_cone.specs.latch_cone.Kinds.{AreKindsIn}
+use Rattle.signal_graph.specs.declared.inner_cone.latch_cone.kinds.LatchKind.{LatchKind}
+use Rattle.signal_graph.specs.declared.inner_cone.latch_cone.kinds.LatchKind.TheVariants as kind
+use Rattle.signal_graph.specs.inner_cone.latch_cone.Kinds.{AreKindsIn}
 use Rattle.latch_kinds.specs.unate_enable.pair_decide.Proof.{Proof}
 use Rattle.latch_kinds.specs.unate_enable.Cones.{out_of_latch}
 use Rattle.latch_kinds.specs.unate_enable.Recovery.{HasSelfEdge, IsAsked, IsEnabledAt, IsUndecided, IsLight, IsTooLarge}

@@ -3,15 +3,15 @@
 ghost use Rattle.std.specs.Prelude.{◌≡◌, ◌<◌, ◌≤◌, length, IfOk};
 ghost use Rattle.flat_net.specs.Cut.{latch_at};
 ghost use Rattle.circuit_theory.specs.declared.Mode.TheVariants.{Plain};
-ghost use Rattle.inner_cone.specs.latch_cone.Kinds.{AreKindsIn};
+ghost use Rattle.signal_graph.specs.inner_cone.latch_cone.Kinds.{AreKindsIn};
 ghost use Rattle.latch_kinds.specs.unate_enable.Recovery.{AreFactsOf};
 ghost use Rattle.latch_kinds.specs.Found.{FoundAt, FoundIn, AreFound};
 
 use crate::unate_enable::{NetFacts, Proof, RecoverError, Recovery, facts_of, recover_by};
 use circuit_theory::Mode;
 use flat_net::Net;
-use inner_cone::latch_cone::{LatchKind, all_plain};
 use sec_base::{MAX_CONFLICTS, NoMemory, Seq, Word};
+use signal_graph::inner_cone::latch_cone::{LatchKind, all_plain};
 use std::alloc::Global;
 
 /// What each latch is, in the net's order of latches.

@@ -3,3 +3,4 @@ pub mod Built
 pub mod Shown
 pub mod Order
 pub mod Searched
+pub mod net_alike

@@ -11,8 +11,8 @@ use Rattle.sec_run.specs.check_meaning.Answer.{IsAnswer}
 use Rattle.sec_run.specs.Answer.{EndsAs, IsFinding}
 use Rattle.job_base.specs.Written.{status_of}
 use Rattle.sec_run.specs.Promises.{IsComplete}
-use Rattle.one_text.specs.Itself.{IsEqualAnswer, OfCheck}
-use Rattle.one_text.proofs.Itself.{CanMeetItself, check_answered, check_equal}
+use Rattle.one_text_runs.specs.one_text.Itself.{IsEqualAnswer, OfCheck}
+use Rattle.one_text_runs.proofs.one_text.Itself.{CanMeetItself, check_answered, check_equal}
 
 job_equal : (held : Held) (job : Option Task) (f : Finding) → OfCheck job (CanMeetItself held) → IsFinding held job f → IsAnswer (status_of f) → IsEqualAnswer (status_of f)
 job_equal held None f can found is = absurd can

@@ -1,16 +1,18 @@
 //! What follows from the contract of a run: of one that compares a text with itself, and of a second one over the same shelf.
 #![tactic(auto)]
 
+pub mod one_text;
+
 ghost use Rattle.std.specs.Prelude.{◌≢◌, IfOk, map, string_bytes};
 ghost use Rattle.std.specs.List.{All};
 ghost use Rattle.command_line.specs.Jobs.{job_of};
-ghost use Rattle.one_text.specs.check_texts.Texts.{AreComparable};
+ghost use Rattle.one_text_runs.specs.one_text.check_texts.Texts.{AreComparable};
 ghost use Rattle.job_base.specs.declared.finding.Finding.{Finding};
 ghost use Rattle.job_base.specs.Lines.{finding_text};
 ghost use Rattle.sec_run.specs.Job.{paths_in};
 ghost use Rattle.sec_run.specs.Answer.{IsFinding};
 ghost use Rattle.sec_run.specs.Promises.{IsComplete};
-ghost use Rattle.one_text.specs.Itself.{OfCheck, OfOneText, IsEqualAnswer};
+ghost use Rattle.one_text_runs.specs.one_text.Itself.{OfCheck, OfOneText, IsEqualAnswer};
 
 use circuit_theory::Mode;
 use command_line::Task;

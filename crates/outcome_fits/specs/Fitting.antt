@@ -8,7 +8,7 @@ use Rattle.sec_setup.specs.sec_base.TheConstants.{MAX_WEIGHT}
 use Rattle.sec_setup.specs.flat_net.View.{NetView, circuit_of, ports_of}
 use Rattle.obligations.specs.outcome.Outcome.{Outcome}
 use Rattle.sec_setup.specs.Cuts.{IsChoice, AreCutAt, columns_of, is_cut}
-use Rattle.sec_setup.specs.Pairs.{outputs_of, named_pairs}
+use Rattle.sec_setup.specs.ports.Pairs.{outputs_of, named_pairs}
 use Rattle.outcome_fits.specs.Outcome.{PairsFit, VerdictFits, greatest_size}
 
 -- the unfoldings of all outputs weigh at most 2,000,000 together

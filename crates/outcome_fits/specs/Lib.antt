@@ -5,6 +5,6 @@ pub mod ResetLimits
 pub mod ResetOutcome
 pub mod plain_meaning
 pub use Rattle.sec_setup.specs.Cuts
-pub use Rattle.sec_setup.specs.Pairs
+pub use Rattle.sec_setup.specs.ports.Pairs
 pub use Rattle.obligations.specs.declared.obligation.Difference
 pub use Rattle.obligations.specs.declared.obligation.Obligation

@@ -15,7 +15,7 @@ use Rattle.obligations.specs.outcome.Verdict.TheVariants as verdict
 use Rattle.obligations.specs.outcome.Why.TheVariants as why
 use Rattle.obligations.specs.outcome.LimitAt.{LimitAt}
 use Rattle.obligations.specs.outcome.LimitAt.TheVariants as limit_at
-use Rattle.sec_setup.specs.Pairs.{NamedPair}
+use Rattle.sec_setup.specs.ports.Pairs.{NamedPair}
 pub use Rattle.obligations.specs.Decided.{NoneIs}
 pub use Rattle.obligations.specs.Verdict.{greatest_size}
 use Rattle.outcome_fits.specs.Limits.{IsUndecided}

@@ -4,7 +4,7 @@ use Rattle.std.specs.List.{Contains}
 use Rattle.circuit_theory.specs.Circuit.{Circuit}
 use Rattle.circuit_theory.specs.Tree.{Tree, tree_value}
 use Rattle.circuit_theory.specs.Query.{Variable, AreVariables}
-use Rattle.reset_laws.specs.Reset.{ResetUnfolds, CycleBefore}
+use Rattle.circuit_laws.specs.reset_laws.Reset.{ResetUnfolds, CycleBefore}
 use Rattle.base_tables.specs.Table.{AreDistinct}
 use Rattle.obligations.specs.aig.Node.{Node}
 use Rattle.obligations.specs.aig.Node.TheVariants.{Input}

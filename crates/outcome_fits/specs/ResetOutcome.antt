@@ -4,13 +4,13 @@ use Rattle.circuit_theory.specs.Circuit.{Circuit}
 use Rattle.circuit_theory.specs.Fits.{IsPairDepth}
 use Rattle.circuit_theory.specs.Query.{Distinguishes, pair_query}
 use Rattle.circuit_theory.specs.Tree.{Tree}
-use Rattle.reset_laws.specs.Reset.{ResetUnfolds, HaveEqualResets, IsResetWitness}
+use Rattle.circuit_laws.specs.reset_laws.Reset.{ResetUnfolds, HaveEqualResets, IsResetWitness}
 use Rattle.sec_setup.specs.sec_base.PairAnswer.{PairAnswer}
 use Rattle.sec_setup.specs.sec_base.PairAnswer.TheVariants as answer
 use Rattle.obligations.specs.outcome.Proof.{Proof}
 use Rattle.obligations.specs.outcome.PairResult.{PairResult}
 use Rattle.sec_setup.specs.witness_report.PairName.{PairName}
-use Rattle.sec_setup.specs.Pairs.{NamedPair}
+use Rattle.sec_setup.specs.ports.Pairs.{NamedPair}
 pub use Rattle.obligations.specs.Decided.{NoneIs}
 pub use Rattle.obligations.specs.Verdict.{greatest_size}
 use Rattle.outcome_fits.specs.ResetLimits.{IsUndecidedAt}

@@ -20,7 +20,7 @@ use Rattle.unfold_places.specs.Reach.{Adds}
 use Rattle.cbf_unfold.specs.Unfolded.{IsLiteralOf, Fits}
 use Rattle.cbf_unfold.specs.View.{UnfolderView}
 use Rattle.cbf_unfold.proofs.Known.{literal_later, unfolded_later}
-use Rattle.interface.specs.declared.pairs.SignalPair.{SignalPair}
+use Rattle.sec_setup.specs.declared.ports.pairs.SignalPair.{SignalPair}
 use Rattle.plain_asked.specs.declared.apart.Chosen.{Chosen}
 use Rattle.plain_asked.specs.declared.apart.PairFunctions.{PairFunctions}
 use Rattle.plain_asked.specs.declared.error.PlainError.{PlainError}

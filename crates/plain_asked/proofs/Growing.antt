@@ -19,7 +19,7 @@ use Rattle.cbf_unfold.proofs.Known.{unfolded_later}
 use Rattle.circuit_theory.specs.declared.Side.TheVariants.{A, B}
 use Rattle.plain_asked.specs.declared.error.PlainError.{PlainError}
 use Rattle.plain_asked.specs.declared.error.PlainError.TheVariants as refused
-use Rattle.interface.specs.declared.pairs.SignalPair.{SignalPair}
+use Rattle.sec_setup.specs.declared.ports.pairs.SignalPair.{SignalPair}
 use Rattle.plain_asked.specs.Pairs.{IsFunctionOf, AreLight, AreTooLarge, IsRefusalOf, Unfolds, left_signals, right_signals}
 
 -- what is pushed of the next element

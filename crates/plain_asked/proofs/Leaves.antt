@@ -7,7 +7,7 @@ use Rattle.circuit_theory.specs.Query.{Variable, HasLeaf, HasLeafIn}
 use Rattle.circuit_theory.specs.Sizes.{Visits}
 use Rattle.circuit_laws.proofs.LeafVisits.{leaf_visits, leaf_says, leaf_in_says}
 use Rattle.flat_net.specs.View.{NetView, circuit_of}
-use Rattle.sec_setup.specs.Pairs.{outputs_of}
+use Rattle.sec_setup.specs.ports.Pairs.{outputs_of}
 use Rattle.sec_setup.specs.Setup.{AreColumns}
 use Rattle.sec_setup.proofs.ReadInputs.{visited_is_column}
 

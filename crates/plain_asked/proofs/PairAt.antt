@@ -8,9 +8,9 @@ use Rattle.flat_net.specs.declared.parts.Port.{Port}
 use Rattle.flat_net.specs.View.{NetView}
 use Rattle.flat_net.specs.Sound.{IsSound}
 use Rattle.unfold_places.specs.declared.signal_function.Unfolded.{Unfolded}
-use Rattle.interface.specs.declared.pairs.SignalPair.{SignalPair}
+use Rattle.sec_setup.specs.declared.ports.pairs.SignalPair.{SignalPair}
 use Rattle.plain_asked.specs.declared.functions.Functions.{Functions}
-use Rattle.sec_setup.specs.Pairs.{outputs_of, ArePairsOf}
+use Rattle.sec_setup.specs.ports.Pairs.{outputs_of, ArePairsOf}
 use Rattle.plain_asked.specs.Pairs.{IsFunctionOf, AreFunctions}
 use Rattle.plain_asked.specs.Variables.{AreInOrder}
 use Rattle.plain_asked.proofs.PairQueries.{in_order}

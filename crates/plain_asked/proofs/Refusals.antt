@@ -10,10 +10,10 @@ use Rattle.cbf_unfold.specs.View.{IsOrderOf}
 use Rattle.sec_setup.specs.declared.setup.Setup.{Setup}
 use Rattle.plain_asked.specs.declared.error.PlainError.{PlainError}
 use Rattle.plain_asked.specs.declared.error.PlainError.TheVariants as refused
-use Rattle.interface.specs.declared.pairs.SignalPair.{SignalPair}
+use Rattle.sec_setup.specs.declared.ports.pairs.SignalPair.{SignalPair}
 use Rattle.outcome_fits.specs.Fitting.{IsLight}
 use Rattle.plain_asked.specs.Formed.{Formed}
-use Rattle.sec_setup.specs.Pairs.{outputs_of, ArePairsOf}
+use Rattle.sec_setup.specs.ports.Pairs.{outputs_of, ArePairsOf}
 use Rattle.sec_setup.specs.Setup.{AreColumns}
 use Rattle.plain_asked.specs.Pairs.{AreLight, AreTooLarge, Unfolds, left_signals, right_signals}
 use Rattle.shift_variables.proofs.Assignments.{once_each}

@@ -20,7 +20,7 @@ use Rattle.pair_decide.specs.declared.query.Query.{Query}
 use Rattle.pair_decide.specs.Answers.{IsDifference}
 use Rattle.witness_report.specs.declared.witness.PairName.{PairName}
 use Rattle.witness_report.specs.declared.witness.Witness.{Witness}
-use Rattle.sec_setup.specs.Pairs.{outputs_of}
+use Rattle.sec_setup.specs.ports.Pairs.{outputs_of}
 use Rattle.sec_setup.specs.Setup.{AreColumns}
 use Rattle.plain_asked.specs.Sequences.{bits_at, IsSequence, IsWitnessOf}
 use Rattle.plain_asked.specs.Variables.{variable_of, variables_of}

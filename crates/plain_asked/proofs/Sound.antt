@@ -6,9 +6,9 @@ use Rattle.base_tables.specs.Table.{AreDistinct}
 use Rattle.flat_net.specs.Sound.{IsSound}
 use Rattle.aig.specs.Graph.{IsGraph}
 use Rattle.aig.specs.Builds.{HasTreeValues}
-use Rattle.interface.specs.declared.pairs.SignalPair.{SignalPair}
+use Rattle.sec_setup.specs.declared.ports.pairs.SignalPair.{SignalPair}
 use Rattle.sec_setup.specs.declared.setup.Setup.{Setup}
-use Rattle.sec_setup.specs.Pairs.{outputs_of}
+use Rattle.sec_setup.specs.ports.Pairs.{outputs_of}
 use Rattle.sec_setup.specs.Setup.{IsSetup}
 use Rattle.plain_asked.specs.declared.functions.Functions.{Functions}
 

@@ -9,7 +9,7 @@ use Rattle.aig.specs.declared.node.Node.{Node}
 use Rattle.unfold_places.specs.declared.signal_function.Unfolded.{Unfolded}
 use Rattle.cbf_unfold.specs.Unfolded.{IsLiteralOf, Fits}
 use Rattle.cbf_unfold.specs.View.{UnfolderView}
-use Rattle.interface.specs.declared.pairs.SignalPair.{SignalPair}
+use Rattle.sec_setup.specs.declared.ports.pairs.SignalPair.{SignalPair}
 use Rattle.sec_setup.specs.declared.setup.Setup.{Setup}
 use Rattle.plain_asked.specs.declared.apart.Chosen.{Chosen}
 use Rattle.plain_asked.specs.declared.apart.PairFunctions.{PairFunctions}

@@ -6,7 +6,7 @@ use Rattle.flat_net.specs.View.{NetView, circuit_of}
 use Rattle.unfold_places.specs.declared.signal_function.Unfolded.{Unfolded}
 use Rattle.pair_decide.specs.declared.query.Query.{Query}
 use Rattle.outcome_fits.specs.Obligation.{Obligation}
-use Rattle.interface.specs.declared.pairs.SignalPair.{SignalPair}
+use Rattle.sec_setup.specs.declared.ports.pairs.SignalPair.{SignalPair}
 use Rattle.sec_setup.specs.declared.setup.Setup.{Setup}
 use Rattle.sec_setup.specs.Cuts.{is_cut}
 use Rattle.plain_asked.specs.declared.functions.Functions.{Functions}

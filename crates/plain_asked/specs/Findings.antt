@@ -1,7 +1,7 @@
 -- What it means that what is found of some pairs fits two circuits.
 use Rattle.std.specs.Prelude.{◌≡◌, ℕ, Bool, List}
 use Rattle.circuit_theory.specs.Circuit.{Circuit}
-use Rattle.sec_setup.specs.Pairs.{NamedPair}
+use Rattle.sec_setup.specs.ports.Pairs.{NamedPair}
 use Rattle.outcome_fits.specs.Outcome.{PairsFit, VerdictFits, greatest_size}
 use Rattle.plain_asked.specs.declared.findings.Findings.{Findings}
 

@@ -4,7 +4,7 @@ use Rattle.circuit_theory.specs.declared.Side.TheVariants.{A, B}
 use Rattle.flat_net.specs.View.{circuit_of}
 use Rattle.sec_setup.specs.declared.setup.Setup.{Setup}
 use Rattle.sec_setup.specs.Cuts.{is_cut}
-use Rattle.sec_setup.specs.Pairs.{places_of}
+use Rattle.sec_setup.specs.ports.Pairs.{places_of}
 use Rattle.outcome_fits.specs.Fitting.{IsLight, IsTooLarge}
 use Rattle.plain_asked.specs.declared.findings.Findings.{Findings}
 use Rattle.plain_asked.specs.declared.error.PlainError.{PlainError}

@@ -12,7 +12,7 @@ use Rattle.unfold_places.specs.declared.signal_function.Unfolded.{Unfolded}
 use Rattle.cbf_unfold.specs.Unfolded.{IsUnfolded}
 use Rattle.plain_asked.specs.declared.error.PlainError.{PlainError}
 use Rattle.plain_asked.specs.declared.error.PlainError.TheVariants as refused
-use Rattle.interface.specs.declared.pairs.SignalPair.{SignalPair}
+use Rattle.sec_setup.specs.declared.ports.pairs.SignalPair.{SignalPair}
 use Rattle.sec_setup.specs.declared.setup.Setup.{Setup}
 use Rattle.plain_asked.specs.declared.functions.Functions.{Functions}
 

@@ -1,7 +1,7 @@
 //! What the plain form asks of each pair.
 
 ghost use Rattle.std.specs.Prelude.{◌≡◌, ◌<◌, length, slice_get, Some, IfOk, IfSome};
-ghost use Rattle.interface.specs.declared.pairs.SignalPair.{SignalPair};
+ghost use Rattle.sec_setup.specs.declared.ports.pairs.SignalPair.{SignalPair};
 ghost use Rattle.sec_setup.specs.Setup.{IsSetup};
 ghost use Rattle.plain_asked.specs.Apart.{HaveFunctionsApart};
 ghost use Rattle.plain_asked.specs.Asked.{AreAsked, AreAskedApart, AreAskedAt, AskedApart, AskedOf, AsksWith, IsOnlyQuery, StandAt};

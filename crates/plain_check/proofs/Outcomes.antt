@@ -13,7 +13,7 @@ use Rattle.sec_setup.specs.declared.setup.Setup.{Setup}
 use Rattle.sec_setup.specs.Choosing.{IsChosen}
 use Rattle.sec_setup.specs.Cuts.{columns_of, is_cut}
 use Rattle.sec_setup.specs.Matching.{InterfacesMatch}
-use Rattle.sec_setup.specs.Pairs.{NamedPair, named_pairs}
+use Rattle.sec_setup.specs.ports.Pairs.{NamedPair, named_pairs}
 use Rattle.sec_setup.specs.Setup.{IsSetupOf}
 use Rattle.plain_asked.specs.declared.findings.Findings.{Findings}
 use Rattle.plain_asked.specs.declared.error.PlainError.TheVariants as plain_error

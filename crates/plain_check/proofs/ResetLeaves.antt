@@ -9,8 +9,8 @@ use Rattle.circuit_theory.specs.Interface.{AreNumbersOf}
 use Rattle.circuit_theory.specs.Run.{IsRun, IsResetRun}
 use Rattle.circuit_theory.specs.Tree.{Tree, Trees, tree_value, tree_values, IsInputNumber}
 use Rattle.circuit_theory.specs.Query.{HasLeaf, HasLeafIn}
-use Rattle.reset_laws.specs.Reset.{ResetUnfolds, ResetUnfoldsAll, IsFree, HasStarts, TakesPower, power_of, powers, reset_rows}
-use Rattle.reset_laws.proofs.ResetWindows.{powers_at, start_none, powered_is_reset}
+use Rattle.circuit_laws.specs.reset_laws.Reset.{ResetUnfolds, ResetUnfoldsAll, IsFree, HasStarts, TakesPower, power_of, powers, reset_rows}
+use Rattle.circuit_laws.proofs.reset_laws.ResetWindows.{powers_at, start_none, powered_is_reset}
 use Rattle.witness_report.specs.declared.witness.Witness.{Witness}
 use Rattle.witness_report.specs.Shown.{Obeys}
 use Rattle.under_base.proofs.compare_base.Sequences.{printed}

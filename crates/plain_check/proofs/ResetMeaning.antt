@@ -24,11 +24,11 @@ use Rattle.outcome.specs.declared.verdict.ResetWitness.{ResetWitness}
 use Rattle.outcome.specs.declared.verdict.Verdict.{Verdict}
 use Rattle.outcome.specs.declared.verdict.Verdict.TheVariants as verdict
 use Rattle.outcome.specs.declared.verdict.Outcome.{Outcome}
-use Rattle.reset_laws.specs.Reset.{HasStarts, AreEqualFromReset, AgreeFromReset, AreAlikeFromReset, TakesPower, MakesDifferFromReset}
-use Rattle.reset_laws.proofs.ResetAgreement.{equal_resets_agree, reset_same_at}
-use Rattle.reset_laws.proofs.ResetWindows.{reset_witness_makes_differ}
-use Rattle.reset_laws.proofs.reset_nets.Starts.{nets_have_starts}
-use Rattle.sec_setup.specs.Pairs.{NamedPair, named_pairs}
+use Rattle.circuit_laws.specs.reset_laws.Reset.{HasStarts, AreEqualFromReset, AgreeFromReset, AreAlikeFromReset, TakesPower, MakesDifferFromReset}
+use Rattle.circuit_laws.proofs.reset_laws.ResetAgreement.{equal_resets_agree, reset_same_at}
+use Rattle.circuit_laws.proofs.reset_laws.ResetWindows.{reset_witness_makes_differ}
+use Rattle.circuit_laws.proofs.reset_laws.reset_nets.Starts.{nets_have_starts}
+use Rattle.sec_setup.specs.ports.Pairs.{NamedPair, named_pairs}
 use Rattle.reset_form.specs.outcome_fits.ResetOutcome.{Numbered, AgreeAt, AnswerFits, PairFits, IsFirstDifference}
 use Rattle.under_base.specs.compare_base.FromReset.{numbered_by, ResetOutcomeFits, ResetVerdictFits}
 use Rattle.under_base.specs.compare_base.Says.{MakesResetsDiffer}

@@ -10,7 +10,7 @@ use Rattle.outcome.specs.declared.verdict.Outcome.{Outcome}
 use Rattle.outcome.specs.declared.verdict.PairResult.{PairResult}
 use Rattle.sec_setup.specs.declared.setup.Setup.{Setup}
 use Rattle.sec_setup.specs.Matching.{InterfacesMatch}
-use Rattle.sec_setup.specs.Pairs.{NamedPair, named_pairs}
+use Rattle.sec_setup.specs.ports.Pairs.{NamedPair, named_pairs}
 use Rattle.sec_setup.specs.Setup.{IsSetupOf}
 use Rattle.reset_form.specs.declared.reset_asked.findings.ResetFindings.{ResetFindings}
 use Rattle.under_base.specs.compare_base.ResetError.TheVariants as reset_error

@@ -19,17 +19,17 @@ use Rattle.aiger_read.specs.aiger_file.Reading.{body_of, spelled}
 use Rattle.aiger_read.specs.aiger_file.aiger_graph.Circuit.{circuit_of_file}
 use Rattle.aiger_read.specs.aiger_file.aiger_graph.Loops.{HasLoop}
 use Rattle.aiger_read.specs.Nets.{IsNetOf}
-use Rattle.design_rows.specs.Small.{small_and, IsSmall}
+use Rattle.check_meaning.specs.design_rows.Small.{small_and, IsSmall}
 use Rattle.sec_files.specs.Formats.{Aiger}
 use Rattle.sec_files.specs.Loading.{IsAccepted, Loads}
 use Rattle.sec_files.proofs.Texts.{text_net}
-use Rattle.design_rows.specs.Texts.{off_and}
+use Rattle.check_meaning.specs.design_rows.Texts.{off_and}
 use Rattle.premise_rows.specs.AndFile.{and_file, FileIsComparable}
-use Rattle.design_rows.proofs.Spelling.{accepted, net_is_small}
-use Rattle.check_texts.proofs.Comparing.{comparable_by}
-use Rattle.design_rows.proofs.SpelledTexts.{off_and_spells}
+use Rattle.check_meaning.proofs.design_rows.Spelling.{accepted, net_is_small}
+use Rattle.check_meaning.proofs.check_texts.Comparing.{comparable_by}
+use Rattle.check_meaning.proofs.design_rows.SpelledTexts.{off_and_spells}
 use Rattle.premise_rows.proofs.FileNets.{is_above_fanins, climbing_has_no_loop, FilePassesTests, tested_file_is_small}
-use Rattle.design_rows.specs.Designs as design
+use Rattle.check_meaning.specs.design_rows.Designs as design
 
 -- the file that the text spells
 abbrev and_records : AigerFile

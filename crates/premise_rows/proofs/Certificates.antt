@@ -7,14 +7,14 @@ use Rattle.blif_read.specs.declared.design.BlifModel.{BlifModel}
 use Rattle.flat_net.specs.declared.parts.Port.{Port}
 use Rattle.flat_net.specs.View.{NetView, named, circuit_of}
 use Rattle.job_cert.specs.pair_clauses.Clauses.{IsOutput}
-use Rattle.check_texts.specs.Texts.{AreComparable}
+use Rattle.check_meaning.specs.check_texts.Texts.{AreComparable}
 use Rattle.job_cert.specs.Answer.{AreCertifiable}
-use Rattle.design_rows.specs.Designs as design
-use Rattle.design_rows.specs.Small.{Small, IsSmall, small_and, small_late}
-use Rattle.design_rows.specs.Texts.{on_and, off_and, late, early}
+use Rattle.check_meaning.specs.design_rows.Designs as design
+use Rattle.check_meaning.specs.design_rows.Small.{Small, IsSmall, small_and, small_late}
+use Rattle.check_meaning.specs.design_rows.Texts.{on_and, off_and, late, early}
 use Rattle.premise_rows.specs.Certificates.{CertificatesMeetPremises}
-use Rattle.design_rows.proofs.Spelling.{Spells, net_is_small}
-use Rattle.design_rows.proofs.SpelledTexts.{on_and_spells, late_spells}
+use Rattle.check_meaning.proofs.design_rows.Spelling.{Spells, net_is_small}
+use Rattle.check_meaning.proofs.design_rows.SpelledTexts.{on_and_spells, late_spells}
 use Rattle.premise_rows.proofs.Examples.{ands_are_comparable, retimed_are_comparable}
 
 -- a name of the ports is that of an output

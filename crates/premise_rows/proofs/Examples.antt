@@ -19,14 +19,14 @@ use Rattle.outcome_fits.specs.Fitting.{IsCutOver}
 use Rattle.sec_files.specs.Formats.{Blif}
 use Rattle.sec_files.specs.Loading.{Loads}
 use Rattle.sec_files.proofs.Texts.{text_net}
-use Rattle.design_rows.specs.Designs as design
-use Rattle.design_rows.specs.Small.{small_and, small_late, small_early, small_two, small_toggle, IsSmall}
-use Rattle.design_rows.proofs.Toggle.{toggle_is_small}
-use Rattle.design_rows.specs.Texts.{on_and, off_and, late, early, toggle, hier, two}
+use Rattle.check_meaning.specs.design_rows.Designs as design
+use Rattle.check_meaning.specs.design_rows.Small.{small_and, small_late, small_early, small_two, small_toggle, IsSmall}
+use Rattle.check_meaning.proofs.design_rows.Toggle.{toggle_is_small}
+use Rattle.check_meaning.specs.design_rows.Texts.{on_and, off_and, late, early, toggle, hier, two}
 use Rattle.premise_rows.specs.Premises.{AndsAreComparable, RetimedAreComparable, HierarchyIsComparable, CyclicAreComparable, TextsAreAccepted}
-use Rattle.design_rows.proofs.Spelling.{accepted, net_is_small, match, latch_in}
-use Rattle.check_texts.proofs.Comparing.{comparable}
-use Rattle.design_rows.proofs.SpelledTexts.{on_and_spells, off_and_spells, late_spells, early_spells, hier_spells, two_spells, toggle_spells}
+use Rattle.check_meaning.proofs.design_rows.Spelling.{accepted, net_is_small, match, latch_in}
+use Rattle.check_meaning.proofs.check_texts.Comparing.{comparable}
+use Rattle.check_meaning.proofs.design_rows.SpelledTexts.{on_and_spells, off_and_spells, late_spells, early_spells, hier_spells, two_spells, toggle_spells}
 
 pub ands_are_comparable : AndsAreComparable
 ands_are_comparable =

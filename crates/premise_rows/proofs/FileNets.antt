@@ -13,17 +13,17 @@ use Rattle.circuit_theory.proofs.Inputs.{test_same, test_refl}
 use Rattle.circuit_theory.proofs.Lists.{map-map}
 use Rattle.flat_net.specs.View.{NetView, named, circuit_of}
 use Rattle.flat_net.proofs.Nets.{some_at, sound_is_net}
-use Rattle.net_alike.specs.Closed.{is_closed}
-use Rattle.net_alike.proofs.Bounding.{closed_bounds}
-use Rattle.net_alike.proofs.Testing.{all_in, is_closed-sound}
-use Rattle.design_rows.specs.Ranked.{IsRanked, is_ranked}
+use Rattle.net_assembly.specs.net_alike.Closed.{is_closed}
+use Rattle.net_assembly.proofs.net_alike.Bounding.{closed_bounds}
+use Rattle.net_assembly.proofs.net_alike.Testing.{all_in, is_closed-sound}
+use Rattle.check_meaning.specs.design_rows.Ranked.{IsRanked, is_ranked}
 use Rattle.design_laws.proofs.CutFlats.{cut_design}
 use Rattle.design_laws.proofs.FlatCycles.{cycle_up}
 use Rattle.design_laws.proofs.FlatParts.{FlatDesign}
 use Rattle.design_laws.proofs.KeptNames.{latch_names_are}
-use Rattle.design_rows.proofs.Ranking.{is_ranked-sound, no_cycle}
-use Rattle.design_rows.specs.Small.{Small, IsSmall}
-use Rattle.net_alike.proofs.Moving.{single_up}
+use Rattle.check_meaning.proofs.design_rows.Ranking.{is_ranked-sound, no_cycle}
+use Rattle.check_meaning.specs.design_rows.Small.{Small, IsSmall}
+use Rattle.net_assembly.proofs.net_alike.Moving.{single_up}
 use Rattle.aiger_read.specs.declared.aiger_file.file.AigerFile.{AigerFile}
 use Rattle.aiger_read.specs.aiger_file.aiger_graph.Circuit.{circuit_of_file}
 use Rattle.aiger_read.specs.aiger_file.aiger_graph.Loops.{HasLoop}

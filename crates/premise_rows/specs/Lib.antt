@@ -3,3 +3,7 @@ pub mod AndFile
 pub mod RuledOut
 pub mod Certificates
 pub mod block_premises
+pub mod job_rows
+pub mod event_assume_rows
+pub mod event_premises
+pub mod event_outcome_samples

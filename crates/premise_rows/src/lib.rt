@@ -2,6 +2,10 @@
 #![tactic(auto)]
 
 pub mod block_premises;
+pub mod event_assume_rows;
+pub mod event_outcome_samples;
+pub mod event_premises;
+pub mod job_rows;
 
 ghost use Rattle.premise_rows.specs.AndFile.{FileIsComparable};
 ghost use Rattle.premise_rows.specs.Premises.{AndsAreComparable, RetimedAreComparable, HierarchyIsComparable, CyclicAreComparable, TextsAreAccepted};

@@ -11,7 +11,7 @@ use Rattle.circuit_theory.proofs.Numbers.{slice_get-map}
 use Rattle.sec_base.specs.declared.basics.PairAnswer.{PairAnswer}
 use Rattle.sec_base.specs.declared.basics.PairAnswer.TheVariants as answer
 use Rattle.flat_net.specs.View.{circuit_of}
-use Rattle.reset_laws.specs.Reset.{IsResetWitness}
+use Rattle.circuit_laws.specs.reset_laws.Reset.{IsResetWitness}
 use Rattle.unfold_places.specs.declared.signal_function.Unfolded.{Unfolded}
 use Rattle.pair_decide.specs.declared.query.Query.{Query}
 use Rattle.pair_decide.specs.Queries.{IsQuery}
@@ -21,19 +21,19 @@ use Rattle.outcome.specs.declared.verdict.PairResult.{PairResult}
 use Rattle.obligations.specs.declared.obligation.Obligation.{Obligation}
 use Rattle.obligations.specs.declared.obligation.Difference.{Difference}
 use Rattle.obligations.specs.Decided.{IsAnswered, IsFirstOf}
-use Rattle.interface.specs.declared.pairs.SignalPair.{SignalPair}
+use Rattle.sec_setup.specs.declared.ports.pairs.SignalPair.{SignalPair}
 use Rattle.sec_setup.specs.declared.setup.Setup.{Setup}
-use Rattle.sec_setup.specs.Pairs.{outputs_of, places_of}
+use Rattle.sec_setup.specs.ports.Pairs.{outputs_of, places_of}
 use Rattle.shift_variables.specs.Variables.{variable_of, variables_of}
 use Rattle.witness_report.specs.declared.witness.PairName.{PairName}
-use Rattle.reset_functions.specs.declared.bases.Bases.{Bases}
-use Rattle.reset_functions.specs.declared.functions.Functions.{Functions}
+use Rattle.reset_form.specs.declared.reset_functions.bases.Bases.{Bases}
+use Rattle.reset_form.specs.declared.reset_functions.functions.Functions.{Functions}
 use Rattle.outcome.specs.declared.verdict.ResetWitness.{ResetWitness}
 use Rattle.reset_form.specs.reset_asked.Asked.{AskedOf, AreAsked}
 use Rattle.reset_form.specs.reset_asked.Numbers.{numbered}
 use Rattle.outcome_fits.specs.ResetOutcome.{PairFits, IsFirstDifference}
 use Rattle.reset_form.specs.Shown.{IsShowable, IsWitnessOf, IsWitnessAt}
-pub use Rattle.reset_functions.proofs.OwnPairs.{ArePairsIn, own_pairs}
+use Rattle.reset_form.proofs.reset_functions.OwnPairs.{ArePairsIn}
 use Rattle.reset_form.proofs.reset_asked.Columns.{leaf_is}
 use Rattle.reset_form.proofs.reset_asked.CycleQueries.{left_tree, right_tree, query_in_order, are_variables, each_variable, is_query, left_at_bits, right_at_bits, trees_differ, variables_long, least_is}
 use Rattle.reset_form.proofs.reset_asked.Sound.{AreSound}

@@ -12,19 +12,20 @@ use Rattle.obligations.specs.declared.verdict.VerdictAt.{VerdictAt}
 use Rattle.obligations.specs.declared.verdict.VerdictAt.TheVariants as at
 use Rattle.obligations.specs.Decided.{AnswerIs, NoneIs, IsAnswered, IsFirstOf, IsFirst, HaveDecided}
 use Rattle.obligations.specs.Verdict.{IsVerdictAt}
-use Rattle.interface.specs.declared.pairs.SignalPair.{SignalPair}
+use Rattle.sec_setup.specs.declared.ports.pairs.SignalPair.{SignalPair}
 use Rattle.sec_setup.specs.declared.setup.Setup.{Setup}
-use Rattle.sec_setup.specs.Pairs.{places_of}
+use Rattle.sec_setup.specs.ports.Pairs.{places_of}
 use Rattle.obligations.proofs.swept_queries.Listed.{zip_left}
 use Rattle.circuit_theory.proofs.Lists.{zip_right}
-use Rattle.reset_functions.specs.declared.bases.Bases.{Bases}
-use Rattle.reset_functions.specs.declared.functions.Functions.{Functions}
+use Rattle.reset_form.specs.declared.reset_functions.bases.Bases.{Bases}
+use Rattle.reset_form.specs.declared.reset_functions.functions.Functions.{Functions}
 use Rattle.reset_form.specs.declared.reset_asked.findings.ResetVerdict.{ResetVerdict}
 use Rattle.reset_form.specs.reset_asked.Asked.{AskedOf, AreAsked}
 use Rattle.reset_form.specs.reset_asked.Numbers.{numbered}
 use Rattle.reset_form.specs.Findings.{VerdictFits}
 use Rattle.reset_form.specs.Shown.{CanBeShown, IsShown}
-use Rattle.reset_form.proofs.FirstPairs.{ArePairsIn, first_pair, showable}
+use Rattle.reset_form.proofs.FirstPairs.{first_pair, showable}
+use Rattle.reset_form.proofs.reset_functions.OwnPairs.{ArePairsIn}
 use Rattle.reset_form.proofs.reset_asked.Sound.{AreSound}
 
 -- the only answer left

@@ -2,15 +2,15 @@
 use Rattle.std.specs.Prelude.{ℕ, map, Result, Ok, Err}
 use Rattle.circuit_theory.specs.declared.Side.TheVariants.{A, B}
 use Rattle.sec_setup.specs.declared.setup.Setup.{Setup}
-use Rattle.sec_setup.specs.Pairs.{places_of}
-use Rattle.reset_functions.specs.declared.bases.Bases.{Bases}
+use Rattle.sec_setup.specs.ports.Pairs.{places_of}
+use Rattle.reset_form.specs.declared.reset_functions.bases.Bases.{Bases}
 use Rattle.reset_form.specs.declared.reset_asked.findings.ResetFindings.{ResetFindings}
-use Rattle.reset_functions.specs.declared.error.ResetError.{ResetError}
-use Rattle.reset_functions.specs.declared.error.ResetError.TheVariants as refused
-use Rattle.reset_functions.specs.Bases.{AreBases}
+use Rattle.reset_form.specs.declared.reset_functions.error.ResetError.{ResetError}
+use Rattle.reset_form.specs.declared.reset_functions.error.ResetError.TheVariants as refused
+use Rattle.reset_form.specs.reset_functions.Bases.{AreBases}
 use Rattle.reset_form.specs.reset_asked.Numbers.{numbered}
 use Rattle.reset_form.specs.Findings.{FindingsFit}
-use Rattle.reset_functions.specs.Pairs.{IsLeftSide, IsRightSide, IsLight, IsTooLarge}
+use Rattle.reset_form.specs.reset_functions.Pairs.{IsLeftSide, IsRightSide, IsLight, IsTooLarge}
 
 -- both unfoldings are light, and what is found fits the circuits that are compared
 pub record AreFound (s : Setup) (conflicts : ℕ) (f : ResetFindings) : Type 0 where

@@ -3,3 +3,4 @@ pub mod Shown
 pub mod Formed
 pub mod reset_asked
 pub mod outcome_fits
+pub mod reset_functions

@@ -9,11 +9,11 @@ use Rattle.obligations.specs.declared.verdict.VerdictAt.{VerdictAt}
 use Rattle.obligations.specs.declared.verdict.VerdictAt.TheVariants as at
 use Rattle.flat_net.specs.View.{circuit_of}
 use Rattle.sec_setup.specs.declared.setup.Setup.{Setup}
-use Rattle.reset_laws.specs.Reset.{powers}
+use Rattle.circuit_laws.specs.reset_laws.Reset.{powers}
 use Rattle.shift_variables.specs.Sequences.{bits_at}
 use Rattle.shift_variables.specs.cycle_variables.Cycles.{AreInCycles}
-use Rattle.reset_functions.specs.declared.bases.Bases.{Bases}
-use Rattle.reset_functions.specs.declared.functions.Functions.{Functions}
+use Rattle.reset_form.specs.declared.reset_functions.bases.Bases.{Bases}
+use Rattle.reset_form.specs.declared.reset_functions.functions.Functions.{Functions}
 use Rattle.outcome.specs.declared.verdict.ResetWitness.{ResetWitness}
 use Rattle.reset_form.specs.reset_asked.Sequences.{IsQueryAt, IsSequenceOf}
 use Rattle.reset_form.specs.declared.reset_asked.findings.ResetVerdict.{ResetVerdict}

@@ -1,18 +1,18 @@
 //! Comparing the pairs of two circuits from their initial values.
 
 ghost use Rattle.std.specs.Prelude.{◌≤◌, map, IfOk};
-ghost use Rattle.sec_setup.specs.Pairs.{places_of};
+ghost use Rattle.sec_setup.specs.ports.Pairs.{places_of};
 ghost use Rattle.sec_setup.specs.Setup.{IsSetup};
-ghost use Rattle.reset_functions.specs.Bases.{AreBases};
+ghost use Rattle.reset_form.specs.reset_functions.Bases.{AreBases};
 ghost use Rattle.reset_form.specs.Formed.{Formed};
 ghost use Rattle.reset_form.specs.reset_asked.Numbers.{numbered};
 ghost use Rattle.reset_form.specs.Findings.{FindingsFit};
-ghost use Rattle.reset_functions.specs.Pairs.{HaveFunctions};
+ghost use Rattle.reset_form.specs.reset_functions.Pairs.{HaveFunctions};
 
 use crate::reset_asked::{ResetFindings, ask};
+use crate::reset_functions::{Bases, Functions, ResetError, bases_of, unfold_pairs};
 use crate::shown::show;
 use obligations::{Decided, decide_all, greatest_size, verdict_at};
-use reset_functions::{Bases, Functions, ResetError, bases_of, unfold_pairs};
 use sec_base::{MAX_CONFLICTS, NoMemory};
 use sec_setup::Setup;
 use std::alloc::Global;

@@ -4,9 +4,10 @@
 
 mod comparison;
 pub mod reset_asked;
+pub mod reset_functions;
 mod shown;
 mod witness;
 
+pub use crate::reset_functions::{Bases, ResetError};
 pub use comparison::compare_reset;
 pub use reset_asked::{ResetFindings, ResetVerdict};
-pub use reset_functions::{Bases, ResetError};

@@ -5,10 +5,10 @@ ghost use Rattle.base_tables.specs.Table.{AreDistinct};
 ghost use Rattle.reset_form.specs.Shown.{CanBeShown, IsShowable, IsShown, IsWitnessAt};
 
 use crate::reset_asked::ResetVerdict;
+use crate::reset_functions::{Bases, Functions};
 use crate::witness::witness_of;
 use obligations::{Difference, Obligation, VerdictAt, copy_name};
 use outcome::{PairResult, ResetWitness};
-use reset_functions::{Bases, Functions};
 use sec_base::NoMemory;
 use sec_setup::Setup;
 use std::alloc::Global;

@@ -6,9 +6,9 @@ ghost use Rattle.shift_variables.specs.cycle_variables.Cycles.{AreInCycles};
 ghost use Rattle.reset_form.specs.Shown.{IsWitnessOf};
 
 use crate::reset_asked::sequence_of;
+use crate::reset_functions::{Bases, Functions};
 use outcome::{PairName, ResetWitness};
 use pair_decide::Query;
-use reset_functions::{Bases, Functions};
 use sec_base::{Bits, NoMemory};
 use sec_setup::Setup;
 use shift_variables::cycle_variables::power_up;

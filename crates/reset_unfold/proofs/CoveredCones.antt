@@ -3,7 +3,7 @@ use Rattle.std.proofs.Common.{◌≡◌, ◌≢◌, ℕ, List, [], ◌∷◌, sl
 use Rattle.std.specs.List.{AllPairs, Contains}
 use Rattle.circuit_theory.specs.Query.{Variable}
 use Rattle.circuit_theory.proofs.Lists.{Contains-head}
-use Rattle.reset_laws.specs.Reset.{CycleBefore}
+use Rattle.circuit_laws.specs.reset_laws.Reset.{CycleBefore}
 use Rattle.base_tables.specs.Table.{AreDistinct}
 use Rattle.flat_net.specs.View.{NetView}
 use Rattle.aig.specs.declared.node.Node.{Node}

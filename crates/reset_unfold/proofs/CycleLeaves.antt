@@ -15,7 +15,7 @@ use Rattle.flat_net.proofs.Growth.{slice_get-push_cases}
 use Rattle.flat_net.proofs.Nets.{some_at}
 use Rattle.flat_net.proofs.Places.{one_at}
 use Rattle.base_tables.proofs.TableLemmas.{slice_get-take}
-use Rattle.reset_laws.specs.Weight.{ResetVisits}
+use Rattle.circuit_laws.specs.reset_laws.Weight.{ResetVisits}
 use Rattle.unfold_places.specs.Places.{PlaceBefore}
 use Rattle.unfold_places.proofs.InputLists.{pairs_push}
 use Rattle.unfold_places.proofs.Lists.{pairs_at}

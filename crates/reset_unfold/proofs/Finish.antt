@@ -10,10 +10,10 @@ use Rattle.circuit_theory.proofs.Lists.{All-from_each, Contains-map, Contains-ma
 use Rattle.flat_net.specs.View.{NetView, circuit_of, named}
 use Rattle.flat_net.specs.Sound.{IsSound}
 use Rattle.flat_net.proofs.Nets.{sound_is_net}
-use Rattle.reset_laws.specs.Reset.{HasStarts}
-use Rattle.reset_laws.specs.Weight.{PlaceInCycle, ResetVisits, IsResetWeight, IsResetOver}
-use Rattle.reset_laws.proofs.ResetExist.{one_tree}
-use Rattle.reset_laws.proofs.reset_nets.Starts.{nets_have_starts}
+use Rattle.circuit_laws.specs.reset_laws.Reset.{HasStarts}
+use Rattle.circuit_laws.specs.reset_laws.Weight.{PlaceInCycle, ResetVisits, IsResetWeight, IsResetOver}
+use Rattle.circuit_laws.proofs.reset_laws.ResetExist.{one_tree}
+use Rattle.circuit_laws.proofs.reset_laws.reset_nets.Starts.{nets_have_starts}
 use Rattle.aig.specs.declared.node.Lit.{Lit}
 use Rattle.aig.specs.declared.node.Node.{Node}
 use Rattle.aig.specs.Builds.{Builds}

@@ -10,7 +10,7 @@ use Rattle.circuit_theory.proofs.Lists.{Contains-map, Contains-map_from, at_of, 
 use Rattle.flat_net.specs.View.{NetView, circuit_of}
 use Rattle.flat_net.specs.Sound.{IsSound}
 use Rattle.flat_net.proofs.Places.{All-at}
-use Rattle.reset_laws.specs.Weight.{ResetVisits, IsResetWeight, IsResetOver}
+use Rattle.circuit_laws.specs.reset_laws.Weight.{ResetVisits, IsResetWeight, IsResetOver}
 use Rattle.aig.specs.declared.node.Lit.{Lit}
 use Rattle.aig.specs.declared.node.Node.{Node}
 use Rattle.aig.proofs.Growth.{Grows-refl, Grows-trans}

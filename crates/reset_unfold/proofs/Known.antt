@@ -7,7 +7,7 @@ use Rattle.circuit_theory.specs.Tree.{Trees, Leaf, Fixed, Branch, Nil, Cons}
 use Rattle.circuit_theory.proofs.Lists.{zip_weaker}
 use Rattle.flat_net.specs.declared.signals.Signal.{Signal}
 use Rattle.flat_net.specs.View.{NetView, circuit_of}
-use Rattle.reset_laws.specs.Reset.{ResetUnfolds, ResetUnfoldsAll}
+use Rattle.circuit_laws.specs.reset_laws.Reset.{ResetUnfolds, ResetUnfoldsAll}
 use Rattle.aig.specs.declared.node.Lit.{Lit}
 use Rattle.aig.specs.declared.node.Node.{Node}
 use Rattle.aig.specs.Graph.{Grows}

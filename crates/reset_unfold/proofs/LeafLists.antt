@@ -10,7 +10,7 @@ use Rattle.circuit_theory.specs.Circuit.{Circuit}
 use Rattle.circuit_theory.specs.Query.{Variable}
 use Rattle.circuit_theory.proofs.Lists.{at_of}
 use Rattle.base_tables.proofs.TableLemmas.{slice_get-take}
-use Rattle.reset_laws.specs.Weight.{ResetVisits}
+use Rattle.circuit_laws.specs.reset_laws.Weight.{ResetVisits}
 use Rattle.unfold_places.specs.Places.{PlaceBefore}
 use Rattle.unfold_places.specs.Reach.{IsThere}
 use Rattle.unfold_places.proofs.InputLists.{place_apart, pairs_push}

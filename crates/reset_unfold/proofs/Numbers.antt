@@ -16,9 +16,9 @@ use Rattle.flat_net.specs.declared.parts.Driver.TheVariants as driver
 use Rattle.flat_net.specs.View.{NetView, circuit_of, named, start_of}
 use Rattle.flat_net.specs.Sound.{IsSound}
 use Rattle.flat_net.proofs.Places.{one_at}
-use Rattle.reset_laws.specs.Reset.{IsFree}
-use Rattle.reset_laws.proofs.ResetAgreement.{latch_from}
-use Rattle.reset_laws.proofs.reset_nets.Starts.{nets_have_starts}
+use Rattle.circuit_laws.specs.reset_laws.Reset.{IsFree}
+use Rattle.circuit_laws.proofs.reset_laws.ResetAgreement.{latch_from}
+use Rattle.circuit_laws.proofs.reset_laws.reset_nets.Starts.{nets_have_starts}
 use Rattle.flat_net.proofs.Drivers.{input_owner, latch_of_equation, latch_out, no_input_gate, no_input_latch}
 use Rattle.unfold_places.proofs.Over.{pairs_differ}
 use Rattle.reset_unfold.specs.Places.{IsFreeAt, IsLeafAt}

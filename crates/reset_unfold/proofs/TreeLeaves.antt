@@ -10,9 +10,9 @@ use Rattle.circuit_theory.specs.Tree.{Tree, Trees, Leaf, Cons, IsInputNumber}
 use Rattle.circuit_theory.specs.Query.{Variable, HasLeaf, HasLeafIn, AreVariables}
 use Rattle.circuit_theory.proofs.Lists.{Contains-head, Contains-tail, Contains-cases, Contains-map, Contains-map_from}
 use Rattle.circuit_laws.proofs.LeafVisits.{leaf_says, leaf_in_says}
-use Rattle.reset_laws.specs.Reset.{ResetUnfolds, ResetUnfoldsAll, HasStarts, CycleBefore}
-use Rattle.reset_laws.specs.Weight.{ResetVisits}
-use Rattle.reset_laws.proofs.ResetExist.{shape, one_tree}
+use Rattle.circuit_laws.specs.reset_laws.Reset.{ResetUnfolds, ResetUnfoldsAll, HasStarts, CycleBefore}
+use Rattle.circuit_laws.specs.reset_laws.Weight.{ResetVisits}
+use Rattle.circuit_laws.proofs.reset_laws.ResetExist.{shape, one_tree}
 use Rattle.unfold_places.specs.Places.{PlaceBefore}
 use Rattle.unfold_places.proofs.Lists.{pairs_map}
 use Rattle.reset_unfold.specs.Places.{IsLeafAt}

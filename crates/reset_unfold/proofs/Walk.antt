@@ -4,7 +4,7 @@ use Rattle.circuit_theory.specs.Circuit.{Circuit}
 use Rattle.circuit_theory.proofs.Lists.{Contains-head}
 use Rattle.flat_net.specs.View.{NetView, circuit_of}
 use Rattle.flat_net.specs.Sound.{IsSound}
-use Rattle.reset_laws.specs.Weight.{ResetVisits, IsResetOver}
+use Rattle.circuit_laws.specs.reset_laws.Weight.{ResetVisits, IsResetOver}
 use Rattle.aig.specs.declared.node.Lit.{Lit}
 use Rattle.unfold_places.specs.Places.{Steps}
 use Rattle.unfold_places.specs.Walk.{Comes, IsWalk, IsTooLong}

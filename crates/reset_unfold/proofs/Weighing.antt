@@ -5,7 +5,7 @@ use Rattle.circuit_theory.specs.Sizes.{WeighsAt}
 use Rattle.circuit_theory.proofs.Lists.{Contains-map, Contains-map_from}
 use Rattle.flat_net.specs.View.{NetView, circuit_of}
 use Rattle.flat_net.specs.Sound.{IsSound}
-use Rattle.reset_laws.specs.Weight.{PlaceInCycle, WeighedInCycle, ResetVisits, IsResetWeight, IsResetOver}
+use Rattle.circuit_laws.specs.reset_laws.Weight.{PlaceInCycle, WeighedInCycle, ResetVisits, IsResetWeight, IsResetOver}
 use Rattle.flat_net.specs.Weights.{weight_at}
 use Rattle.unfold_places.proofs.Lists.{pairs_map, sum_by-map}
 use Rattle.flat_net.proofs.Drivers.{weighs}

@@ -4,7 +4,7 @@ use Rattle.std.specs.List.{AllPairs}
 use Rattle.circuit_theory.specs.Cone.{latches_of}
 use Rattle.circuit_theory.specs.Run.{IsResetRun}
 use Rattle.circuit_theory.specs.Tree.{IsInputNumber}
-use Rattle.reset_laws.specs.Reset.{IsFree}
+use Rattle.circuit_laws.specs.reset_laws.Reset.{IsFree}
 use Rattle.base_tables.specs.Table.{AreDistinct}
 use Rattle.flat_net.specs.View.{NetView, circuit_of}
 use Rattle.aig.specs.declared.node.Node.{Node}

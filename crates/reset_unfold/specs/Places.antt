@@ -3,8 +3,8 @@ use Rattle.std.specs.Prelude.{◌≡◌, ◌⊎◌, ℕ, ◌+◌, List, map, Som
 use Rattle.circuit_theory.specs.Circuit.{Circuit}
 use Rattle.circuit_theory.specs.Cone.{latches_of}
 use Rattle.circuit_theory.specs.Tree.{IsInputNumber}
-use Rattle.reset_laws.specs.Reset.{IsFree}
-use Rattle.reset_laws.specs.Weight.{PlaceInCycle, ResetVisits}
+use Rattle.circuit_laws.specs.reset_laws.Reset.{IsFree}
+use Rattle.circuit_laws.specs.reset_laws.Weight.{PlaceInCycle, ResetVisits}
 
 -- the place as the weight of unfoldings names it
 abbrev pub in_cycle : ℕ × ℕ → PlaceInCycle ℕ

@@ -2,7 +2,7 @@
 use Rattle.std.specs.Prelude.{◌≢◌, ℕ, ◌<◌, List, [], All, Contains}
 use Rattle.std.specs.List.{AllPairs}
 use Rattle.circuit_theory.specs.Circuit.{Circuit}
-use Rattle.reset_laws.specs.Weight.{ResetVisits}
+use Rattle.circuit_laws.specs.reset_laws.Weight.{ResetVisits}
 use Rattle.aig.specs.declared.node.Lit.{Lit}
 use Rattle.unfold_places.specs.Places.{Steps, PlaceBefore}
 use Rattle.unfold_places.specs.Reach.{IsThere}

@@ -4,8 +4,8 @@ use Rattle.std.specs.Prelude.{◌≡◌, ℕ, ◌*◌, ◌<◌, ◌≤◌, List,
 use Rattle.std.specs.List.{AllZip, sum_by}
 use Rattle.circuit_theory.specs.Tree.{Tree}
 use Rattle.circuit_theory.specs.Query.{Variable, AreVariables}
-use Rattle.reset_laws.specs.Reset.{ResetUnfolds, CycleBefore}
-use Rattle.reset_laws.specs.Weight.{ResetVisits, IsResetWeight}
+use Rattle.circuit_laws.specs.reset_laws.Reset.{ResetUnfolds, CycleBefore}
+use Rattle.circuit_laws.specs.reset_laws.Weight.{ResetVisits, IsResetWeight}
 use Rattle.sec_base.specs.declared.limits.TheConstants.{MAX_WEIGHT}
 use Rattle.flat_net.specs.View.{NetView, circuit_of}
 use Rattle.aig.specs.declared.node.Lit.{Lit}

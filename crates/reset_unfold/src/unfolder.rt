@@ -2,7 +2,7 @@
 
 ghost use Rattle.std.specs.Prelude.{◌≡◌, ◌≢◌, ℕ, ◌+◌, ◌^◌, ◌<◌, ◌≤◌, List, [], ◌∷◌, ◌++◌, length, map, slice_get, Some, All, Contains, IfOk, OnOk, OnErr};
 ghost use Rattle.std.specs.List.{AllPairs};
-ghost use Rattle.reset_laws.specs.Weight.{IsResetOver};
+ghost use Rattle.circuit_laws.specs.reset_laws.Weight.{IsResetOver};
 ghost use Rattle.flat_net.specs.View.{circuit_of};
 ghost use Rattle.aig.specs.declared.node.Node.{Node};
 ghost use Rattle.unfold_places.specs.InputOrder.{IsOrderOf};

@@ -1,8 +1,8 @@
 //! Runs with a read that fails or gives little, or a write that is cut short.
 
 use crate::one_run::show_run;
-use row_text::{shelf_of, show, show_count};
 use std::rt::HostRuntime;
+use text_rows::row_text::{shelf_of, show, show_count};
 
 /// The exit status of a read fault.
 const READ_FAULT: u8 = 6;

@@ -13,9 +13,9 @@ mod one_run;
 
 use failures::{show_failing_reads, show_short_writes, show_slow_reads};
 use one_run::show_run;
-use row_text::{file_of, run_words, shelf_of, show, split_at};
 use std::rt::HostRuntime;
 use std::str;
+use text_rows::row_text::{file_of, run_words, shelf_of, show, split_at};
 
 /// Does the run in one of the ways.
 fn show_way(rt: &HostRuntime, words: &[String], files: &[u8], way: &str) {

@@ -1,9 +1,9 @@
 //! One run.
 
-use row_text::{show, show_count};
 use sec_base::{MemShelf, MemSink};
 use sec_run::run;
 use std::rt::HostRuntime;
+use text_rows::row_text::{show, show_count};
 
 /// How many bytes of a report are taken.
 const ROOM: usize = 4_000;

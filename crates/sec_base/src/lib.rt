@@ -1,7 +1,8 @@
-//! Covers, limits, small types and pieces of reports, with the lists and the outside that stand in crates of their own: what nearly
-//! all crates of `sec` stand on. Tables stand beside it.
+//! Covers, limits, small types and pieces of reports, and the outside, where files are read and reports are written: what nearly all
+//! crates of `sec` stand on. The lists stand in a crate of their own, which it hands on; tables stand beside it.
 #![tactic(auto)]
 
+pub mod base_shelves;
 mod basics;
 mod covers;
 mod file_path;
@@ -9,7 +10,7 @@ mod limits;
 mod settings;
 mod texts;
 
-pub use base_shelves::{
+pub use crate::base_shelves::{
     BitRows, Bits, Cubes, Duplicate, Failed, FetchError, FileShelf, FileText, HeldFile, Ids,
     MemShelf, MemSink, NoMemory, Seq, Shelf, ShelfError, Sink, StdSink, Text, Word, Words, fetch,
     unset_bits,

@@ -15,10 +15,10 @@ use Rattle.flat_net.specs.declared.parts.LatchAt.{LatchAt}
 use Rattle.flat_net.specs.Sound.{IsSound}
 use Rattle.flat_net.specs.View.{NetView, circuit_of, start_of}
 use Rattle.flat_net.proofs.Nets.{sound_is_net}
-use Rattle.net_alike.specs.FlatCircuit.{IsFlatCircuit}
-use Rattle.net_alike.specs.Moved.{IsPortless}
+use Rattle.net_assembly.specs.net_alike.FlatCircuit.{IsFlatCircuit}
+use Rattle.net_assembly.specs.net_alike.Moved.{IsPortless}
 use Rattle.sec_files.specs.Named.{named_circuit, HasNames, NamesArePlaces}
-use Rattle.net_alike.proofs.Moving.{flat_over, portless_over, single_up}
+use Rattle.net_assembly.proofs.net_alike.Moving.{flat_over, portless_over, single_up}
 
 -- the first place of the name in the list
 abbrev pub index_in : List (List ℕ) → List ℕ → ℕ

@@ -12,15 +12,15 @@ use Rattle.flat_net.specs.Sound.{IsSound}
 use Rattle.flat_net.specs.View.{NetView, named, circuit_of, is_read, ports_of}
 use Rattle.flat_net.proofs.Nets.{sound_is_net}
 use Rattle.elaborate.proofs.Tabled.{bool_same}
-use Rattle.net_alike.specs.FlatCircuit.{IsFlatCircuit}
-use Rattle.net_alike.specs.Renumbered.{AreRenumbered}
-use Rattle.net_alike.proofs.Alike.{nets_are_renumbered, place_of, low}
-use Rattle.net_alike.proofs.Carrying.{place, forth, turned, read_carried}
+use Rattle.net_assembly.specs.net_alike.FlatCircuit.{IsFlatCircuit}
+use Rattle.net_assembly.specs.net_alike.Renumbered.{AreRenumbered}
+use Rattle.net_assembly.proofs.net_alike.Alike.{nets_are_renumbered, place_of, low}
+use Rattle.net_assembly.proofs.net_alike.Carrying.{place, forth, turned, read_carried}
 use Rattle.flatten.proofs.net_assembly.ReadBy.{read_from, read_to, same_names}
 use Rattle.flatten.specs.OneNet.{AreOneNet}
-use Rattle.net_alike.specs.Moved.{IsPortless}
+use Rattle.net_assembly.specs.net_alike.Moved.{IsPortless}
 use Rattle.sec_files.specs.Named.{HasNames}
-use Rattle.net_alike.proofs.Moving.{stays}
+use Rattle.net_assembly.proofs.net_alike.Moving.{stays}
 
 driven_place : (c : Circuit ℕ) (s : ℕ) → IsDriven c s → IsPlace c s
 driven_place c s (inl h) = IsPlace.input h

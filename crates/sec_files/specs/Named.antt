@@ -4,8 +4,8 @@ use Rattle.circuit_theory.specs.Circuit.{Circuit, Latch, IsSingleDriven}
 use Rattle.blif_read.specs.Design.{Place, top}
 use Rattle.flat_net.specs.Sound.{IsSound}
 use Rattle.flat_net.specs.View.{NetView, circuit_of}
-use Rattle.net_alike.specs.FlatCircuit.{IsFlatCircuit}
-use Rattle.net_alike.specs.Moved.{circuit_over, IsPortless}
+use Rattle.net_assembly.specs.net_alike.FlatCircuit.{IsFlatCircuit}
+use Rattle.net_assembly.specs.net_alike.Moved.{circuit_over, IsPortless}
 
 -- the circuit over the places that have these names and lie in no instance
 abbrev pub named_circuit : (ℕ → List ℕ) → Circuit ℕ → Circuit Place

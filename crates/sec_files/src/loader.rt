@@ -1,7 +1,7 @@
 //! From the bytes of a file to a flat net.
 
 ghost use Rattle.std.specs.Prelude.{◌≡◌, ℕ, List, true, false, IfOk, IfErr, IfSome, IsErrOf, ◌≤◌, length, Some};
-ghost use Rattle.sec_base.specs.Outside.{Rose, SameHeld, NoneFell};
+ghost use Rattle.sec_base.specs.base_shelves.Outside.{Rose, SameHeld, NoneFell};
 ghost use Rattle.flat_net.specs.Comparable.{IsComparable};
 ghost use Rattle.sec_files.specs.Formats.{is_aiger};
 ghost use Rattle.sec_files.specs.Loading.{Loads, LoadFails};

@@ -1,7 +1,7 @@
 //! From the bytes of a file to a stimulus.
 
 ghost use Rattle.std.specs.Prelude.{◌<◌, ◌≤◌, ◌^◌, ℕ, List, length, IfOk, IfErr, IfSome, IsErrOf, Some};
-ghost use Rattle.sec_base.specs.Outside.{Rose, SameHeld, NoneFell};
+ghost use Rattle.sec_base.specs.base_shelves.Outside.{Rose, SameHeld, NoneFell};
 ghost use Rattle.sec_files.specs.Stimuli.{IsStimulus, StimulusFails};
 
 use sec_base::{FetchError, MAX_FILE_BYTES, Shelf, fetch};

@@ -12,12 +12,12 @@ use Rattle.job_base.proofs.Meaning.{says_nothing, by_finding}
 use Rattle.job_cert.specs.sec_files.Reading.{Held}
 use Rattle.job_circuit.proofs.Means.{graph_means, sim_means}
 use Rattle.job_circuit.proofs.CompleteReports.{graph_complete, sim_complete}
-use Rattle.job_replay.proofs.Means.{replay_means}
-use Rattle.job_replay.proofs.CompleteReplays.{replay_complete}
+use Rattle.job_circuit.proofs.job_replay.Means.{replay_means}
+use Rattle.job_circuit.proofs.job_replay.CompleteReplays.{replay_complete}
 use Rattle.check_meaning.proofs.Complete.{check_complete}
 use Rattle.check_meaning.proofs.Means.{check_means}
 use Rattle.job_gen.proofs.gen_meaning.Means.{gen_means, gen_complete}
-use Rattle.job_lrat.proofs.Means.{lrat_means, lrat_complete}
+use Rattle.job_cert.proofs.job_lrat.Means.{lrat_means, lrat_complete}
 use Rattle.job_cert.proofs.Means.{cert_means}
 use Rattle.job_cert.proofs.Complete.{cert_complete, memory_cert}
 use Rattle.job_induct.proofs.induct_meaning.Means.{induct_means}

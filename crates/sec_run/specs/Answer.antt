@@ -1,6 +1,6 @@
 -- What is true where a run ends as it does.
 use Rattle.std.specs.Prelude.{◌≡◌, ℕ, List, [], Option, Some, None}
-use Rattle.sec_base.specs.Outside.{Takes, TakesFront}
+use Rattle.sec_base.specs.base_shelves.Outside.{Takes, TakesFront}
 use Rattle.command_line.specs.declared.task.Task.{Task}
 use Rattle.command_line.specs.declared.task.Task.TheVariants as task
 use Rattle.pair_decide.specs.declared.query.Proof.{Proof}
@@ -13,10 +13,10 @@ use Rattle.job_base.specs.declared.status.StatusName.TheVariants as status
 use Rattle.job_base.specs.Lines.{finding_text}
 use Rattle.job_cert.specs.sec_files.Reading.{Held}
 use Rattle.job_circuit.specs.Reports.{IsGraphFound, IsSimFound}
-use Rattle.job_replay.specs.Replays.{IsReplayFound}
+use Rattle.job_circuit.specs.job_replay.Replays.{IsReplayFound}
 use Rattle.job_check.specs.Found.{IsFoundOf}
 use Rattle.job_gen.specs.gen_meaning.Found.{IsGenFound}
-use Rattle.job_lrat.specs.Found.{IsLratFound}
+use Rattle.job_cert.specs.job_lrat.Found.{IsLratFound}
 use Rattle.job_cert.specs.Found.{IsCertFound}
 use Rattle.job_induct.specs.induct_meaning.Found.{IsInductFound}
 

@@ -4,9 +4,9 @@ use Rattle.command_line.specs.declared.task.Task.{Task}
 use Rattle.command_line.specs.declared.task.Task.TheVariants as task
 use Rattle.job_cert.specs.sec_files.Reading.{IsLoaded}
 use Rattle.job_circuit.specs.Reports.{graph_paths, sim_paths}
-use Rattle.job_replay.specs.Replays.{replay_paths}
+use Rattle.job_circuit.specs.job_replay.Replays.{replay_paths}
 use Rattle.job_check.specs.Check.{check_paths}
-use Rattle.job_lrat.specs.Found.{lrat_paths, AreSpelled}
+use Rattle.job_cert.specs.job_lrat.Found.{lrat_paths, AreSpelled}
 use Rattle.job_cert.specs.Found.{cert_paths}
 use Rattle.job_induct.specs.induct_meaning.Found.{induct_paths}
 

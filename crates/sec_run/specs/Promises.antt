@@ -8,10 +8,10 @@ use Rattle.job_base.specs.declared.status.StatusName.{StatusName}
 use Rattle.job_base.specs.declared.status.StatusName.TheVariants as status
 use Rattle.job_cert.specs.sec_files.Reading.{Held}
 use Rattle.job_circuit.specs.Reports.{GraphMeans, SimMeans, IsGraphComplete, IsSimComplete}
-use Rattle.job_replay.specs.Replays.{ReplayMeans, IsReplayComplete}
+use Rattle.job_circuit.specs.job_replay.Replays.{ReplayMeans, IsReplayComplete}
 use Rattle.check_meaning.specs.Answer.{CheckMeans, IsCheckComplete}
 use Rattle.job_gen.specs.gen_meaning.Answer.{GenMeans, IsGenAnswer}
-use Rattle.job_lrat.specs.Answer.{LratMeans, IsLratComplete}
+use Rattle.job_cert.specs.job_lrat.Answer.{LratMeans, IsLratComplete}
 use Rattle.job_cert.specs.Answer.{CertMeans, IsCertComplete}
 use Rattle.job_induct.specs.induct_meaning.Answer.{InductMeans, IsInductComplete}
 

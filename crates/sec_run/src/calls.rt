@@ -2,7 +2,7 @@
 
 ghost use Rattle.std.specs.Prelude.{◌≡◌, ◌≢◌, ◌≤◌, [], ℕ, List, Ok, IsErrOf, map, string_bytes, option_map, Some};
 ghost use Rattle.std.specs.List.{All};
-ghost use Rattle.sec_base.specs.Outside.{Rose, SameHeld, NoneFell};
+ghost use Rattle.sec_base.specs.base_shelves.Outside.{Rose, SameHeld, NoneFell};
 ghost use Rattle.command_line.specs.Jobs.{job_of};
 ghost use Rattle.job_base.specs.Lines.{finding_text};
 ghost use Rattle.job_base.specs.Reading.{ReadFailedAfter};
@@ -14,13 +14,13 @@ ghost use Rattle.sec_run.specs.Promises.{Means, IsComplete};
 
 use command_line::{Task, WordsError, job};
 use job_base::{Finding, Status, StatusName, Stop, finish};
+use job_cert::job_lrat::{Refutation, check_refutation};
 use job_cert::{Certification, Wanted, certify};
 use job_check::{Comparison, check};
+use job_circuit::job_replay::{Replay, replay_files};
 use job_circuit::{Simulation, simulate, tell_graph};
 use job_gen::{Generation, compare_generated};
 use job_induct::{BlockComparison, compare_by_blocks};
-use job_lrat::{Refutation, check_refutation};
-use job_replay::{Replay, replay_files};
 use sec_base::{FilePath, Shelf, Sink, Word};
 use std::alloc::Global;
 

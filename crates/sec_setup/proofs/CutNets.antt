@@ -11,11 +11,11 @@ use Rattle.circuit_theory.specs.Fits.{IsWitness}
 use Rattle.circuit_theory.specs.Interface.{AreNumbersOf}
 use Rattle.circuit_theory.proofs.Lists.{map-map}
 use Rattle.circuit_theory.proofs.Numbers.{is_among-complete}
-use Rattle.interface.proofs.circuit_laws.Parted.{kept_equation}
-use Rattle.interface.proofs.circuit_laws.CutLaws.{kept_test}
-use Rattle.interface.proofs.circuit_laws.LawProofs.{numbers_are_shared}
-use Rattle.interface.specs.flat_net.View.{NetView, named, circuit_of, ports_of}
-use Rattle.interface.specs.flat_net.Cut.{IsCutCircuit}
+use Rattle.sec_setup.proofs.ports.circuit_laws.Parted.{kept_equation}
+use Rattle.sec_setup.proofs.ports.circuit_laws.CutLaws.{kept_test}
+use Rattle.sec_setup.proofs.ports.circuit_laws.LawProofs.{numbers_are_shared}
+use Rattle.sec_setup.specs.ports.flat_net.View.{NetView, named, circuit_of, ports_of}
+use Rattle.sec_setup.specs.ports.flat_net.Cut.{IsCutCircuit}
 use Rattle.sec_setup.specs.Cycles.{IsAcyclic}
 use Rattle.sec_setup.specs.Cuts.{AreCutAt}
 use Rattle.sec_setup.proofs.SameEquations.{AreSame, same_tree, same_cycle, same_depth}

@@ -1,7 +1,7 @@
 -- A refused name is the first that is missing.
 use Rattle.std.proofs.Common.{◌≡◌, ℕ, List, sym, ◌∙◌, ap, Option, Some}
 use Rattle.circuit_theory.specs.Interface.{inputs_beside, first_missing, first_mismatch, ◌or_else◌}
-use Rattle.interface.specs.flat_net.View.{NetView, ports_of}
+use Rattle.sec_setup.specs.ports.flat_net.View.{NetView, ports_of}
 use Rattle.sec_setup.specs.Matching.{InterfaceFails, RefusesName}
 use Rattle.sec_setup.specs.declared.error.SetupError.{SetupError}
 use Rattle.sec_setup.specs.declared.error.SetupError.TheVariants as refused

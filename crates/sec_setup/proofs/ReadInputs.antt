@@ -9,15 +9,15 @@ use Rattle.circuit_theory.specs.Sizes.{Visits}
 use Rattle.circuit_theory.proofs.Lists.{Contains-cases, Contains-head, Contains-map, Contains-tail, at_of, of_at}
 use Rattle.circuit_theory.proofs.Inputs.{test_refl}
 use Rattle.circuit_theory.proofs.Numbers.{beside_at, slice_get-map}
-use Rattle.interface.specs.flat_net.Signal.{Signal}
-use Rattle.interface.specs.flat_net.Port.{Port}
-use Rattle.interface.specs.flat_net.Gate.{Gate}
-use Rattle.interface.specs.flat_net.LatchAt.{LatchAt}
-use Rattle.interface.specs.flat_net.View.{NetView, named, equation_of_gate, equation_of_latch, circuit_of, is_read, ports_of}
-use Rattle.interface.proofs.flat_net.Nets.{OfGate, OfLatch, equation_from}
-use Rattle.interface.proofs.flat_net.Places.{one_at}
+use Rattle.sec_setup.specs.ports.flat_net.Signal.{Signal}
+use Rattle.sec_setup.specs.ports.flat_net.Port.{Port}
+use Rattle.sec_setup.specs.ports.flat_net.Gate.{Gate}
+use Rattle.sec_setup.specs.ports.flat_net.LatchAt.{LatchAt}
+use Rattle.sec_setup.specs.ports.flat_net.View.{NetView, named, equation_of_gate, equation_of_latch, circuit_of, is_read, ports_of}
+use Rattle.sec_setup.proofs.ports.flat_net.Nets.{OfGate, OfLatch, equation_from}
+use Rattle.sec_setup.proofs.ports.flat_net.Places.{one_at}
 use Rattle.base_tables.proofs.TableLemmas.{key_at}
-use Rattle.sec_setup.specs.Pairs.{outputs_of}
+use Rattle.sec_setup.specs.ports.Pairs.{outputs_of}
 use Rattle.sec_setup.specs.Setup.{AreColumns}
 
 or_left : (b c : Bool) → b ≡ true → (b || c) ≡ true

@@ -3,19 +3,19 @@ use Rattle.std.proofs.Common.{◌≡◌, ℕ, ◌+◌, ◌<◌, ◌≤◌, ◌^�
 use Rattle.std.specs.List.{Contains}
 use Rattle.circuit_theory.specs.Interface.{shared_inputs}
 use Rattle.base_tables.specs.Table.{AreDistinct}
-use Rattle.interface.specs.sec_base.Orders.{Orders}
-use Rattle.interface.specs.flat_net.Comparable.{IsComparable}
-use Rattle.interface.specs.flat_net.Sound.{IsSound}
-use Rattle.interface.specs.flat_net.View.{NetView, circuit_of, ports_of}
+use Rattle.sec_setup.specs.ports.sec_base.Orders.{Orders}
+use Rattle.sec_setup.specs.ports.flat_net.Comparable.{IsComparable}
+use Rattle.sec_setup.specs.ports.flat_net.Sound.{IsSound}
+use Rattle.sec_setup.specs.ports.flat_net.View.{NetView, circuit_of, ports_of}
 use Rattle.sec_setup.specs.declared.cut_points.exposed.Exposure.{Exposure}
-use Rattle.interface.specs.declared.pairs.SignalPair.{SignalPair}
-use Rattle.interface.specs.Numbered.{AreNumbered}
+use Rattle.sec_setup.specs.declared.ports.pairs.SignalPair.{SignalPair}
+use Rattle.sec_setup.specs.ports.Numbered.{AreNumbered}
 use Rattle.sec_setup.specs.Cuts.{AreCutOpen, AreCutBy, AreCutAt, columns_of, is_cut}
 use Rattle.sec_setup.specs.Matching.{InterfacesMatch}
 use Rattle.sec_setup.specs.Setup.{AreColumns}
-use Rattle.interface.proofs.Columns.{cut_few, left_read, names_few, right_read}
-use Rattle.interface.proofs.Numbering.{few_shared}
-use Rattle.interface.proofs.Shared.{are_matched}
+use Rattle.sec_setup.proofs.ports.Columns.{cut_few, left_read, names_few, right_read}
+use Rattle.sec_setup.proofs.ports.Numbering.{few_shared}
+use Rattle.sec_setup.proofs.ports.Shared.{are_matched}
 
 module _ (a b m k : NetView) (e : Exposure) (chosen : AreCutOpen a b e) (cut : AreCutBy a b e m k) where
   -- the nets are cut at the chosen names

@@ -1,23 +1,22 @@
 -- The cycle that is told, by the names of its latches.
-use Rattle.std.proofs.Common.{◌≡◌, ℕ, zero, suc, ◌+◌, ◌-◌, ◌<◌, Bool, true, false, List, [], ◌∷◌, map, length, refl, sym, ◌∙◌, ap, subst, arith, add-one, Some, slice_get}
-use Rattle.std.specs.Prelude.{slice_index_or}
-use Rattle.std.specs.List.{All, AllZip, Contains}
+use Rattle.std.proofs.Common.{◌≡◌, ℕ, zero, suc, ◌+◌, ◌-◌, ◌<◌, Bool, true, false, List, [], ◌∷◌, length, refl, sym, ◌∙◌, ap, subst, arith, add-one, Some, slice_get}
+use Rattle.std.specs.List.{All, AllZip}
 use Rattle.std.proofs.lemmas.List.Elements.{All-head, All-tail}
 use Rattle.std.proofs.lemmas.Bool.Decides.{nat_tests}
 use Rattle.std.proofs.lemmas.Option.{slice_get-get_or, slice_get_within}
-use Rattle.circuit_theory.specs.declared.Mode.TheVariants.{Plain}
+use Rattle.circuit_theory.specs.declared.Mode.{Mode}
+use Rattle.circuit_theory.specs.Agree.{EnabledIn}
 use Rattle.circuit_theory.specs.Circuit.{Circuit, IsLatch}
 use Rattle.circuit_theory.specs.Depth.{LatchReads, LatchPath, IsCycle, BeginsWithLeast, HasCycle, after_in_round}
-use Rattle.circuit_theory.specs.Run.{NoneEnabled}
-use Rattle.interface.specs.flat_net.LatchAt.{LatchAt}
-use Rattle.interface.specs.flat_net.View.{NetView, circuit_of}
-use Rattle.interface.specs.flat_net.Cut.{no_latch, latch_at, exposed_names}
-use Rattle.interface.proofs.flat_net.Nets.{latch_stands, some_at}
+use Rattle.sec_setup.specs.ports.flat_net.LatchAt.{LatchAt}
+use Rattle.sec_setup.specs.ports.flat_net.View.{NetView, circuit_of}
+use Rattle.sec_setup.specs.ports.flat_net.Cut.{no_latch, latch_at, exposed_names}
+use Rattle.sec_setup.proofs.ports.flat_net.Nets.{latch_stands, some_at}
 use Rattle.latch_graph.specs.Graph.{GraphView, IsGraphIn, SkippedBy, marked_names, signals_at}
 use Rattle.latch_graph.proofs.Skipping.{mode_cycle, cycle_in_graph}
-use Rattle.sec_setup.specs.Cycles.{IsAcyclic}
+use Rattle.sec_setup.specs.Cycles.{IsAcyclicIn}
 use Rattle.sec_setup.specs.cut_points.Exposed.{IsToldCycle}
-use Rattle.interface.proofs.Shared.{some_is}
+use Rattle.sec_setup.proofs.ports.Shared.{some_is}
 
 no_true : true ≡ false → ⊥
 no_true e = cc
@@ -39,18 +38,18 @@ names_beside n (j ∷ js) within = (
 )
 
 -- no cycle is left where none is left without any latch
-pub acyclic_graph : (n : NetView) (g : GraphView) (bits : List Bool) → IsGraphIn Plain n g → All (λ bit. bit ≡ false) bits → (HasCycle (circuit_of n) (SkippedBy g) (marked_names g.latches bits) → ⊥) → IsAcyclic n
-acyclic_graph n g bits is none free cycle = free (subst (HasCycle (circuit_of n) (SkippedBy g)) (sym (marked_names-none g.latches bits none)) (cycle_in_graph Plain n g is [] cycle))
+pub acyclic_graph : (mode : Mode) (n : NetView) (g : GraphView) (bits : List Bool) → IsGraphIn mode n g → All (λ bit. bit ≡ false) bits → (HasCycle (circuit_of n) (SkippedBy g) (marked_names g.latches bits) → ⊥) → IsAcyclicIn mode n
+acyclic_graph mode n g bits is none free cycle = free (subst (HasCycle (circuit_of n) (SkippedBy g)) (sym (marked_names-none g.latches bits none)) (cycle_in_graph mode n g is [] cycle))
 
 -- the cycle that is told
-pub told_cycle : (n : NetView) (g : GraphView) (bits : List Bool) (positions : List ℕ) → IsGraphIn Plain n g → All (λ bit. bit ≡ false) bits → All (λ j. j < length g.latches) positions →
+pub told_cycle : (mode : Mode) (n : NetView) (g : GraphView) (bits : List Bool) (positions : List ℕ) → IsGraphIn mode n g → All (λ bit. bit ≡ false) bits → All (λ j. j < length g.latches) positions →
     IsCycle (circuit_of n) (SkippedBy g) (marked_names g.latches bits) (signals_at g.latches positions) → BeginsWithLeast (circuit_of n) (signals_at g.latches positions) →
-    IsToldCycle Plain n [] (exposed_names n positions)
-told_cycle n g bits positions is none within cycle least = record {
+    IsToldCycle mode n [] (exposed_names n positions)
+told_cycle mode n g bits positions is none within cycle least = record {
   latches = signals_at n.latches positions;
-  cycle = subst (λ (ls : List LatchAt). IsCycle (circuit_of n) NoneEnabled [] (signals_at ls positions)) is.graph.latches
-      (subst (λ (names : List (List ℕ)). IsCycle (circuit_of n) NoneEnabled names (signals_at g.latches positions)) (marked_names-none g.latches bits none)
-      (mode_cycle Plain n g is (marked_names g.latches bits) (signals_at g.latches positions) cycle));
+  cycle = subst (λ (ls : List LatchAt). IsCycle (circuit_of n) (EnabledIn mode (circuit_of n)) [] (signals_at ls positions)) is.graph.latches
+      (subst (λ (names : List (List ℕ)). IsCycle (circuit_of n) (EnabledIn mode (circuit_of n)) names (signals_at g.latches positions)) (marked_names-none g.latches bits none)
+      (mode_cycle mode n g is (marked_names g.latches bits) (signals_at g.latches positions) cycle));
   least = subst (λ (ls : List LatchAt). BeginsWithLeast (circuit_of n) (signals_at ls positions)) is.graph.latches least;
   named = names_beside n positions (subst (λ (ls : List LatchAt). All (λ j. j < length ls) positions) is.graph.latches within);
 }

@@ -1,20 +1,19 @@
 -- No latch is cut open: the choice of none, and nets as they are.
-use Rattle.std.proofs.Common.{◌≡◌, ℕ, ◌<◌, Bool, false, List, [], ◌∷◌, map, length, refl, sym, ◌∙◌, ap, subst, arith}
-use Rattle.std.specs.List.{filter, Contains, AllPairs}
+use Rattle.std.proofs.Common.{◌≡◌, ℕ, ◌<◌, false, List, [], ◌∷◌, map, length, refl, sym, ◌∙◌, ap, subst, arith}
+use Rattle.std.specs.List.{filter}
 use Rattle.std.proofs.lemmas.List.{append-nil}
 use Rattle.std.proofs.lemmas.List.Elements.{All-nil}
-use Rattle.circuit_theory.specs.declared.Mode.TheVariants.{Plain}
-use Rattle.circuit_theory.specs.Agree.{cut, is_kept, IsMinimalCut}
+use Rattle.circuit_theory.specs.declared.Mode.{Mode}
+use Rattle.circuit_theory.specs.Agree.{cut, is_kept}
 use Rattle.circuit_theory.specs.Circuit.{Circuit, Equation, Gate, Latch, Port as port_equation}
-use Rattle.base_tables.specs.Table.{AreDistinct}
-use Rattle.interface.specs.flat_net.LatchAt.{LatchAt}
-use Rattle.interface.specs.flat_net.Cut.{latch_at, exposed_names, stays, IsCut, IsCutCircuit}
-use Rattle.interface.specs.flat_net.View.{NetView, circuit_of}
+use Rattle.sec_setup.specs.ports.flat_net.LatchAt.{LatchAt}
+use Rattle.sec_setup.specs.ports.flat_net.Cut.{latch_at, stays, IsCut, IsCutCircuit}
+use Rattle.sec_setup.specs.ports.flat_net.View.{NetView, circuit_of}
 use Rattle.sec_setup.specs.declared.cut_points.exposed.Exposure.{Exposure}
-use Rattle.sec_setup.specs.Cycles.{IsAcyclic}
-use Rattle.interface.specs.Pairing.{AreNamedAt}
+use Rattle.sec_setup.specs.Cycles.{IsAcyclicIn}
+use Rattle.sec_setup.specs.ports.Pairing.{AreNamedAt}
 use Rattle.sec_setup.specs.Cuts.{AreCutOpen, AreCutBy}
-use Rattle.sec_setup.specs.Choosing.{IsChosen}
+use Rattle.sec_setup.specs.Choosing.{IsChosenIn}
 
 all_stay : (ls : List LatchAt) → filter (stays []) ls ≡ ls
 all_stay [] = refl
@@ -59,9 +58,9 @@ uncut a b e chosen none = record {
 none_at : (n : NetView) → AreNamedAt n [] []
 none_at n = record { within = All-nil (λ j. j < length n.latches); distinct = λ i j x h k. absurd (cc); named = refl }
 
--- where no latch graph has a cycle, no latch is needed
-pub none_chosen : (a b : NetView) → IsAcyclic a → IsAcyclic b → IsChosen a b false (record { names = []; left = []; right = [] })
-none_chosen a b left right = record {
+-- where no latch lies on a cycle, no latch is needed
+pub none_chosen : (mode : Mode) (a b : NetView) → IsAcyclicIn mode a → IsAcyclicIn mode b → IsChosenIn mode a b false (record { names = []; left = []; right = [] })
+none_chosen mode a b left right = record {
   cut_open = record {
     minimal = record {
       common = λ name h. absurd (omega (arith, h.1));

@@ -1,1 +1,1 @@
-pub use Rattle.interface.proofs.flat_net.Nets
+pub use Rattle.flat_net.proofs.Nets

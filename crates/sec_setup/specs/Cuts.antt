@@ -1,25 +1,30 @@
 -- Which latches are cut open, and the nets in which they are cut out.
 use Rattle.std.specs.Prelude.{◌≡◌, ℕ, ◌<◌, Bool, true, false, List, [], ◌∷◌, ◌++◌, length, All}
 use Rattle.std.specs.List.{AllPairs}
+use Rattle.circuit_theory.specs.declared.Mode.{Mode}
 use Rattle.circuit_theory.specs.declared.Mode.TheVariants.{Plain}
 use Rattle.circuit_theory.specs.Agree.{IsMinimalCut}
 use Rattle.circuit_theory.specs.Interface.{shared_inputs}
-use Rattle.interface.specs.flat_net.Cut.{IsCut, IsCutCircuit, exposed_names}
-use Rattle.interface.specs.flat_net.View.{NetView, circuit_of, ports_of}
+use Rattle.sec_setup.specs.ports.flat_net.Cut.{IsCut, IsCutCircuit, exposed_names}
+use Rattle.sec_setup.specs.ports.flat_net.View.{NetView, circuit_of, ports_of}
 use Rattle.sec_setup.specs.declared.cut_points.exposed.Exposure.{Exposure}
-use Rattle.interface.specs.Pairing.{AreNamedAt}
+use Rattle.sec_setup.specs.ports.Pairing.{AreNamedAt}
 
 -- The names are a minimal cut, which has no name where no latch is to be cut open.
 pub record IsChoice (a b : NetView) (expose : Bool) (names : List (List ℕ)) : Type 0 where
   pub minimal : IsMinimalCut Plain (circuit_of a) (circuit_of b) names
   pub closed : expose ≡ false → names ≡ []
 
--- The latches that are cut open are a minimal cut: their names, in A's order, with their positions in both nets.
-pub record AreCutOpen (a b : NetView) (e : Exposure) : Type 0 where
-  pub minimal : IsMinimalCut Plain (circuit_of a) (circuit_of b) e.names
+-- The latches that are cut open are a minimal cut in this mode: their names, in A's order, with their positions in both nets.
+pub record AreCutOpenIn (mode : Mode) (a b : NetView) (e : Exposure) : Type 0 where
+  pub minimal : IsMinimalCut mode (circuit_of a) (circuit_of b) e.names
   pub in_order : AllPairs (λ i j. i < j) e.left
   pub left : AreNamedAt a e.names e.left
   pub right : AreNamedAt b e.names e.right
+
+-- the same in the plain mode
+abbrev pub AreCutOpen : NetView → NetView → Exposure → Type 0
+AreCutOpen a b e = AreCutOpenIn Plain a b e
 
 -- both nets with the chosen latches cut out
 pub record AreCutBy (a b : NetView) (e : Exposure) (m k : NetView) : Type 0 where

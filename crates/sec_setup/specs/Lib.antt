@@ -2,10 +2,9 @@ pub mod Choosing
 pub mod Cuts
 pub mod Cycles
 pub mod Matching
-pub mod Pairs
 pub mod Setup
 pub mod cut_points
-pub mod interface
+pub mod ports
 pub mod flat_net
 pub mod sec_base
 pub mod witness_report

@@ -1,7 +1,7 @@
 -- Interfaces that match, or the first name that is missing.
 use Rattle.std.specs.Prelude.{◌≡◌, ℕ, List, Some, None}
 use Rattle.circuit_theory.specs.Interface.{first_mismatch}
-use Rattle.interface.specs.flat_net.View.{NetView, ports_of}
+use Rattle.sec_setup.specs.ports.flat_net.View.{NetView, ports_of}
 use Rattle.sec_setup.specs.declared.error.SetupError.{SetupError}
 use Rattle.sec_setup.specs.declared.error.SetupError.TheVariants as refused
 

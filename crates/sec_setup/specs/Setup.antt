@@ -1,21 +1,26 @@
 -- What two circuits are compared by.
 use Rattle.std.specs.Prelude.{◌≡◌, ℕ, List, map, length}
 use Rattle.std.specs.List.{Contains}
+use Rattle.circuit_theory.specs.declared.Mode.{Mode}
 use Rattle.circuit_theory.specs.declared.Mode.TheVariants.{Plain}
 use Rattle.circuit_theory.specs.Interface.{shared_inputs, AreNumbersOf}
 use Rattle.base_tables.specs.Table.{AreDistinct}
-use Rattle.interface.specs.flat_net.View.{NetView, circuit_of, ports_of}
+use Rattle.sec_setup.specs.ports.flat_net.View.{NetView, circuit_of, ports_of}
 use Rattle.latch_graph.specs.Graph.{IsGraphIn}
 use Rattle.sec_setup.specs.declared.nets.Nets.{Nets}
 use Rattle.sec_setup.specs.declared.setup.Setup.{Setup}
 use Rattle.sec_setup.specs.Cuts.{AreCutAt, columns_of}
 use Rattle.sec_setup.specs.Cycles.{IsAcyclic}
-use Rattle.interface.specs.Pairs.{ArePairsOf, named_pairs, places_of}
+use Rattle.sec_setup.specs.ports.Pairs.{ArePairsOf, named_pairs, places_of}
 
--- the graphs are those of the nets
-pub record AreGraphed (n : Nets) : Type 0 where
-  pub left : IsGraphIn Plain n.left.now n.left_graph.now
-  pub right : IsGraphIn Plain n.right.now n.right_graph.now
+-- the graphs are those of the nets in this mode: in the event mode without the self-edges of enabled latches
+pub record AreGraphedIn (mode : Mode) (n : Nets) : Type 0 where
+  pub left : IsGraphIn mode n.left.now n.left_graph.now
+  pub right : IsGraphIn mode n.right.now n.right_graph.now
+
+-- the same in the plain mode
+abbrev pub AreGraphed : Nets → Type 0
+AreGraphed n = AreGraphedIn Plain n
 
 -- the numbers of the net's inputs: those of the named columns have their places there, and whatever is read is a column
 pub record AreColumns (n : NetView) (columns : List (List ℕ)) (own others : List ℕ) : Type 0 where

@@ -1,5 +1,5 @@
-pub use Rattle.interface.specs.flat_net.Cut
-pub use Rattle.interface.specs.flat_net.Sound
-pub use Rattle.interface.specs.flat_net.Table
-pub use Rattle.interface.specs.flat_net.View
-pub use Rattle.interface.specs.flat_net.Port
+pub use Rattle.flat_net.specs.Cut
+pub use Rattle.flat_net.specs.Sound
+pub use Rattle.base_tables.specs.Table
+pub use Rattle.flat_net.specs.View
+pub use Rattle.flat_net.specs.declared.parts.Port

@@ -1,2 +1,2 @@
-pub use Rattle.interface.specs.sec_base.PairAnswer
-pub use Rattle.interface.specs.sec_base.TheConstants
+pub use Rattle.sec_base.specs.declared.basics.PairAnswer
+pub use Rattle.sec_base.specs.declared.limits.TheConstants

@@ -1,4 +1,4 @@
-pub use Rattle.interface.specs.witness_report.Shown
-pub use Rattle.interface.specs.witness_report.Stimulus
-pub use Rattle.interface.specs.witness_report.PairName
-pub use Rattle.interface.specs.witness_report.Witness
+pub use Rattle.witness_report.specs.Shown
+pub use Rattle.witness_report.specs.declared.stimulus.Stimulus
+pub use Rattle.witness_report.specs.declared.witness.PairName
+pub use Rattle.witness_report.specs.declared.witness.Witness

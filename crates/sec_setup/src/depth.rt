@@ -5,13 +5,13 @@ ghost use Rattle.circuit_theory.specs.declared.Mode.TheVariants.{Plain};
 ghost use Rattle.circuit_theory.specs.Depth.{IsDepth};
 ghost use Rattle.circuit_theory.specs.Fits.{IsPairDepth};
 ghost use Rattle.circuit_theory.specs.Run.{NoneEnabled};
-ghost use Rattle.interface.specs.flat_net.View.{circuit_of};
+ghost use Rattle.sec_setup.specs.ports.flat_net.View.{circuit_of};
 ghost use Rattle.latch_graph.specs.signal_graph.Graph.{IsGraphIn};
 ghost use Rattle.sec_setup.specs.Cycles.{IsAcyclic};
 ghost use Rattle.sec_setup.specs.Setup.{IsSetup};
 
+use crate::ports::{Net, Signal};
 use crate::setup::Setup;
-use interface::{Net, Signal};
 use latch_graph::LatchGraph;
 
 /// The greater sequential depth of a signal of A and one of B, in cycles, in the nets that are compared.

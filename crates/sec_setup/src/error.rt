@@ -1,6 +1,6 @@
 //! Why two circuits can't be compared.
 
-use interface::{NoMemory, Side, Word, Words};
+use crate::ports::{NoMemory, Side, Word, Words};
 
 /// Why two circuits aren't set up for a comparison.
 #[derive(Drop)]

@@ -2,12 +2,12 @@
 
 ghost use Rattle.std.specs.Prelude.{◌≡◌, None, IfOk, IfErr, OnOk};
 ghost use Rattle.circuit_theory.specs.Interface.{first_mismatch, inputs_beside, shared_inputs, AreOrders};
-ghost use Rattle.interface.specs.flat_net.Comparable.{IsComparable};
-ghost use Rattle.interface.specs.flat_net.View.{ports_of};
+ghost use Rattle.sec_setup.specs.ports.flat_net.Comparable.{IsComparable};
+ghost use Rattle.sec_setup.specs.ports.flat_net.View.{ports_of};
 ghost use Rattle.sec_setup.specs.Matching.{InterfaceFails, RefusesName};
 
 use crate::error::SetupError;
-use interface::{
+use crate::ports::{
     NameTable, Net, Orders, Seq, first_mismatch, inputs_beside, orders_of, output_names,
 };
 use std::alloc::Global;

@@ -11,13 +11,14 @@ mod depth;
 mod error;
 mod interfaces;
 mod nets;
+pub mod ports;
 mod setup;
 
+pub use crate::ports::{SignalPair, SignalPairs};
 pub use choice::choose;
 pub use cycles::graph_of;
 pub use depth::pair_depth;
 pub use error::SetupError;
-pub use interface::{SignalPair, SignalPairs};
 pub use interfaces::{interface, shared_names};
 pub use latch_graph::LatchGraph;
 pub use nets::Nets;

@@ -1,7 +1,7 @@
 //! Two nets beside one another.
 
 use crate::cut_points::LatchGraph;
-use interface::Net;
+use crate::ports::Net;
 
 /// Two nets, A's and B's, and the latch graph of each.
 #[derive(Clone, Copy)]

@@ -3,16 +3,16 @@
 ghost use Rattle.std.specs.Prelude.{◌≡◌, ◌++◌, ◌+◌, ◌<◌, ◌^◌, length, IfOk};
 ghost use Rattle.circuit_theory.specs.Interface.{shared_inputs};
 ghost use Rattle.base_tables.specs.Table.{AreDistinct};
-ghost use Rattle.interface.specs.flat_net.Comparable.{IsComparable};
-ghost use Rattle.interface.specs.flat_net.View.{ports_of};
-ghost use Rattle.interface.specs.Numbered.{AreNumbered};
+ghost use Rattle.sec_setup.specs.ports.flat_net.Comparable.{IsComparable};
+ghost use Rattle.sec_setup.specs.ports.flat_net.View.{ports_of};
+ghost use Rattle.sec_setup.specs.ports.Numbered.{AreNumbered};
 ghost use Rattle.sec_setup.specs.Cuts.{is_cut, AreCutBy, AreCutOpen};
 ghost use Rattle.sec_setup.specs.Matching.{InterfacesMatch};
 ghost use Rattle.sec_setup.specs.Setup.{AreGraphed, IsSetupOf};
 
 use crate::cut_points::{Exposure, LatchGraph};
 use crate::nets::Nets;
-use interface::{NameTable, Net, NoMemory, Orders, SignalPairs, Words, orders_of, pairs_of};
+use crate::ports::{NameTable, Net, NoMemory, Orders, SignalPairs, Words, orders_of, pairs_of};
 use std::alloc::Global;
 
 /// What two circuits are compared by: the nets in which the exposed latches are cut out, which are the circuits' own nets where none

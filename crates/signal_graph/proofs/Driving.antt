@@ -2,19 +2,19 @@
 use Rattle.std.proofs.Common.{◌≡◌, ◌≢◌, ℕ, zero, suc, ◌<◌, Bool, true, false, List, [], ◌∷◌, length, map, Option, Some, None, refl, sym, ◌∙◌, ap, subst, arith, inr}
 use Rattle.std.specs.Prelude.{slice_get}
 use Rattle.std.specs.List.{Contains}
-use Rattle.inner_cone.specs.flat_net.Signal.{Signal}
-use Rattle.inner_cone.specs.flat_net.Gate.{Gate}
-use Rattle.inner_cone.specs.flat_net.LatchAt.{LatchAt}
-use Rattle.inner_cone.specs.flat_net.Driver.{Driver}
-use Rattle.inner_cone.specs.flat_net.Driver.TheVariants as driver
-use Rattle.inner_cone.specs.flat_net.View.{NetView, circuit_of, cover_of}
-use Rattle.inner_cone.specs.flat_net.Sound.{Drives}
-use Rattle.inner_cone.proofs.flat_net.Places.{one_at, All-at}
-use Rattle.inner_cone.proofs.flat_net.Nets.{some_at, gate_stands, latch_stands, input_stands, sound_is_net}
-use Rattle.inner_cone.specs.circuit_theory.Circuit.{Gate as gate_equation, IsInput, IsLatch, IsSource, Reaches}
-use Rattle.inner_cone.specs.circuit_theory.Net.{IsNet}
-use Rattle.inner_cone.proofs.circuit_theory.Lists.{at_of, of_at}
-use Rattle.inner_cone.proofs.Walks.{reach_on}
+use Rattle.signal_graph.specs.inner_cone.flat_net.Signal.{Signal}
+use Rattle.signal_graph.specs.inner_cone.flat_net.Gate.{Gate}
+use Rattle.signal_graph.specs.inner_cone.flat_net.LatchAt.{LatchAt}
+use Rattle.signal_graph.specs.inner_cone.flat_net.Driver.{Driver}
+use Rattle.signal_graph.specs.inner_cone.flat_net.Driver.TheVariants as driver
+use Rattle.signal_graph.specs.inner_cone.flat_net.View.{NetView, circuit_of, cover_of}
+use Rattle.signal_graph.specs.inner_cone.flat_net.Sound.{Drives}
+use Rattle.signal_graph.proofs.inner_cone.flat_net.Places.{one_at, All-at}
+use Rattle.signal_graph.proofs.inner_cone.flat_net.Nets.{some_at, gate_stands, latch_stands, input_stands, sound_is_net}
+use Rattle.signal_graph.specs.inner_cone.circuit_theory.Circuit.{Gate as gate_equation, IsInput, IsLatch, IsSource, Reaches}
+use Rattle.signal_graph.specs.inner_cone.circuit_theory.Net.{IsNet}
+use Rattle.signal_graph.proofs.inner_cone.circuit_theory.Lists.{at_of, of_at}
+use Rattle.signal_graph.proofs.inner_cone.latch_cone.Walks.{reach_on}
 use Rattle.signal_graph.specs.declared.nodes.Node.{Node}
 use Rattle.std.proofs.lemmas.Option.{slice_get_within}
 use Rattle.signal_graph.specs.Graph.{GraphView, IsNodeOf, IsGraphOf, AreNodes, AreTaken, SkippedBy}

@@ -3,13 +3,13 @@ use Rattle.std.proofs.Common.{◌≡◌, ℕ, Bool, List, [], length, map, Some,
 use Rattle.std.specs.Prelude.{slice_get}
 use Rattle.std.specs.List.{Contains}
 use Rattle.std.proofs.lemmas.List.Elements.{All-contains}
-use Rattle.inner_cone.specs.flat_net.Signal.{Signal}
-use Rattle.inner_cone.specs.flat_net.LatchAt.{LatchAt}
-use Rattle.inner_cone.specs.flat_net.View.{NetView, circuit_of, cover_of}
-use Rattle.inner_cone.proofs.flat_net.Nets.{sound_is_net}
-use Rattle.inner_cone.specs.circuit_theory.Circuit.{Equation, Gate as gate_equation, Latch as latch_equation, Port as port_equation, IsLatch, Reads}
-use Rattle.inner_cone.specs.circuit_theory.Net.{IsNet, IsAbove}
-use Rattle.inner_cone.proofs.circuit_theory.Lists.{Contains-map, Contains-map_from, at_of, of_at}
+use Rattle.signal_graph.specs.inner_cone.flat_net.Signal.{Signal}
+use Rattle.signal_graph.specs.inner_cone.flat_net.LatchAt.{LatchAt}
+use Rattle.signal_graph.specs.inner_cone.flat_net.View.{NetView, circuit_of, cover_of}
+use Rattle.signal_graph.proofs.inner_cone.flat_net.Nets.{sound_is_net}
+use Rattle.signal_graph.specs.inner_cone.circuit_theory.Circuit.{Equation, Gate as gate_equation, Latch as latch_equation, Port as port_equation, IsLatch, Reads}
+use Rattle.signal_graph.specs.inner_cone.circuit_theory.Net.{IsNet, IsAbove}
+use Rattle.signal_graph.proofs.inner_cone.circuit_theory.Lists.{Contains-map, Contains-map_from, at_of, of_at}
 use Rattle.signal_graph.specs.declared.nodes.Node.{Node}
 use Rattle.signal_graph.specs.Graph.{GraphView, IsGraphOf, AreTaken}
 use Rattle.signal_graph.proofs.Driving.{Driven, driven, nothing_at, none_some}

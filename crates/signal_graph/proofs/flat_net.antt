@@ -1,4 +1,4 @@
-pub use Rattle.inner_cone.proofs.flat_net.CutNets
-pub use Rattle.inner_cone.proofs.flat_net.Growth
-pub use Rattle.inner_cone.proofs.flat_net.Nets
-pub use Rattle.inner_cone.proofs.flat_net.Places
+pub use Rattle.flat_net.proofs.CutNets
+pub use Rattle.flat_net.proofs.Growth
+pub use Rattle.flat_net.proofs.Nets
+pub use Rattle.flat_net.proofs.Places

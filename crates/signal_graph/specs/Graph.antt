@@ -1,16 +1,16 @@
 -- What a contract sees of a latch graph, and of which net it is the graph.
 use Rattle.std.specs.Prelude.{◌≡◌, ℕ, Bool, true, false, List, [], ◌∷◌, length, map, slice_get, slice_index_or, Option, Some, None, ◌^◌, ◌<◌}
-use Rattle.inner_cone.specs.Cones.{IsMarkedBy, MarksEnabled}
-use Rattle.inner_cone.specs.Sides.{AreSides}
-use Rattle.inner_cone.specs.flat_net.Signal.{Signal}
-use Rattle.inner_cone.specs.flat_net.Gate.{Gate}
-use Rattle.inner_cone.specs.flat_net.LatchAt.{LatchAt}
-use Rattle.inner_cone.specs.flat_net.Driver.{Driver}
-use Rattle.inner_cone.specs.flat_net.Driver.TheVariants as driver
-use Rattle.inner_cone.specs.flat_net.View.{NetView}
-use Rattle.inner_cone.specs.circuit_theory.Mode.{Mode}
-use Rattle.inner_cone.specs.flat_net.Sound.{IsSound}
-use Rattle.inner_cone.specs.flat_net.Cut.{no_latch}
+use Rattle.signal_graph.specs.inner_cone.latch_cone.Cones.{IsMarkedBy, MarksEnabled}
+use Rattle.signal_graph.specs.inner_cone.Sides.{AreSides}
+use Rattle.signal_graph.specs.inner_cone.flat_net.Signal.{Signal}
+use Rattle.signal_graph.specs.inner_cone.flat_net.Gate.{Gate}
+use Rattle.signal_graph.specs.inner_cone.flat_net.LatchAt.{LatchAt}
+use Rattle.signal_graph.specs.inner_cone.flat_net.Driver.{Driver}
+use Rattle.signal_graph.specs.inner_cone.flat_net.Driver.TheVariants as driver
+use Rattle.signal_graph.specs.inner_cone.flat_net.View.{NetView}
+use Rattle.signal_graph.specs.inner_cone.circuit_theory.Mode.{Mode}
+use Rattle.signal_graph.specs.inner_cone.flat_net.Sound.{IsSound}
+use Rattle.signal_graph.specs.inner_cone.flat_net.Cut.{no_latch}
 use Rattle.signal_graph.specs.declared.nodes.Node.{Node}
 
 pub record GraphView : Type 0 where

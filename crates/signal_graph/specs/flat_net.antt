@@ -1,8 +1,8 @@
-pub use Rattle.inner_cone.specs.flat_net.Cut
-pub use Rattle.inner_cone.specs.flat_net.Sound
-pub use Rattle.inner_cone.specs.flat_net.Table
-pub use Rattle.inner_cone.specs.flat_net.View
-pub use Rattle.inner_cone.specs.flat_net.Driver
-pub use Rattle.inner_cone.specs.flat_net.Gate
-pub use Rattle.inner_cone.specs.flat_net.LatchAt
-pub use Rattle.inner_cone.specs.flat_net.Signal
+pub use Rattle.flat_net.specs.Cut
+pub use Rattle.flat_net.specs.Sound
+pub use Rattle.base_tables.specs.Table
+pub use Rattle.flat_net.specs.View
+pub use Rattle.flat_net.specs.declared.parts.Driver
+pub use Rattle.flat_net.specs.declared.parts.Gate
+pub use Rattle.flat_net.specs.declared.parts.LatchAt
+pub use Rattle.flat_net.specs.declared.signals.Signal

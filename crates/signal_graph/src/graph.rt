@@ -1,12 +1,12 @@
 //! The readings of all signals of a net.
 
 ghost use Rattle.std.specs.Prelude.{◌≡◌, length, IfOk};
-ghost use Rattle.inner_cone.specs.circuit_theory.Mode.{Mode};
-ghost use Rattle.inner_cone.specs.Cones.{MarksEnabled};
+ghost use Rattle.signal_graph.specs.inner_cone.circuit_theory.Mode.{Mode};
+ghost use Rattle.signal_graph.specs.inner_cone.latch_cone.Cones.{MarksEnabled};
 ghost use Rattle.signal_graph.specs.Graph.{AreNodes, IsGraphOf, IsGraphIn};
 
+use crate::inner_cone::{Bits, LatchAt, Net, NoMemory};
 use crate::nodes::{Node, copy_latches, nodes_of};
-use inner_cone::{Bits, LatchAt, Net, NoMemory};
 use std::alloc::Global;
 use std::marker::Model;
 

@@ -1,12 +1,12 @@
 //! What each signal reads.
 
 ghost use Rattle.std.specs.Prelude.{◌≡◌, ◌<◌, ℕ, length, slice_get, Some, IfOk};
-ghost use Rattle.inner_cone.specs.Inner.{AreRanked};
-ghost use Rattle.inner_cone.specs.flat_net.Driver.{Driver};
+ghost use Rattle.signal_graph.specs.inner_cone.Inner.{AreRanked};
+ghost use Rattle.signal_graph.specs.inner_cone.flat_net.Driver.{Driver};
 ghost use Rattle.signal_graph.specs.declared.nodes.Node.{Node};
 ghost use Rattle.signal_graph.specs.Graph.{IsNodeOf, AreTaken};
 
-use inner_cone::{
+use crate::inner_cone::{
     Driver, Duplicate, Ids, LatchAt, Net, NoMemory, Signal, Signals, ranks, sides_of,
 };
 use std::alloc::Global;

@@ -1,8 +1,9 @@
 //! What a text in the AIGER formats spells, in words.
 
+use crate::pieces::{show_numbers, show_words};
+use crate::row_text::{show, show_count, show_word};
 use aiger_read::aiger_file::{AigerError, AigerFile, AigerKind, read_file};
 use aiger_records::Record;
-use row_text::{show, show_count, show_word};
 use sec_base::MAX_FILE_BYTES;
 use std::rt::HostRuntime;
 
@@ -23,58 +24,34 @@ fn word_of(kind: AigerKind) -> &'static [u8] {
     }
 }
 
-fn show_gate(rt: &HostRuntime, literal: u64, left: u64, right: u64) {
-    show_word(rt, b"gate");
-    show_count(rt, literal);
-    show_count(rt, left);
-    show_count(rt, right);
-}
-
-/// Shows a record; a gate by its operands in both forms.
-fn show_record(rt: &HostRuntime, found: Record) {
-    match found {
-        Record::Input { literal } => {
-            show_word(rt, b"input");
-            show_count(rt, literal);
-        }
-        Record::Latch {
-            literal,
-            next,
-            reset,
-        } => {
-            show_word(rt, b"latch");
-            show_count(rt, literal);
-            show_count(rt, next);
-            show_count(rt, reset);
-        }
-        Record::Output { literal } => {
-            show_word(rt, b"output");
-            show_count(rt, literal);
-        }
-        Record::Gate {
-            literal,
-            left,
-            right,
-        } => show_gate(rt, literal, left, right),
-        Record::Packed {
-            literal,
-            first,
-            second,
-        } => {
-            let left = literal.saturating_sub(first);
-            show_gate(rt, literal, left, left.saturating_sub(second));
-        }
-    }
-}
-
+/// Shows the records, a gate by its operands in both forms, and the names.
 fn show_file(rt: &HostRuntime, file: &AigerFile) {
     for found in file.records.as_slice() {
-        show_record(rt, *found);
+        match *found {
+            Record::Input { literal } => show_numbers(rt, b" input", &[literal]),
+            Record::Latch {
+                literal,
+                next,
+                reset,
+            } => show_numbers(rt, b" latch", &[literal, next, reset]),
+            Record::Output { literal } => show_numbers(rt, b" output", &[literal]),
+            Record::Gate {
+                literal,
+                left,
+                right,
+            } => show_numbers(rt, b" gate", &[literal, left, right]),
+            Record::Packed {
+                literal,
+                first,
+                second,
+            } => {
+                let left = literal.saturating_sub(first);
+                show_numbers(rt, b" gate", &[literal, left, left.saturating_sub(second)]);
+            }
+        }
     }
-    show_word(rt, b"names");
-    for name in file.symbols.names.as_slice() {
-        show_word(rt, name.as_slice());
-    }
+    show(rt, b" names");
+    show_words(rt, &file.symbols.names);
 }
 
 /// Shows what the text spells, or its first fault.
@@ -85,8 +62,8 @@ pub(crate) fn show_text(rt: &HostRuntime, text: &[u8]) {
     match read_file(rt.alloc(), text) {
         Ok(file) => show_file(rt, &file),
         Err(AigerError::At { place, kind }) => {
-            show_word(rt, b"record");
-            show_count(rt, u64::from(place));
+            show(rt, b" record");
+            show_count(rt, place as u64);
             show_word(rt, word_of(kind));
         }
         Err(AigerError::NoMemory) => show(rt, b" no memory"),

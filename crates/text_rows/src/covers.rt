@@ -1,55 +1,40 @@
 //! The values of a design's covers.
 
-ghost use Rattle.std.specs.Prelude.{◌≡◌, ◌≤◌, length, vec_len, IfOk};
+ghost use Rattle.std.specs.Prelude.{◌≡◌, ◌≤◌};
 
+use crate::row_text::{show, show_bit};
 use blif_read::{Design, Statement};
-use row_text::{show, show_bit};
-use sec_base::{Cover, NoMemory};
-use std::alloc::Global;
+use sec_base::Cover;
 use std::rt::HostRuntime;
 
-/// The bits of a number, the highest first.
-fn bits_of(alloc: Global, number: u32, width: usize) -> Result<Vec<bool>, NoMemory>
-    requires { width ≤ 8 }
-    ensures { IfOk result (λ bits. vec_len bits ≡ width) }
-{
-    let mut bits = vec![in alloc; false; width]?;
-    let mut left = number;
-    for bit in bits.iter_mut().rev() {
-        *bit = left % 2 == 1;
-        left /= 2;
-    }
-    Ok(bits)
-}
-
-/// Shows the value of the cover under the bits, and whether the copy has another.
-fn show_value(rt: &HostRuntime, cover: &Cover, copy: &Cover, bits: &[bool])
-    requires cover { length bits.now ≡ cover.now.width }
-    requires copy { copy.now ≡ cover.now }
-{
-    let value = cover.value(bits);
-    show_bit(rt, value);
-    if copy.value(bits) != value {
-        show(rt, b" and the copy another");
-    }
-}
-
-/// Shows the values of the cover and of a copy of it.
+/// Shows the values of the cover, and whether a copy of it has another.
 fn show_values(rt: &HostRuntime, cover: &Cover, copy: &Cover)
     requires width { cover.now.width ≤ 8 }
     requires copy { copy.now ≡ cover.now }
 {
-    let width = cover.width();
+    let width = cover.width() as usize;
     show(rt, b" ");
     for number in 0..1u32 << width {
-        match bits_of(rt.alloc(), number, width as usize) {
-            Ok(bits) => show_value(rt, cover, copy, bits.as_slice()),
-            Err(_) => show(rt, b" no-memory"),
+        let all = [
+            number / 128 % 2 == 1,
+            number / 64 % 2 == 1,
+            number / 32 % 2 == 1,
+            number / 16 % 2 == 1,
+            number / 8 % 2 == 1,
+            number / 4 % 2 == 1,
+            number / 2 % 2 == 1,
+            number % 2 == 1,
+        ];
+        let bits = &all[8 - width..];
+        let value = cover.value(bits);
+        show_bit(rt, value);
+        if copy.value(bits) != value {
+            show(rt, b" and the copy another");
         }
     }
 }
 
-/// Shows the values of the cover and of a copy of it, where there are few fan-ins.
+/// Shows the values of the cover and of a copy of it, where it has few fan-ins.
 fn show_cover(rt: &HostRuntime, cover: &Cover) {
     if cover.width() > 8 {
         return show(rt, b" wide");

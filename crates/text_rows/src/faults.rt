@@ -1,65 +1,38 @@
 //! Faults of designs, in words.
 
+use crate::pieces::{show_short, show_words};
+use crate::row_text::show;
 use flatten::FlatError;
-use row_text::{show, show_word};
-use sec_base::Words;
+use sec_base::Word;
 use std::rt::HostRuntime;
 
-/// Shows a blank and the word; of a long one dots.
-pub(crate) fn show_short(rt: &HostRuntime, word: &[u8]) {
-    show_word(rt, if word.len() > 4_000 { b"..." } else { word });
-}
-
 /// Shows the kind and the name.
-pub(crate) fn show_named(rt: &HostRuntime, kind: &[u8], name: &[u8]) {
-    show_word(rt, kind);
-    show_short(rt, name);
-}
-
-fn word_of(error: &FlatError) -> &'static [u8] {
-    match error {
-        FlatError::UnknownModel(_) => b"UnknownModel",
-        FlatError::Recursive(_) => b"Recursive",
-        FlatError::UnknownFormal(_) => b"UnknownFormal",
-        FlatError::FormalTwice(_) => b"FormalTwice",
-        FlatError::OpenInput(_) => b"OpenInput",
-        FlatError::TwoDrivers(_) => b"TwoDrivers",
-        FlatError::Undriven(_) => b"Undriven",
-        FlatError::TwoClocks(_) => b"TwoClocks",
-        FlatError::TwoEdges(_) => b"TwoEdges",
-        FlatError::GatedClock(_) => b"GatedClock",
-        FlatError::ClockRead(_) => b"ClockRead",
-        FlatError::TooDeep(_) => b"TooDeep",
-        FlatError::Loop(_) => b"Loop",
-        FlatError::TooMany => b"TooMany",
-        FlatError::LongName => b"LongName",
-        FlatError::NoMemory => b"NoMemory",
-    }
-}
-
-fn show_words(rt: &HostRuntime, words: &Words) {
-    for word in words.as_slice() {
-        show_word(rt, word.as_slice());
-    }
+fn show_named(rt: &HostRuntime, kind: &[u8], name: &Word) {
+    show(rt, kind);
+    show_short(rt, name.as_slice());
 }
 
 fn show_told(rt: &HostRuntime, error: &FlatError) {
-    show_word(rt, word_of(error));
     match error {
-        FlatError::UnknownModel(name)
-        | FlatError::Recursive(name)
-        | FlatError::UnknownFormal(name)
-        | FlatError::FormalTwice(name)
-        | FlatError::OpenInput(name)
-        | FlatError::TwoDrivers(name)
-        | FlatError::Undriven(name)
-        | FlatError::TwoClocks(name)
-        | FlatError::TwoEdges(name)
-        | FlatError::GatedClock(name)
-        | FlatError::ClockRead(name)
-        | FlatError::TooDeep(name) => show_short(rt, name.as_slice()),
-        FlatError::Loop(names) => show_words(rt, names),
-        _ => {}
+        FlatError::UnknownModel(name) => show_named(rt, b" UnknownModel", name),
+        FlatError::Recursive(name) => show_named(rt, b" Recursive", name),
+        FlatError::UnknownFormal(name) => show_named(rt, b" UnknownFormal", name),
+        FlatError::FormalTwice(name) => show_named(rt, b" FormalTwice", name),
+        FlatError::OpenInput(name) => show_named(rt, b" OpenInput", name),
+        FlatError::TwoDrivers(name) => show_named(rt, b" TwoDrivers", name),
+        FlatError::Undriven(name) => show_named(rt, b" Undriven", name),
+        FlatError::TwoClocks(name) => show_named(rt, b" TwoClocks", name),
+        FlatError::TwoEdges(name) => show_named(rt, b" TwoEdges", name),
+        FlatError::GatedClock(name) => show_named(rt, b" GatedClock", name),
+        FlatError::ClockRead(name) => show_named(rt, b" ClockRead", name),
+        FlatError::TooDeep(name) => show_named(rt, b" TooDeep", name),
+        FlatError::Loop(names) => {
+            show(rt, b" Loop");
+            show_words(rt, names);
+        }
+        FlatError::TooMany => show(rt, b" TooMany"),
+        FlatError::LongName => show(rt, b" LongName"),
+        FlatError::NoMemory => show(rt, b" NoMemory"),
     }
 }
 

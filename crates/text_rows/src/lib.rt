@@ -22,65 +22,62 @@ mod functions;
 mod lines;
 mod made;
 mod nets;
+mod pieces;
+pub mod row_text;
 mod walks;
 
 ghost use Rattle.std.specs.Prelude.{◌≤◌, length};
 
+use crate::row_text::{file_of, show, split_at, text_of};
 use aiger_files::show_text;
-use blif_read::{Design, ReadError, read_design};
+use blif_read::{Design, read_design};
 use covers::show_covers;
 use designs::{show_error, show_models};
+use functions::show_function;
 use lines::show_lines;
 use made::show_made;
 use nets::show_flattened;
-use row_text::{file_of, show, split_at, text_of};
 use sec_base::MAX_FILE_BYTES;
 use std::rt::HostRuntime;
 use walks::show_walk;
 
 /// What a row's text, or its design, is asked for.
-#[derive(Clone, Copy)]
 enum Asked {
     Lines,
     Design,
     Covers,
     Aiger,
-    Walk,
-    Wires,
-    Net,
-    Cut,
+    /// The walk, or with `wires` the fault of its drivers and clocks.
+    Walk { wires: bool },
+    /// The net, and with `cut` what is found in it and the net without its first latch.
+    Net { cut: bool },
     Function,
 }
 
-fn show_of_design(rt: &HostRuntime, asked: Asked, design: &Design) {
+fn show_of_design(rt: &HostRuntime, asked: &Asked, design: &Design) {
     match asked {
         Asked::Covers => show_covers(rt, design),
-        Asked::Walk => show_walk(rt, design, false),
-        Asked::Wires => show_walk(rt, design, true),
-        Asked::Net => show_flattened(rt, design, false),
-        Asked::Cut => show_flattened(rt, design, true),
+        Asked::Walk { wires } => show_walk(rt, design, *wires),
+        Asked::Net { cut } => show_flattened(rt, design, *cut),
         _ => show_models(rt, design.models.as_slice()),
     }
 }
 
-fn show_read_fault(rt: &HostRuntime, asked: Asked, error: &ReadError) {
-    match asked {
-        Asked::Design => show_error(rt, error),
-        _ => show(rt, b" no design"),
-    }
-}
-
 /// Shows what is asked of a design that the text spells.
-fn show_read(rt: &HostRuntime, asked: Asked, text: &[u8])
+fn show_read(rt: &HostRuntime, asked: &Asked, text: &[u8])
     requires { length text.now ≤ 16777216 }
 {
     match read_design(rt.alloc(), text) {
         Ok(design) => show_of_design(rt, asked, &design),
-        Err(error) => show_read_fault(rt, asked, &error),
+        Err(error) => match asked {
+            Asked::Design => show_error(rt, &error),
+            _ => show(rt, b" no design"),
+        },
     }
 }
 
-fn show_told(rt: &HostRuntime, asked: Asked, text: &[u8]) {
+/// Shows what is told of the text.
+fn show_told(rt: &HostRuntime, asked: &Asked, text: &[u8]) {
     if text.len() > MAX_FILE_BYTES as usize {
         return show(rt, b" too long");
     }
@@ -91,20 +88,22 @@ fn show_told(rt: &HostRuntime, asked: Asked, text: &[u8]) {
     }
 }
 
-fn show_row(rt: &HostRuntime, asked: Asked, row: &[u8], long: &[u8]) {
-    if let Asked::Function = asked {
-        return functions::show_row(rt, row);
-    }
-    let (name, marks) = split_at(b'\t', row);
+/// Shows a name and what is told behind it, where `@` in a text stands for the long name.
+fn show_row(rt: &HostRuntime, asked: &Asked, row: &[u8], long: &[u8]) {
+    let is_function = matches!(asked, Asked::Function);
+    let (name, marks) = split_at(if is_function { b':' } else { b'\t' }, row);
     show(rt, name);
     show(rt, b":");
-    let text = text_of(rt.alloc(), marks, long);
-    show_told(rt, asked, text.bytes());
+    if is_function {
+        show_function(rt, marks);
+    } else {
+        show_told(rt, asked, text_of(rt.alloc(), marks, long).bytes());
+    }
     show(rt, b"\n");
 }
 
-/// Shows what each row of the file tells, one on a line, where `@` stands for the long name.
-fn show_file(rt: &HostRuntime, asked: Asked, path: &str, long: &[u8]) {
+/// Shows what each row of the file tells, one on a line.
+fn show_file(rt: &HostRuntime, asked: &Asked, path: &str, long: &[u8]) {
     let Some(rows) = file_of(rt, path) else {
         return show(rt, b"no rows\n");
     };
@@ -121,15 +120,15 @@ fn show_file(rt: &HostRuntime, asked: Asked, path: &str, long: &[u8]) {
 /// Shows what the rows of each file tell, and behind those of designs a net that is made by hand.
 pub fn show_rows(rt: &HostRuntime) {
     let text = [b'n'; 4_096];
-    show_file(rt, Asked::Lines, "lines", &text);
-    show_file(rt, Asked::Design, "designs", &text);
-    show_file(rt, Asked::Covers, "covers", &text);
-    show_file(rt, Asked::Aiger, "aiger", &text);
+    show_file(rt, &Asked::Lines, "lines", &text);
+    show_file(rt, &Asked::Design, "designs", &text);
+    show_file(rt, &Asked::Covers, "covers", &text);
+    show_file(rt, &Asked::Aiger, "aiger", &text);
     let part = [b'x'; 4_093];
-    show_file(rt, Asked::Walk, "walks", &part);
-    show_file(rt, Asked::Wires, "wires", &part);
-    show_file(rt, Asked::Net, "nets", &part);
-    show_file(rt, Asked::Cut, "cuts", &part);
+    show_file(rt, &Asked::Walk { wires: false }, "walks", &part);
+    show_file(rt, &Asked::Walk { wires: true }, "wires", &part);
+    show_file(rt, &Asked::Net { cut: false }, "nets", &part);
+    show_file(rt, &Asked::Net { cut: true }, "cuts", &part);
     show_made(rt);
-    show_file(rt, Asked::Function, "functions", &part);
+    show_file(rt, &Asked::Function, "functions", &part);
 }

@@ -2,43 +2,27 @@
 
 ghost use Rattle.std.specs.Prelude.{◌≤◌, length};
 
-use crate::designs::show_marked;
+use crate::pieces::show_marked;
+use crate::row_text::{show, show_number};
 use blif_read::blif_lines::{Lines, RawLine, tokens_of};
-use row_text::{show, show_number};
 use std::rt::HostRuntime;
 
 fn show_tokens(rt: &HostRuntime, tokens: &[&[u8]]) {
-    for (at, token) in tokens.iter().enumerate() {
-        if at > 0 {
-            show(rt, b",");
-        }
-        show_marked(rt, token);
+    let mut before: &[u8] = b"";
+    for token in tokens {
+        show_marked(rt, before, token);
+        before = b",";
     }
 }
 
-/// Shows the number of a line, and its tokens.
-fn show_line(rt: &HostRuntime, line: &RawLine) {
-    show_number(rt, u64::from(line.number));
+/// Shows what parts the line from the one before, its number, and its tokens.
+fn show_line(rt: &HostRuntime, before: &[u8], line: &RawLine) {
+    show(rt, before);
+    show_number(rt, line.number as u64);
     show(rt, b":");
     match tokens_of(rt.alloc(), line.bytes.as_slice()) {
         Ok(tokens) => show_tokens(rt, tokens.as_slice()),
         Err(_) => show(rt, b" no-memory"),
-    }
-}
-
-/// Shows the next line behind what parts it from the one before, and whether there may be another.
-fn show_next(rt: &HostRuntime, lines: &mut Lines<'_>, before: &[u8]) -> bool {
-    match lines.next_line(rt.alloc()) {
-        Ok(Some(line)) => {
-            show(rt, before);
-            show_line(rt, &line);
-            true
-        }
-        Ok(None) => false,
-        Err(_) => {
-            show(rt, b" no-memory");
-            false
-        }
     }
 }
 
@@ -49,8 +33,10 @@ pub(crate) fn show_lines(rt: &HostRuntime, text: &[u8])
     let mut lines = Lines::new(text);
     let mut before: &[u8] = b" ";
     for _ in 0..=text.len() {
-        if !show_next(rt, &mut lines, before) {
-            break;
+        match lines.next_line(rt.alloc()) {
+            Ok(Some(line)) => show_line(rt, before, &line),
+            Ok(None) => return,
+            Err(_) => return show(rt, b" no-memory"),
         }
         before = b";";
     }

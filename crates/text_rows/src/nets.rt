@@ -1,14 +1,17 @@
 //! Nets, in words.
 
-use crate::cuts::show_cuts;
-use crate::faults::{show_fault, show_named, show_short};
+use crate::cuts::{show_places, show_values, show_without_first};
+use crate::faults::show_fault;
+use crate::pieces::show_short;
+use crate::row_text::show;
 use blif_read::Design;
 use flat_net::{Net, Port};
 use flatten::flatten;
-use row_text::show;
 use std::rt::HostRuntime;
 
-fn show_ports(rt: &HostRuntime, ports: &[Port]) {
+/// Shows what stands before the ports, and a blank and the name, of each.
+fn show_ports(rt: &HostRuntime, before: &[u8], ports: &[Port]) {
+    show(rt, before);
     for port in ports {
         show_short(rt, port.name.as_slice());
     }
@@ -16,20 +19,21 @@ fn show_ports(rt: &HostRuntime, ports: &[Port]) {
 
 /// Shows the net: its inputs, outputs, latches, gates and clock by their names.
 pub(crate) fn show_net(rt: &HostRuntime, net: &Net) {
-    show(rt, b" in");
-    show_ports(rt, net.inputs());
-    show(rt, b" out");
-    show_ports(rt, net.outputs());
+    show_ports(rt, b" in", net.inputs());
+    show_ports(rt, b" out", net.outputs());
     for latch in net.latches() {
-        show_named(rt, b"latch", latch.name.as_slice());
+        show(rt, b" latch");
+        show_short(rt, latch.name.as_slice());
     }
     for gate in net.gates() {
         if gate.out.0 < net.size() {
-            show_named(rt, b"gate", net.name(gate.out));
+            show(rt, b" gate");
+            show_short(rt, net.name(gate.out));
         }
     }
     if let Some(clock) = net.clock() {
-        show_named(rt, b"clock", clock);
+        show(rt, b" clock");
+        show_short(rt, clock);
     }
 }
 
@@ -39,7 +43,9 @@ pub(crate) fn show_flattened(rt: &HostRuntime, design: &Design, cut: bool) {
         Ok(net) => {
             show_net(rt, &net);
             if cut {
-                show_cuts(rt, &net);
+                show_places(rt, &net);
+                show_values(rt, &net);
+                show_without_first(rt, &net);
             }
         }
         Err(error) => show_fault(rt, error),

@@ -1,28 +1,25 @@
 //! Walks over designs, and the faults of their drivers and clocks.
 
 use crate::faults::show_fault;
+use crate::row_text::show;
 use blif_read::Design;
 use connectivity::wire;
-use elaborate::{Flat, FlatKind, FlatStatement, walk};
-use row_text::show;
+use elaborate::{Flat, FlatKind, walk};
 use std::rt::HostRuntime;
 
-fn show_statement(rt: &HostRuntime, flat: &Flat, statement: &FlatStatement) {
-    match &statement.kind {
-        FlatKind::Gate { .. } => show(rt, b"g "),
-        FlatKind::Latch { .. } => show(rt, b"l "),
-        FlatKind::Port => show(rt, b"p "),
-    }
-    if statement.out < flat.names.len() {
-        show(rt, flat.name(statement.out));
-    }
-    show(rt, b",");
-}
-
+/// Shows the kind of each flat statement, and the signal that it drives.
 fn show_statements(rt: &HostRuntime, flat: &Flat) {
     show(rt, b" ");
     for statement in flat.statements.as_slice() {
-        show_statement(rt, flat, statement);
+        match statement.kind {
+            FlatKind::Gate { .. } => show(rt, b"g "),
+            FlatKind::Latch { .. } => show(rt, b"l "),
+            FlatKind::Port => show(rt, b"p "),
+        }
+        if statement.out < flat.names.len() {
+            show(rt, flat.name(statement.out));
+        }
+        show(rt, b",");
     }
 }
 

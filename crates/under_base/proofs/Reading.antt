@@ -15,8 +15,8 @@ use Rattle.outcome_fits.proofs.CutNets.{cut_numbers}
 use Rattle.assume_laws.specs.Assume.{ReadsInputs}
 use Rattle.assume_laws.specs.assume_shape.Shape.{HasShape}
 use Rattle.assume_laws.proofs.assume_shape.Shapes.{shapes_are_assumptions}
-use Rattle.assume_sequences.specs.assume_taken.Taken.{IsAssumed, assumed_by}
-use Rattle.assume_sequences.proofs.assume_taken.Shapes.{shape_over, numbers_over}
+use Rattle.assume_queries.specs.assume_sequences.assume_taken.Taken.{IsAssumed, assumed_by}
+use Rattle.assume_queries.proofs.assume_sequences.assume_taken.Shapes.{shape_over, numbers_over}
 use Rattle.under_base.specs.Met.{shared_by}
 
 -- a shared input is one of the first circuit

@@ -6,9 +6,9 @@ use Rattle.sec_setup.specs.declared.error.SetupError.{SetupError}
 use Rattle.sec_setup.specs.declared.error.SetupError.TheVariants as unset
 use Rattle.sec_setup.specs.Choosing.{Chosen}
 use Rattle.sec_setup.specs.Matching.{InterfacesMatch, InterfaceFails as NoMatch}
-use Rattle.assume_sequences.specs.declared.assume_taken.error.TakeError.{TakeError}
-use Rattle.assume_sequences.specs.declared.assume_taken.error.TakeError.TheVariants as untaken
-use Rattle.assume_sequences.specs.assume_taken.Premises.{IsTaken}
+use Rattle.assume_queries.specs.declared.assume_sequences.assume_taken.error.TakeError.{TakeError}
+use Rattle.assume_queries.specs.declared.assume_sequences.assume_taken.error.TakeError.TheVariants as untaken
+use Rattle.assume_queries.specs.assume_sequences.assume_taken.Premises.{IsTaken}
 use Rattle.under_base.specs.compare_base.Compared.{refusal_of as refusal_of_setup}
 use Rattle.under_base.proofs.compare_base.Refusals.{unchosen}
 use Rattle.under_base.specs.Compared.{ComparedUnder}

@@ -17,7 +17,7 @@ use Rattle.witness_report.specs.declared.witness.Witness.{Witness}
 use Rattle.outcome_fits.specs.Cuts.{columns_of, is_cut}
 use Rattle.outcome_fits.specs.Pairs.{NamedPair, named_pairs}
 use Rattle.assume_laws.specs.Assume.{Assumption}
-use Rattle.assume_sequences.specs.assume_taken.Taken.{assumed_by}
+use Rattle.assume_queries.specs.assume_sequences.assume_taken.Taken.{assumed_by}
 use Rattle.under_base.specs.under_fits.Pairs.{AnswerFitsUnder, PairFitsUnder}
 use Rattle.under_base.specs.under_fits.Verdict.{IsFirstOfAnswerUnder, VerdictFitsUnder}
 use Rattle.under_base.specs.Compared.{IsComparedUnder}

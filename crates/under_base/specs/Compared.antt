@@ -18,7 +18,7 @@ use Rattle.under_base.specs.under_fits.Places.{IsLightAtPairs}
 use Rattle.under_base.specs.under_fits.ResetPlaces.{IsLightInCycles}
 use Rattle.assume_laws.specs.Assume.{AgreeFromResetUnder}
 use Rattle.assume_laws.specs.Sequences.{RowsMeet}
-use Rattle.assume_sequences.specs.assume_taken.Taken.{assumed_by, IsFirstFault, IsVacuousBy}
+use Rattle.assume_queries.specs.assume_sequences.assume_taken.Taken.{assumed_by, IsFirstFault, IsVacuousBy}
 use Rattle.under_base.specs.under_fits.Outcome.{OutcomeFitsUnder, AreEqualUnder}
 use Rattle.under_base.specs.under_fits.ResetOutcome.{numbers_of, ResetOutcomeFitsUnder, MakesResetsDifferUnder}
 use Rattle.under_base.specs.declared.compare_base.error.CompareError.{CompareError}

@@ -10,7 +10,7 @@ use Rattle.obligations.specs.outcome.Verdict.{Verdict}
 use Rattle.obligations.specs.outcome.Verdict.TheVariants as verdict
 use Rattle.assume_laws.specs.Assume.{Assumption, AgreeUnder}
 use Rattle.assume_laws.specs.Sequences.{RowsMeet}
-use Rattle.assume_sequences.specs.assume_taken.Taken.{assumed_by}
+use Rattle.assume_queries.specs.assume_sequences.assume_taken.Taken.{assumed_by}
 use Rattle.under_base.specs.Compared.{IsComparedUnder}
 
 -- equal, different or limit, and what the first two say

@@ -5,4 +5,4 @@ pub mod Laws
 pub mod Refusals
 pub mod compare_base
 pub mod under_fits
-pub use Rattle.assume_sequences.specs.assume_taken.Taken
+pub use Rattle.assume_queries.specs.assume_sequences.assume_taken.Taken

@@ -8,8 +8,8 @@ use Rattle.obligations.specs.outcome.LimitAt.TheVariants as limit_at
 use Rattle.obligations.specs.outcome.Outcome.{Outcome}
 use Rattle.obligations.specs.outcome.Verdict.TheVariants as verdict
 use Rattle.sec_setup.specs.Matching.{InterfacesMatch}
-use Rattle.assume_sequences.specs.assume_taken.Asked.{IsKeptRow}
-use Rattle.assume_sequences.specs.assume_taken.Taken.{IsAssumed, assumed_by, IsUndecidedBy}
+use Rattle.assume_queries.specs.assume_sequences.assume_taken.Asked.{IsKeptRow}
+use Rattle.assume_queries.specs.assume_sequences.assume_taken.Taken.{IsAssumed, assumed_by, IsUndecidedBy}
 
 -- the names of the inputs that both circuits have, in A's order
 abbrev pub shared_by : NetView → NetView → List (List ℕ)

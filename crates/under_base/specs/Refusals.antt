@@ -1,6 +1,6 @@
 -- Why a circuit that isn't taken as an assumption isn't compared under.
-use Rattle.assume_sequences.specs.declared.assume_taken.error.TakeError.{TakeError}
-use Rattle.assume_sequences.specs.declared.assume_taken.error.TakeError.TheVariants as untaken
+use Rattle.assume_queries.specs.declared.assume_sequences.assume_taken.error.TakeError.{TakeError}
+use Rattle.assume_queries.specs.declared.assume_sequences.assume_taken.error.TakeError.TheVariants as untaken
 use Rattle.under_base.specs.declared.compare_base.error.CompareError.{CompareError}
 use Rattle.under_base.specs.declared.compare_base.error.CompareError.TheVariants as refused
 

@@ -7,7 +7,7 @@ use Rattle.sec_base.specs.declared.settings.Settings.{Settings}
 use Rattle.outcome_fits.specs.Cuts.{IsChoice, StandInOrder, columns_of}
 use Rattle.sec_setup.specs.Cycles.{AreBroken}
 use Rattle.outcome_fits.specs.Pairs.{named_pairs}
-use Rattle.reset_laws.specs.Reset.{AreBased}
+use Rattle.circuit_laws.specs.reset_laws.Reset.{AreBased}
 use Rattle.outcome_fits.specs.Fitting.{IsCutLight}
 use Rattle.under_base.specs.under_fits.Places.{IsOverAtPairs}
 use Rattle.under_base.specs.under_fits.ResetPlaces.{IsOverInCycles}

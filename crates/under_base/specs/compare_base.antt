@@ -1,7 +1,7 @@
 pub mod Compared
 pub mod FromReset
 pub mod Says
-pub use Rattle.reset_functions.specs.declared.error.ResetError
+pub use Rattle.reset_form.specs.declared.reset_functions.error.ResetError
 pub use Rattle.outcome_fits.specs.Limits
 pub use Rattle.outcome_fits.specs.Outcome
 pub use Rattle.outcome_fits.specs.ResetOutcome

@@ -7,5 +7,5 @@ mod laws;
 pub mod under_fits;
 
 pub use crate::compare_base::CompareError;
-pub use assume_sequences::assume_taken::{Premise, TakeError, Taken, take, widen};
+pub use assume_queries::assume_sequences::assume_taken::{Premise, TakeError, Taken, take, widen};
 pub use laws::verdicts_under;

@@ -12,7 +12,7 @@ mod signal_function;
 pub mod variables;
 pub mod visitors;
 
+pub use aig::graph_copy::memo;
 pub use error::UnfoldError;
 pub use flat_net::{BitRows, Bits, Ids, NoMemory, PlaceTable, Seq};
-pub use graph_copy::memo;
 pub use signal_function::Unfolded;

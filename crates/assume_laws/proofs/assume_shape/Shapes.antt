@@ -6,11 +6,11 @@ use Rattle.std.proofs.lemmas.List.Elements.{All-contains, Contains-append_cases}
 use Rattle.circuit_theory.specs.Circuit.{Latch as latch_equation, Named, IsLatch}
 use Rattle.circuit_theory.specs.Interface.{AreNumbersOf}
 use Rattle.circuit_theory.proofs.Lists.{Contains-head, Contains-map_from, length-map}
-use Rattle.interface.specs.flat_net.Port.{Port}
-use Rattle.interface.specs.flat_net.Gate.{Gate}
-use Rattle.interface.specs.flat_net.LatchAt.{LatchAt}
-use Rattle.interface.specs.flat_net.View.{NetView, named, equation_of_gate, equation_of_latch, circuit_of}
-use Rattle.interface.proofs.flat_net.Nets.{sound_is_net}
+use Rattle.sec_setup.specs.ports.flat_net.Port.{Port}
+use Rattle.sec_setup.specs.ports.flat_net.Gate.{Gate}
+use Rattle.sec_setup.specs.ports.flat_net.LatchAt.{LatchAt}
+use Rattle.sec_setup.specs.ports.flat_net.View.{NetView, named, equation_of_gate, equation_of_latch, circuit_of}
+use Rattle.sec_setup.proofs.ports.flat_net.Nets.{sound_is_net}
 use Rattle.assume_laws.specs.Assume.{IsAssumption}
 use Rattle.assume_laws.proofs.Reading.{numbers_read}
 use Rattle.assume_laws.specs.assume_shape.Shape.{assumption_of}

@@ -3,8 +3,8 @@ use Rattle.std.specs.Prelude.{ℕ, List, length, map}
 use Rattle.std.specs.List.{Contains}
 use Rattle.circuit_theory.specs.Circuit.{Circuit}
 use Rattle.circuit_theory.specs.Interface.{AreNumbersOf}
-use Rattle.interface.specs.flat_net.Sound.{IsSound}
-use Rattle.interface.specs.flat_net.View.{NetView, ports_of}
+use Rattle.sec_setup.specs.ports.flat_net.Sound.{IsSound}
+use Rattle.sec_setup.specs.ports.flat_net.View.{NetView, ports_of}
 use Rattle.assume_laws.specs.Assume.{IsAssumption, ReadsInputs}
 use Rattle.assume_laws.specs.assume_shape.Shape.{HasShape, assumption_of}
 

@@ -1,9 +1,9 @@
 -- The shape of an assumption, and its first fault.
 use Rattle.std.specs.Prelude.{◌≡◌, ◌≢◌, ℕ, ◌<◌, List, [], ◌∷◌, length, Option, Some, None, slice_get}
 use Rattle.std.specs.List.{All, Contains}
-use Rattle.interface.specs.flat_net.Port.{Port}
-use Rattle.interface.specs.flat_net.LatchAt.{LatchAt}
-use Rattle.interface.specs.flat_net.View.{NetView, circuit_of}
+use Rattle.sec_setup.specs.ports.flat_net.Port.{Port}
+use Rattle.sec_setup.specs.ports.flat_net.LatchAt.{LatchAt}
+use Rattle.sec_setup.specs.ports.flat_net.View.{NetView, circuit_of}
 use Rattle.assume_laws.specs.Assume.{Assumption}
 use Rattle.assume_laws.specs.declared.assume_shape.shape.ShapeFault.{ShapeFault}
 use Rattle.assume_laws.specs.declared.assume_shape.shape.ShapeFault.TheVariants as fault

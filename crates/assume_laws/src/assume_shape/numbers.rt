@@ -2,10 +2,10 @@
 
 ghost use Rattle.std.specs.Prelude.{ℕ, List, ◌+◌, ◌^◌, ◌<◌, length, IfOk};
 ghost use Rattle.circuit_theory.specs.Interface.{AreNumbersOf};
-ghost use Rattle.interface.specs.flat_net.View.{ports_of};
+ghost use Rattle.sec_setup.specs.ports.flat_net.View.{ports_of};
 ghost use Rattle.unfold_places.specs.InputOrder.{IsOrderOf};
 
-use interface::{Ids, NameTable, Net, NoMemory, orders_of};
+use sec_setup::ports::{Ids, NameTable, Net, NoMemory, orders_of};
 use std::alloc::Global;
 
 /// The numbers of the inputs of the circuit `c`: that of a column is its place among the columns.

@@ -1,10 +1,10 @@
 //! What is wrong with the shape of an assumption.
 
 ghost use Rattle.std.specs.Prelude.{IfOk, IfSome, IfNone};
-ghost use Rattle.interface.specs.flat_net.Comparable.{IsComparable};
+ghost use Rattle.sec_setup.specs.ports.flat_net.Comparable.{IsComparable};
 ghost use Rattle.assume_laws.specs.assume_shape.Shape.{IsShapeFault, IsFirstForeign, AreShared};
 
-use interface::{NameTable, Net, NoMemory, Word};
+use sec_setup::ports::{NameTable, Net, NoMemory, Word};
 
 /// Why a circuit is no assumption on the inputs of two others.
 #[derive(Drop)]

@@ -17,7 +17,7 @@ use Rattle.pair_decide.specs.Queries.{IsQuery, IsSame, IsLeast, Distinguishes, a
 use Rattle.pair_decide.specs.Answers.{IsDifference}
 use Rattle.unfold_places.specs.Growing.{TakesBits}
 use Rattle.unfold_places.proofs.Lists.{pairs_map}
-use Rattle.assume_functions.proofs.cbf_unfold.Cone.{reached_one}
+use Rattle.assume_queries.proofs.assume_functions.cbf_unfold.Cone.{reached_one}
 use Rattle.shift_variables.specs.Variables.{variable_of, variables_of}
 use Rattle.shift_variables.proofs.Assignments.{assigned_alike}
 use Rattle.shift_variables.specs.query_places.Places.{place_of}

@@ -8,9 +8,9 @@ use Rattle.flat_net.specs.View.{NetView}
 use Rattle.flat_net.specs.Sound.{IsSound}
 use Rattle.aig.specs.declared.node.Node.{Node}
 use Rattle.aig.specs.Graph.{IsGraph, Grows}
-use Rattle.latch_blocks.specs.declared.variables.Variables.{Variables}
-use Rattle.latch_blocks.specs.Signals.{AreVariables}
-use Rattle.latch_blocks.proofs.Growing.{lits_grow}
+use Rattle.block_refine.specs.declared.latch_blocks.variables.Variables.{Variables}
+use Rattle.block_refine.specs.latch_blocks.Signals.{AreVariables}
+use Rattle.block_refine.proofs.latch_blocks.Growing.{lits_grow}
 use Rattle.block_refine.specs.declared.block_graph.nets.BlockNets.{BlockNets}
 use Rattle.block_refine.specs.declared.block_graph.graph.NetLits.{NetLits}
 use Rattle.block_refine.specs.declared.block_graph.graph.BlockGraph.{BlockGraph}

@@ -8,10 +8,10 @@ use Rattle.flat_net.specs.View.{NetView}
 use Rattle.flat_net.specs.Sound.{IsSound}
 use Rattle.flat_net.proofs.Places.{All-at}
 use Rattle.flat_net.proofs.Drivers.{weight_positive}
-use Rattle.latch_blocks.specs.declared.variables.Variables.{Variables}
-use Rattle.latch_blocks.specs.Blocks.{block_at, AreInOrder}
-use Rattle.latch_blocks.specs.Signals.{AreVariables, net_weight}
-use Rattle.latch_blocks.proofs.Weights.{weight_below, weight_step, weight_all}
+use Rattle.block_refine.specs.declared.latch_blocks.variables.Variables.{Variables}
+use Rattle.block_refine.specs.latch_blocks.Blocks.{block_at, AreInOrder}
+use Rattle.block_refine.specs.latch_blocks.Signals.{AreVariables, net_weight}
+use Rattle.block_refine.proofs.latch_blocks.Weights.{weight_below, weight_step, weight_all}
 use Rattle.block_refine.specs.block_graph.Graph.{AreBelow}
 
 -- a block's number is no greater than the place of each of its latches

@@ -4,8 +4,8 @@ use Rattle.circuit_theory.specs.Joined.{Either}
 use Rattle.flat_net.specs.Sound.{IsSound}
 use Rattle.aig.specs.declared.node.Lit.{Lit}
 use Rattle.aig.specs.Values.{value}
-use Rattle.latch_blocks.specs.QueryLaws.{AreOnGraph}
-use Rattle.latch_blocks.proofs.OnGraph.{same_literals_agree, assignments_are_block_values}
+use Rattle.block_refine.specs.latch_blocks.QueryLaws.{AreOnGraph}
+use Rattle.block_refine.proofs.latch_blocks.OnGraph.{same_literals_agree, assignments_are_block_values}
 use Rattle.block_refine.specs.declared.block_graph.nets.BlockNets.{BlockNets}
 use Rattle.block_refine.specs.declared.block_graph.graph.BlockGraph.{BlockGraph}
 use Rattle.block_refine.specs.block_graph.Graph.{IsBlockGraph}

@@ -11,12 +11,12 @@ use Rattle.flat_net.specs.Sound.{IsSound}
 use Rattle.aig.specs.declared.node.Lit.{Lit}
 use Rattle.aig.specs.declared.node.Node.{Node}
 use Rattle.aig.specs.Values.{lit_bit, node_bits, value}
-use Rattle.latch_blocks.specs.Partitions.{nexts_of}
-use Rattle.latch_blocks.specs.Signals.{lit_at}
+use Rattle.block_refine.specs.latch_blocks.Partitions.{nexts_of}
+use Rattle.block_refine.specs.latch_blocks.Signals.{lit_at}
 use Rattle.block_refine.specs.declared.block_graph.nets.BlockNets.{BlockNets}
 use Rattle.block_refine.specs.declared.block_graph.graph.BlockGraph.{BlockGraph}
 use Rattle.aig.proofs.Meaning.{length-node_bits}
-use Rattle.latch_blocks.proofs.Growing.{lits_within}
+use Rattle.block_refine.proofs.latch_blocks.Growing.{lits_within}
 use Rattle.block_refine.specs.declared.block_graph.graph.NetLits.{NetLits}
 use Rattle.block_refine.specs.block_graph.Graph.{AreOn, IsBlockGraph}
 use Rattle.block_refine.proofs.block_graph.Pushed.{both_sides}

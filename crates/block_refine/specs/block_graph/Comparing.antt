@@ -8,9 +8,9 @@ use Rattle.aig.specs.Values.{value}
 use Rattle.pair_decide.specs.declared.query.Query.{Query}
 use Rattle.pair_decide.specs.Answers.{Decides}
 use Rattle.flat_net.specs.View.{NetView}
-use Rattle.latch_blocks.specs.declared.variables.Variables.{Variables}
-use Rattle.latch_blocks.specs.Signals.{IsLeaf}
-use Rattle.latch_blocks.specs.QueryLaws.{IsLitAt, AreBlockValues}
+use Rattle.block_refine.specs.declared.latch_blocks.variables.Variables.{Variables}
+use Rattle.block_refine.specs.latch_blocks.Signals.{IsLeaf}
+use Rattle.block_refine.specs.latch_blocks.QueryLaws.{IsLitAt, AreBlockValues}
 use Rattle.block_refine.specs.declared.block_graph.nets.BlockNets.{BlockNets}
 use Rattle.block_refine.specs.declared.block_graph.graph.BlockGraph.{BlockGraph}
 use Rattle.block_refine.specs.declared.block_graph.compare.Comparison.{Comparison}

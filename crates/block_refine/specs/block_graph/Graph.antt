@@ -6,10 +6,10 @@ use Rattle.sec_base.specs.declared.limits.TheConstants.{MAX_WEIGHT}
 use Rattle.flat_net.specs.View.{NetView}
 use Rattle.aig.specs.declared.node.Node.{Node}
 use Rattle.aig.specs.Graph.{IsGraph}
-use Rattle.latch_blocks.specs.declared.variables.Variables.{Variables}
-use Rattle.latch_blocks.specs.Blocks.{AreInOrder}
-use Rattle.latch_blocks.specs.Signals.{AreVariables, AreSignalLits, net_weight}
-use Rattle.latch_blocks.specs.Readings.{AreBlockVariables}
+use Rattle.block_refine.specs.declared.latch_blocks.variables.Variables.{Variables}
+use Rattle.block_refine.specs.latch_blocks.Blocks.{AreInOrder}
+use Rattle.block_refine.specs.latch_blocks.Signals.{AreVariables, AreSignalLits, net_weight}
+use Rattle.block_refine.specs.latch_blocks.Readings.{AreBlockVariables}
 use Rattle.block_refine.specs.declared.block_graph.nets.BlockNets.{BlockNets}
 use Rattle.block_refine.specs.declared.block_graph.nets.NetSignal.{NetSignal}
 use Rattle.block_refine.specs.declared.block_graph.nets.NetSignal.TheVariants as signal

@@ -6,8 +6,8 @@ ghost use Rattle.block_refine.specs.block_graph.Comparing.{IsLitIn, AreOwn, IsCo
 
 use crate::block_graph::graph::BlockGraph;
 use crate::block_graph::nets::{BlockNets, NetSignal};
+use crate::latch_blocks::{leaves, merged};
 use aig::Lit;
-use latch_blocks::{leaves, merged};
 use pair_decide::{Decision, Query, decide};
 use sec_base::{Ids, MAX_CONFLICTS, NoMemory};
 use std::alloc::Global;

@@ -2,15 +2,15 @@
 
 ghost use Rattle.std.specs.Prelude.{◌≡◌, ◌+◌, ◌^◌, ◌<◌, ◌≤◌, length, map, All, IfOk, OnOk};
 ghost use Rattle.aig.specs.Graph.{Grows};
-ghost use Rattle.latch_blocks.specs.declared.variables.Variables.{Variables};
-ghost use Rattle.latch_blocks.specs.Signals.{AreVariables, net_weight};
+ghost use Rattle.block_refine.specs.declared.latch_blocks.variables.Variables.{Variables};
+ghost use Rattle.block_refine.specs.latch_blocks.Signals.{AreVariables, net_weight};
 ghost use Rattle.block_refine.specs.block_graph.Graph.{AreReady, AreOn, IsBlockGraph};
 
 use crate::block_graph::nets::BlockNets;
 use crate::block_graph::numbering::{first_block, variables_of};
+use crate::latch_blocks::{Variables, signal_literals};
 use aig::{Aig, Lit};
 use flat_net::Net;
-use latch_blocks::{Variables, signal_literals};
 use sec_base::{Ids, NoMemory};
 use std::alloc::Global;
 

@@ -1,7 +1,7 @@
 //! What is put on a graph.
 
 ghost use Rattle.std.specs.Prelude.{◌≡◌, ◌+◌, ◌<◌, length, slice_get, Some};
-ghost use Rattle.latch_blocks.specs.Partitions.{nexts_of};
+ghost use Rattle.block_refine.specs.latch_blocks.Partitions.{nexts_of};
 ghost use Rattle.block_refine.specs.block_graph.Graph.{IsSignalOf, number_of};
 
 use flat_net::{Net, Signal};

@@ -5,8 +5,8 @@ ghost use Rattle.std.specs.List.Sorted.{IsStrictlyIncreasing};
 ghost use Rattle.circuit_theory.specs.Joined.{Either};
 ghost use Rattle.aig.specs.Values as meaning;
 ghost use Rattle.pair_decide.specs.Queries.{assigned_to};
-ghost use Rattle.latch_blocks.specs.Partitions.{nexts_of};
-ghost use Rattle.latch_blocks.specs.Signals.{lit_at};
+ghost use Rattle.block_refine.specs.latch_blocks.Partitions.{nexts_of};
+ghost use Rattle.block_refine.specs.latch_blocks.Signals.{lit_at};
 ghost use Rattle.block_refine.specs.block_graph.Graph.{IsBlockGraph};
 ghost use Rattle.block_refine.specs.block_graph.Comparing.{AreReadBy};
 

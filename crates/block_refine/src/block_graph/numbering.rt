@@ -2,7 +2,7 @@
 
 ghost use Rattle.std.specs.Prelude.{◌≡◌, ◌+◌, ◌^◌, ◌<◌, ◌≤◌, map, All, IfOk};
 
-use latch_blocks::Variables;
+use crate::latch_blocks::Variables;
 use sec_base::{Ids, NoMemory, Orders};
 use std::alloc::Global;
 

@@ -1,14 +1,14 @@
-//! What is told of two netlists.
+//! The coarsest inductive partition of the latches of two netlists.
 
 use crate::latches::nets::both_nets;
 use crate::latches::numbers::numbers;
+use block_refine::latch_blocks::is_light;
 use block_refine::{Refined, refine};
 use flat_net::Net;
-use latch_blocks::is_light;
-use row_text::{show, show_number};
 use sec_base::{DEFAULT_CONFLICTS, Orders};
 use std::alloc::Global;
 use std::rt::HostRuntime;
+use text_rows::row_text::{show, show_number};
 
 /// Shows both netlists, and then the blocks of the latches of both.
 pub(crate) fn show_row(rt: &HostRuntime, row: &[u8]) {
@@ -59,25 +59,21 @@ fn show_blocks(rt: &HostRuntime, left: &Net, right: &Net, blocks: &[u32]) {
     }
 }
 
+/// Shows the side and the name of each latch of the block. B's latches stand behind A's.
 fn show_block(rt: &HostRuntime, left: &Net, right: &Net, blocks: &[u32], block: u32) {
+    let own = left.latches();
+    let other = right.latches();
     show(rt, b"block");
-    for (place, own) in blocks.iter().enumerate() {
-        if *own == block {
-            show_latch(rt, left, right, place);
+    for place in 0..blocks.len() {
+        if blocks[place] == block {
+            if place < own.len() {
+                show(rt, b" A:");
+                show(rt, own[place].name.as_slice());
+            } else if place - own.len() < other.len() {
+                show(rt, b" B:");
+                show(rt, other[place - own.len()].name.as_slice());
+            }
         }
     }
     show(rt, b"\n");
-}
-
-/// Shows the side and the name of the latch. B's latches stand behind A's.
-fn show_latch(rt: &HostRuntime, left: &Net, right: &Net, place: usize) {
-    let own = left.latches();
-    let other = right.latches();
-    if place < own.len() {
-        show(rt, b" A:");
-        show(rt, own[place].name.as_slice());
-    } else if place - own.len() < other.len() {
-        show(rt, b" B:");
-        show(rt, other[place - own.len()].name.as_slice());
-    }
 }

@@ -1,18 +1,18 @@
 //! Netlists as circuits whose latches are all of class 0.
 
 ghost use Rattle.std.specs.Prelude.{◌≡◌, length, All, IfOk, IfSome};
-ghost use Rattle.event_order.specs.Order.{IsMarkedNet};
+ghost use Rattle.class_search.specs.event_order.Order.{IsMarkedNet};
 ghost use Rattle.call_rows.specs.Starts.{IsStart};
 
 use crate::latches::numbers::numbers;
 use circuit_theory::Mode;
+use class_search::event_order::have_depths;
 use event_nodes::EventCircuit;
-use event_order::have_depths;
 use flat_net::Net;
-use inner_cone::latch_cone::enabled_among;
 use latch_graph::LatchGraph;
 use latch_kinds::kinds_in;
 use sec_base::{Bits, DEFAULT_CONFLICTS, Ids, NoMemory};
+use signal_graph::inner_cone::latch_cone::enabled_among;
 use std::alloc::Global;
 
 /// The net as a circuit, where no cycle of latches is left but the self-edges of enabled ones.

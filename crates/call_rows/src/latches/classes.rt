@@ -1,17 +1,15 @@
-//! What is told of two netlists.
+//! The classes of the enabled latches of two netlists.
 
 ghost use Rattle.std.specs.Prelude.{◌≤◌};
-ghost use Rattle.call_rows.specs.Starts.{IsStart};
 
 use crate::latches::circuits::circuit_of;
 use crate::latches::nets::both_nets;
-use class_separations::Apart;
+use class_search::class_separations::Apart;
 use event_classes::{ClassMap, EventError, make_classes};
-use event_nodes::EventCircuit;
 use flat_net::Net;
-use row_text::{show, show_bit, show_count, show_number};
 use sec_base::{MAX_CONFLICTS, Side, Tag};
 use std::rt::HostRuntime;
+use text_rows::row_text::{show, show_bit, show_count, show_number};
 
 /// Shows both netlists, then a line with the enabled latches of both in their order, each with its class, and a line for what tells each
 /// two classes apart.
@@ -32,7 +30,10 @@ fn show_nets(rt: &HostRuntime, left: Net, right: Net, conflicts: u32)
     let Some(right) = circuit_of(rt.alloc(), right) else {
         return show(rt, b"second has a cycle\n");
     };
-    show_classes(rt, left, right, conflicts);
+    match make_classes(rt.alloc(), left, right, conflicts) {
+        Ok(map) => show_map(rt, &map),
+        Err(error) => show(rt, line_of(&error)),
+    }
 }
 
 fn line_of(error: &EventError) -> &'static [u8] {
@@ -44,23 +45,11 @@ fn line_of(error: &EventError) -> &'static [u8] {
     }
 }
 
-fn show_classes(rt: &HostRuntime, left: EventCircuit, right: EventCircuit, conflicts: u32)
-    requires left { IsStart left }
-    requires right { IsStart right }
-    requires conflicts { conflicts ≤ MAX_CONFLICTS }
-{
-    match make_classes(rt.alloc(), left, right, conflicts) {
-        Ok(map) => show_map(rt, &map),
-        Err(error) => show(rt, line_of(&error)),
-    }
-}
-
 fn show_map(rt: &HostRuntime, map: &ClassMap) {
     show(rt, b"classes ");
     show_number(rt, map.classes.len() as u64);
     for tag in map.taken.as_slice() {
-        show_tag(rt, map, *tag);
-        show_class(rt, map, *tag);
+        show_tag(rt, map, *tag, true);
     }
     show(rt, b"\n");
     for apart in map.aparts.as_slice() {
@@ -73,10 +62,10 @@ fn show_map(rt: &HostRuntime, map: &ClassMap) {
 fn show_apart(rt: &HostRuntime, map: &ClassMap, apart: &Apart) {
     show(rt, b"apart");
     match apart.low {
-        Some(tag) => show_tag(rt, map, tag),
+        Some(tag) => show_tag(rt, map, tag, false),
         None => show(rt, b" always"),
     }
-    show_tag(rt, map, apart.high);
+    show_tag(rt, map, apart.high, false);
     show(rt, b" values ");
     show_bit(rt, apart.left);
     show(rt, b" ");
@@ -88,31 +77,19 @@ fn show_apart(rt: &HostRuntime, map: &ClassMap, apart: &Apart) {
     show(rt, b"\n");
 }
 
-/// Shows the side and the name of the latch.
-fn show_tag(rt: &HostRuntime, map: &ClassMap, tag: Tag) {
-    match tag.side {
-        Side::A => show_latch(rt, b" A:", &map.left, tag.latch),
-        Side::B => show_latch(rt, b" B:", &map.right, tag.latch),
-    }
-}
-
-fn show_latch(rt: &HostRuntime, side: &[u8], circuit: &EventCircuit, latch: u32) {
-    circuit.keeps();
-    let latches = circuit.net().latches();
-    if (latch as usize) < latches.len() {
-        show(rt, side);
-        show(rt, latches[latch as usize].name.as_slice());
-    }
-}
-
-/// Shows the latch's class.
-fn show_class(rt: &HostRuntime, map: &ClassMap, tag: Tag) {
-    let circuit = match tag.side {
-        Side::A => &map.left,
-        Side::B => &map.right,
+/// Shows the side and the name of the latch, and its class where that is asked for.
+fn show_tag(rt: &HostRuntime, map: &ClassMap, tag: Tag, is_classed: bool) {
+    let (side, circuit): (&[u8], _) = match tag.side {
+        Side::A => (b" A:", &map.left),
+        Side::B => (b" B:", &map.right),
     };
     circuit.keeps();
-    if (tag.latch as usize) < circuit.net().latches().len() {
-        show_count(rt, circuit.class(tag.latch) as u64);
+    let latches = circuit.net().latches();
+    if (tag.latch as usize) < latches.len() {
+        show(rt, side);
+        show(rt, latches[tag.latch as usize].name.as_slice());
+        if is_classed {
+            show_count(rt, circuit.class(tag.latch) as u64);
+        }
     }
 }

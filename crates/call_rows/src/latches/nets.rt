@@ -2,14 +2,13 @@
 
 use crate::circuits::net_in;
 use flat_net::Net;
-use row_text::{show, split_at, text_of};
 use std::alloc::Global;
 use std::rt::HostRuntime;
+use text_rows::row_text::{show, split_at, text_of};
 
 /// The net that the marks spell.
 pub(crate) fn net_of(alloc: Global, marks: &[u8]) -> Option<Net> {
-    let text = text_of(alloc, marks, b"");
-    net_in(alloc, text.bytes())
+    net_in(alloc, text_of(alloc, marks, b"").bytes())
 }
 
 /// Shows the row, and gives the two nets that its marks spell, with `;` between them; or shows which of them is none.

@@ -5,7 +5,7 @@ use Rattle.circuit_theory.specs.Circuit.{Circuit, Named, IsLatch, IsSource, Meet
 use Rattle.circuit_theory.specs.Joined.{moved_name}
 use Rattle.circuit_theory.specs.Run.{ExtendsWith, IsEnabled}
 use Rattle.circuit_theory.proofs.Lists.{Contains-map_from}
-use Rattle.net_alike.proofs.Ends.{input_home}
+use Rattle.net_assembly.proofs.net_alike.Ends.{input_home}
 use Rattle.design_laws.proofs.FlatCycles.{reaches_along, reaches_down, reaches_up, source_down}
 use Rattle.design_laws.proofs.FlatParts.{FlatDesign, along, input_up, latch_down, latch_stays, latch_up, run_down, run_up}
 

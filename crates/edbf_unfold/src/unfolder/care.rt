@@ -1,18 +1,18 @@
 //! The care of an event function.
 
 ghost use Rattle.std.specs.Prelude.{◌≡◌, ℕ, ◌+◌, ◌*◌, ◌^◌, ◌<◌, length, slice_get, Some, Contains, IfOk};
-ghost use Rattle.event_literals.specs.Driver.TheVariants as driver;
+ghost use Rattle.edbf_unfold.specs.event_literals.Driver.TheVariants as driver;
 ghost use Rattle.event_nodes.specs.Graph.{flip};
 ghost use Rattle.event_nodes.specs.Lit.{Lit};
-ghost use Rattle.event_literals.specs.declared.event_walk.frames.Ways.{Ways};
-ghost use Rattle.event_literals.specs.Known.{AreKnown, HasGrown, IsMet};
-ghost use Rattle.event_literals.specs.event_walk.Ready.{IsReadyBy};
-ghost use Rattle.event_literals.specs.Built.{AreMetOn};
-ghost use Rattle.event_literals.specs.ShortOr.{IsShortOr};
+ghost use Rattle.edbf_unfold.specs.declared.event_literals.event_walk.frames.Ways.{Ways};
+ghost use Rattle.edbf_unfold.specs.event_literals.Known.{AreKnown, HasGrown, IsMet};
+ghost use Rattle.edbf_unfold.specs.event_literals.event_walk.Ready.{IsReadyBy};
+ghost use Rattle.edbf_unfold.specs.event_literals.Built.{AreMetOn};
+ghost use Rattle.edbf_unfold.specs.event_literals.ShortOr.{IsShortOr};
 ghost use Rattle.edbf_unfold.specs.Care.{IsWithEnable, IsAndEnable, IsCareOf};
 
 use super::EventUnfolder;
-use event_literals::{
+use crate::event_literals::{
     Aig, Driver, EventGraph, Lit, NoMemory, Place, PlaceTable, Signal, Ways, constant, latch_of,
     short_or,
 };

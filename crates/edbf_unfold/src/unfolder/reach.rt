@@ -1,14 +1,16 @@
 //! What an unfolding reaches.
 
 ghost use Rattle.std.specs.Prelude.{◌≡◌, ℕ, ◌<◌, true, false, length, slice_get, Some, IfSome, IfNone, IfOk, OnOk};
-ghost use Rattle.event_literals.specs.Driver.TheVariants as driver;
+ghost use Rattle.edbf_unfold.specs.event_literals.Driver.TheVariants as driver;
 ghost use Rattle.event_nodes.specs.View.{side_of};
-ghost use Rattle.event_literals.specs.declared.event_walk.frames.Frame.{Frame};
-ghost use Rattle.event_literals.specs.declared.event_walk.frames.Ways.{Ways};
+ghost use Rattle.edbf_unfold.specs.declared.event_literals.event_walk.frames.Frame.{Frame};
+ghost use Rattle.edbf_unfold.specs.declared.event_literals.event_walk.frames.Ways.{Ways};
 ghost use Rattle.edbf_unfold.specs.Reached.{IsOpenPlace, IsOnwardAt, IsNodePut, AreNodesOf};
 
 use super::EventUnfolder;
-use event_literals::{Driver, Ids, NoMemory, Place, PlaceTable, Seq, Signal, Ways, constant};
+use crate::event_literals::{
+    Driver, Ids, NoMemory, Place, PlaceTable, Seq, Signal, Ways, constant,
+};
 use std::alloc::Global;
 
 impl<'a> EventUnfolder<'a> {

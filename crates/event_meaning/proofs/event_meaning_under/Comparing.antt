@@ -12,20 +12,20 @@ use Rattle.circuit_laws.proofs.LawProofs.{numbers_are_shared}
 use Rattle.circuit_laws.proofs.event_laws.SideParts.{sides_are_parts_in_nets}
 use Rattle.flat_net.specs.View.{NetView, circuit_of, named, ports_of}
 use Rattle.flat_net.proofs.Nets.{sound_is_net, sound_names}
-use Rattle.interface.specs.Pairs.{NamedPair, places_of}
+use Rattle.sec_setup.specs.ports.Pairs.{NamedPair, places_of}
 use Rattle.sec_setup.specs.Cuts.{columns_of}
 use Rattle.outcome.specs.declared.verdict.LimitAt.{LimitAt}
 use Rattle.outcome.specs.declared.verdict.LimitAt.TheVariants as limit_at
 use Rattle.outcome.specs.declared.verdict.Outcome.{Outcome}
 use Rattle.outcome.specs.declared.verdict.Verdict.TheVariants as verdict
 use Rattle.under_base.proofs.compare_base.CutPairs.{one_output, pair_listed}
-use Rattle.class_queries.specs.Enables.{both_of}
-use Rattle.class_queries.specs.Laws.{AreKept}
+use Rattle.edbf_unfold.specs.class_queries.Enables.{both_of}
+use Rattle.edbf_unfold.specs.class_queries.Laws.{AreKept}
 use Rattle.assume_laws.specs.Assume.{Assumption}
-use Rattle.event_shown_under.specs.event_under.Laws.{AreAllPairs}
-use Rattle.event_names.specs.event_fits.Circuits.{AreNets}
-use Rattle.event_names.specs.event_fits.Fitting.{class_limit, IsUnrecovered, IsUnclassed}
-use Rattle.event_names.specs.event_fits.Named.{latch_names}
+use Rattle.event_under.specs.Laws.{AreAllPairs}
+use Rattle.event_meaning.specs.event_names.event_fits.Circuits.{AreNets}
+use Rattle.event_meaning.specs.event_names.event_fits.Fitting.{class_limit, IsUnrecovered, IsUnclassed}
+use Rattle.event_meaning.specs.event_names.event_fits.Named.{latch_names}
 use Rattle.event_meaning.specs.event_meaning_under.Fitted.{EventOutcomeFitsUnder, IsComparedByPairsUnder}
 use Rattle.event_meaning.proofs.event_meaning_under.Bare.{bare, bare_kept}
 

@@ -14,14 +14,14 @@ use Rattle.sec_base.specs.declared.basics.PairAnswer.{PairAnswer}
 use Rattle.sec_base.specs.declared.basics.PairAnswer.TheVariants as answer
 use Rattle.pair_decide.specs.declared.query.Proof.{Proof}
 use Rattle.outcome.specs.declared.verdict.PairResult.{PairResult}
-use Rattle.class_queries.specs.Enables.{both_of}
-use Rattle.class_queries.proofs.Meaning.{numbered}
+use Rattle.edbf_unfold.specs.class_queries.Enables.{both_of}
+use Rattle.edbf_unfold.proofs.class_queries.Meaning.{numbered}
 use Rattle.event_nodes.specs.View.{EventCircuitView}
 use Rattle.assume_laws.specs.Assume.{Assumption, HaveEqualEventsUnder}
 use Rattle.assume_laws.specs.Sequences.{HaveDifferentEventsUnder}
-use Rattle.event_shown_under.specs.event_under.Answers.{AnswerFitsUnder, PairFitsUnder}
-use Rattle.event_names.specs.event_fits.Asked.{IsDecisive}
-use Rattle.event_names.specs.event_fits.Circuits.{IsReadyCircuit}
+use Rattle.event_under.specs.Answers.{AnswerFitsUnder, PairFitsUnder}
+use Rattle.event_meaning.specs.event_names.event_fits.Asked.{IsDecisive}
+use Rattle.event_meaning.specs.event_names.event_fits.Circuits.{IsReadyCircuit}
 use Rattle.event_meaning.specs.event_meaning_under.Laws.{AnswersAreExactUnder}
 
 module _ (c : Assumption) (a b : EventCircuitView) (left_ready : IsReadyCircuit a) (right_ready : IsReadyCircuit b) where

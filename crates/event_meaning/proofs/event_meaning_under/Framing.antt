@@ -5,16 +5,16 @@ use Rattle.circuit_theory.specs.Joined.{Left, Right}
 use Rattle.circuit_theory.specs.Query.{Variable}
 use Rattle.circuit_theory.proofs.Lists.{Contains-map, of_at}
 use Rattle.witness_report.specs.declared.frame_report.frame.Spot.{Spot}
-use Rattle.interface.specs.Pairs.{NamedPair, places_of}
+use Rattle.sec_setup.specs.ports.Pairs.{NamedPair, places_of}
 use Rattle.sec_setup.specs.Cuts.{columns_of}
-use Rattle.class_queries.specs.Enables.{both_of}
+use Rattle.edbf_unfold.specs.class_queries.Enables.{both_of}
 use Rattle.event_meaning.proofs.Cases.{events_found, unshown_no_limit}
 use Rattle.assume_laws.specs.Sequences.{IsUnshownFrameUnder}
-use Rattle.event_shown_under.specs.event_under_fits.Findings.{VerdictFitsUnder}
-use Rattle.event_names.specs.event_fits.FrameBit.{FrameBit}
-use Rattle.event_names.specs.event_fits.Told as told
-use Rattle.event_names.specs.event_fits.Named.{latch_names, NamesSpot}
-use Rattle.event_names.specs.event_fits.Shown.{TellsVariable, TellsFrame}
+use Rattle.event_under.specs.event_shown_under.event_under_fits.Findings.{VerdictFitsUnder}
+use Rattle.event_meaning.specs.event_names.event_fits.FrameBit.{FrameBit}
+use Rattle.event_meaning.specs.event_names.event_fits.Told as told
+use Rattle.event_meaning.specs.event_names.event_fits.Named.{latch_names, NamesSpot}
+use Rattle.event_meaning.specs.event_names.event_fits.Shown.{TellsVariable, TellsFrame}
 use Rattle.event_meaning.specs.event_meaning_under.Laws.{UnshownOutcomesAreFramedUnder}
 use Rattle.event_meaning.proofs.event_meaning_under.Comparing.{compared_under}
 

@@ -6,8 +6,8 @@ use Rattle.circuit_theory.specs.Sequence.{sequence_rows}
 use Rattle.circuit_theory.specs.Frame.{bits_as_shifts}
 use Rattle.flat_net.specs.View.{NetView, circuit_of}
 use Rattle.flat_net.proofs.Nets.{sound_is_net, sound_names}
-use Rattle.interface.specs.declared.pairs.SignalPair.{SignalPair}
-use Rattle.interface.specs.Pairs.{NamedPair, named_pairs, places_of}
+use Rattle.sec_setup.specs.declared.ports.pairs.SignalPair.{SignalPair}
+use Rattle.sec_setup.specs.ports.Pairs.{NamedPair, named_pairs, places_of}
 use Rattle.sec_base.specs.declared.basics.PairAnswer.{PairAnswer}
 use Rattle.sec_base.specs.declared.basics.PairAnswer.TheVariants as answer
 use Rattle.pair_decide.specs.declared.query.Proof.{Proof}
@@ -16,18 +16,18 @@ use Rattle.witness_report.specs.declared.witness.Witness.{Witness}
 use Rattle.witness_report.specs.Shown.{MakesDiffer, MakesCutsDiffer}
 use Rattle.outcome.specs.declared.verdict.Outcome.{Outcome}
 use Rattle.outcome.specs.declared.verdict.PairResult.{PairResult}
-use Rattle.class_queries.specs.Enables.{both_of}
+use Rattle.edbf_unfold.specs.class_queries.Enables.{both_of}
 use Rattle.event_nodes.specs.View.{EventCircuitView}
-use Rattle.event_names.proofs.event_fits.Differing.{cuts_differ, circuits_differ}
+use Rattle.event_meaning.proofs.event_names.event_fits.Differing.{cuts_differ, circuits_differ}
 use Rattle.event_meaning.proofs.Cases.{cut_found, cut_no_limit, different_found, different_no_limit, equal_found, equal_no_limit}
 use Rattle.assume_laws.specs.Assume.{Assumption}
 use Rattle.assume_laws.specs.Sequences.{filled_frame}
-use Rattle.event_shown_under.specs.event_under.Answers.{AnswerFitsUnder, PairFitsUnder}
-use Rattle.event_shown_under.proofs.event_under_fits.event_under.Agreeing.{cuts_agree}
-use Rattle.event_shown_under.specs.event_under_fits.Findings.{IsSequenceUnder, VerdictFitsUnder}
-use Rattle.event_names.specs.event_fits.Findings.{IsFirstWith}
-use Rattle.event_names.specs.event_fits.Circuits.{AreNets}
-use Rattle.event_names.specs.event_fits.Named.{latch_names}
+use Rattle.event_under.specs.Answers.{AnswerFitsUnder, PairFitsUnder}
+use Rattle.event_under.proofs.Agreeing.{cuts_agree}
+use Rattle.event_under.specs.event_shown_under.event_under_fits.Findings.{IsSequenceUnder, VerdictFitsUnder}
+use Rattle.event_meaning.specs.event_names.event_fits.Findings.{IsFirstWith}
+use Rattle.event_meaning.specs.event_names.event_fits.Circuits.{AreNets}
+use Rattle.event_meaning.specs.event_names.event_fits.Named.{latch_names}
 use Rattle.event_meaning.specs.event_meaning_under.Fitted.{IsComparedByPairsUnder}
 use Rattle.event_meaning.specs.event_meaning_under.Laws.{CutOutcomesDifferUnder, DifferentOutcomesDifferUnder, EqualOutcomesAgreeUnder}
 use Rattle.event_meaning.proofs.event_meaning_under.Bare.{bare}

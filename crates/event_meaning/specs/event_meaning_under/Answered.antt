@@ -12,7 +12,7 @@ use Rattle.outcome.specs.declared.verdict.Unshown.{Unshown}
 use Rattle.outcome.specs.declared.verdict.Verdict.TheVariants as verdict
 use Rattle.outcome.specs.declared.verdict.Why.TheVariants as why
 use Rattle.sec_setup.specs.Matching.{InterfacesMatch}
-use Rattle.event_names.specs.event_fits.Compared.{ComparedInEvents}
+use Rattle.event_meaning.specs.event_names.event_fits.Compared.{ComparedInEvents}
 use Rattle.under_base.specs.declared.compare_base.error.CompareError.{CompareError}
 use Rattle.under_base.specs.declared.compare_base.error.CompareError.TheVariants as refused
 use Rattle.under_base.specs.Taken.{assumed_by, IsFirstFault, IsVacuousBy}

@@ -3,20 +3,20 @@ use Rattle.std.specs.Prelude.{◌≡◌, ◌⊎◌, ℕ, Bool, List, map, length
 use Rattle.circuit_theory.specs.Interface.{shared_inputs}
 use Rattle.circuit_theory.specs.Classes.{classes_of}
 use Rattle.flat_net.specs.View.{NetView, circuit_of, ports_of}
-use Rattle.interface.specs.Pairs.{named_pairs, places_of}
+use Rattle.sec_setup.specs.ports.Pairs.{named_pairs, places_of}
 use Rattle.outcome.specs.declared.verdict.Outcome.{Outcome}
 use Rattle.sec_setup.specs.Cuts.{columns_of, is_cut}
-use Rattle.class_queries.specs.Enables.{both_of}
+use Rattle.edbf_unfold.specs.class_queries.Enables.{both_of}
 use Rattle.event_nodes.specs.View.{EventCircuitView}
-use Rattle.event_shown_under.specs.event_under_fits.event_findings.EventFindings.{EventFindings}
-use Rattle.event_names.specs.event_fits.EventPairs.{EventPairs}
-use Rattle.event_names.specs.event_fits.Circuits.{AreReached}
-use Rattle.event_names.specs.event_fits.Totals.{IsMapMade, IsWithinWith}
-use Rattle.event_names.specs.event_fits.Named.{latch_names, NamesVerdict}
-use Rattle.event_names.specs.event_fits.Fitting.{IsUnrecovered, IsUnclassed}
+use Rattle.event_under.specs.event_shown_under.event_under_fits.event_findings.EventFindings.{EventFindings}
+use Rattle.event_meaning.specs.event_names.event_fits.EventPairs.{EventPairs}
+use Rattle.event_meaning.specs.event_names.event_fits.Circuits.{AreReached}
+use Rattle.event_meaning.specs.event_names.event_fits.Totals.{IsMapMade, IsWithinWith}
+use Rattle.event_meaning.specs.event_names.event_fits.Named.{latch_names, NamesVerdict}
+use Rattle.event_meaning.specs.event_names.event_fits.Fitting.{IsUnrecovered, IsUnclassed}
 use Rattle.assume_laws.specs.Assume.{Assumption, ReadsInputs}
-use Rattle.event_shown_under.specs.event_under.Places.{IsLightAtNodes}
-use Rattle.event_shown_under.specs.event_under_fits.Findings.{FindingsFitUnder}
+use Rattle.event_under.specs.Places.{IsLightAtNodes}
+use Rattle.event_under.specs.event_shown_under.event_under_fits.Findings.{FindingsFitUnder}
 
 -- the counts of both circuits; no pair is settled from a cycle on
 pub record HasCountsUnder (a b : NetView) (o : Outcome) : Type 0 where

@@ -5,14 +5,14 @@ use Rattle.circuit_theory.specs.Query.{Variable}
 use Rattle.circuit_theory.specs.Classes.{HasClasses}
 use Rattle.circuit_theory.specs.EventFits.{ReachesAlways}
 use Rattle.flat_net.specs.View.{NetView, circuit_of}
-use Rattle.interface.specs.Pairs.{NamedPair, named_pairs}
+use Rattle.sec_setup.specs.ports.Pairs.{NamedPair, named_pairs}
 use Rattle.outcome.specs.declared.verdict.Outcome.{Outcome}
 use Rattle.outcome.specs.declared.verdict.Unshown.{Unshown}
 use Rattle.sec_setup.specs.Cuts.{columns_of}
-use Rattle.class_queries.specs.Enables.{both_of}
+use Rattle.edbf_unfold.specs.class_queries.Enables.{both_of}
 use Rattle.event_nodes.specs.View.{EventCircuitView}
-use Rattle.event_names.specs.event_fits.Circuits.{AreEventCircuits}
-use Rattle.event_names.specs.event_fits.Shown.{TellsFrame}
+use Rattle.event_meaning.specs.event_names.event_fits.Circuits.{AreEventCircuits}
+use Rattle.event_meaning.specs.event_names.event_fits.Shown.{TellsFrame}
 use Rattle.assume_laws.specs.Assume.{Assumption}
 use Rattle.assume_laws.specs.Sequences.{IsUnshownFrameUnder}
 

@@ -1,13 +1,13 @@
 -- An assumption that is too large for the comparison of two circuits in the event form.
 use Rattle.std.specs.Prelude.{ℕ, List}
 use Rattle.flat_net.specs.View.{NetView}
-use Rattle.interface.specs.declared.pairs.SignalPair.{SignalPair}
+use Rattle.sec_setup.specs.declared.ports.pairs.SignalPair.{SignalPair}
 use Rattle.sec_base.specs.declared.settings.Settings.{Settings}
-use Rattle.class_queries.specs.Enables.{both_of}
+use Rattle.edbf_unfold.specs.class_queries.Enables.{both_of}
 use Rattle.event_nodes.specs.View.{EventCircuitView}
-use Rattle.event_names.specs.event_fits.Compared.{StopsAtPairs}
-use Rattle.event_names.specs.event_fits.Totals.{IsMapMade, IsWithinWith}
-use Rattle.event_shown_under.specs.event_under.Places.{IsOverAtNodes}
+use Rattle.event_meaning.specs.event_names.event_fits.Compared.{StopsAtPairs}
+use Rattle.event_meaning.specs.event_names.event_fits.Totals.{IsMapMade, IsWithinWith}
+use Rattle.event_under.specs.Places.{IsOverAtNodes}
 use Rattle.assume_laws.specs.declared.assume_shape.shape.ShapeFault.{ShapeFault}
 use Rattle.assume_laws.specs.declared.assume_shape.shape.ShapeFault.TheVariants as fault
 use Rattle.under_base.specs.Met.{IsMet}

@@ -5,19 +5,19 @@ use Rattle.circuit_theory.specs.declared.Mode.TheVariants.{Event}
 use Rattle.circuit_theory.specs.Joined.{Left, Right}
 use Rattle.flat_net.specs.View.{NetView, circuit_of}
 use Rattle.sec_base.specs.declared.basics.PairAnswer.TheVariants as answer
-use Rattle.interface.specs.declared.pairs.SignalPair.{SignalPair}
+use Rattle.sec_setup.specs.declared.ports.pairs.SignalPair.{SignalPair}
 use Rattle.witness_report.specs.declared.witness.Witness.{Witness}
 use Rattle.outcome.specs.declared.verdict.Outcome.{Outcome}
 use Rattle.outcome.specs.declared.verdict.PairResult.{PairResult}
 use Rattle.outcome.specs.declared.verdict.Unshown.{Unshown}
 use Rattle.outcome.specs.declared.verdict.Verdict.TheVariants as verdict
 use Rattle.outcome.specs.declared.verdict.Why.TheVariants as why
-use Rattle.class_queries.specs.Enables.{both_of}
+use Rattle.edbf_unfold.specs.class_queries.Enables.{both_of}
 use Rattle.sec_setup.specs.Cuts.{is_cut}
 use Rattle.assume_laws.specs.Assume.{Assumption}
 use Rattle.assume_laws.specs.Sequences.{HaveDifferentEventsUnder}
-use Rattle.event_names.specs.event_fits.Circuits.{AreNets}
-use Rattle.event_names.specs.event_fits.Asked.{IsDecisive}
+use Rattle.event_meaning.specs.event_names.event_fits.Circuits.{AreNets}
+use Rattle.event_meaning.specs.event_names.event_fits.Asked.{IsDecisive}
 use Rattle.event_meaning.specs.event_meaning_under.Fitted.{EventOutcomeFitsUnder, IsComparedByPairsUnder}
 use Rattle.event_meaning.specs.event_meaning_under.Framed.{IsFramedUnder}
 use Rattle.event_meaning.specs.event_meaning_under.Saying.{SaysEqualUnder, SaysDifferentUnder, SaysNotShownUnder}

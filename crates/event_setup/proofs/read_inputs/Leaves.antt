@@ -16,7 +16,7 @@ use Rattle.circuit_theory.specs.Frame.{EventSide, EventUnfolds, EventUnfoldsAll}
 use Rattle.flat_net.specs.Sound.{IsSound}
 use Rattle.flat_net.specs.View.{circuit_of}
 use Rattle.sec_setup.specs.Setup.{AreColumns}
-use Rattle.class_queries.specs.Enables.{both_of}
+use Rattle.edbf_unfold.specs.class_queries.Enables.{both_of}
 use Rattle.event_nodes.specs.View.{EventCircuitView}
 use Rattle.event_setup.proofs.read_inputs.Places.{IsShown}
 use Rattle.event_setup.proofs.read_inputs.Reading.{IsReadPlace, read_below}

@@ -10,7 +10,7 @@ use Rattle.circuit_theory.proofs.Lists.{Contains-map_from}
 use Rattle.circuit_laws.proofs.Pairs.{filter_map-has, latch_is_named}
 use Rattle.flat_net.specs.declared.parts.Port.{Port}
 use Rattle.flat_net.specs.View.{NetView, named, circuit_of}
-use Rattle.interface.specs.Pairs.{NamedPair, named_pairs}
+use Rattle.sec_setup.specs.ports.Pairs.{NamedPair, named_pairs}
 use Rattle.outcome_fits.proofs.plain_meaning.CutPairs.{IsOutputPair, IsNextPair, listed_is}
 
 module _ {P : Type 0} (names : List (List ℕ)) (c : Circuit P) (single : IsSingleDriven c) (distinct : HasDistinctNames c) where

@@ -24,7 +24,7 @@ use Rattle.flat_net.specs.declared.signals.Signal.{Signal}
 use Rattle.flat_net.specs.Sound.{IsSound}
 use Rattle.flat_net.specs.View.{NetView, named, circuit_of, is_read}
 use Rattle.flat_net.proofs.Nets.{OfGate, OfLatch, equation_from, sound_is_net}
-use Rattle.interface.proofs.Shared.{Contains-filter_in}
+use Rattle.sec_setup.proofs.ports.Shared.{Contains-filter_in}
 use Rattle.outcome_fits.proofs.plain_meaning.Sequences.{printed}
 use Rattle.sec_setup.specs.Setup.{AreColumns}
 use Rattle.witness_report.specs.declared.witness.Witness.{Witness}

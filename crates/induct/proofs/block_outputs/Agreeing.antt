@@ -10,8 +10,8 @@ use Rattle.flat_net.specs.declared.parts.Port.{Port}
 use Rattle.flat_net.specs.Comparable.{IsComparable}
 use Rattle.flat_net.specs.View.{NetView, named, circuit_of}
 use Rattle.flat_net.proofs.Places.{All-at}
-use Rattle.interface.proofs.Paired.{names_of, place_named-at}
-use Rattle.interface.proofs.Shared.{some_is}
+use Rattle.sec_setup.proofs.ports.Paired.{names_of, place_named-at}
+use Rattle.sec_setup.proofs.ports.Shared.{some_is}
 use Rattle.block_refine.specs.declared.block_graph.nets.BlockNets.{BlockNets}
 use Rattle.block_refine.specs.declared.block_graph.graph.BlockGraph.{BlockGraph}
 use Rattle.block_refine.specs.block_graph.Comparing.{AgreeOver}

@@ -17,9 +17,9 @@ use Rattle.pair_decide.specs.declared.query.Proof.{Proof}
 use Rattle.pair_decide.specs.declared.query.Decision.TheVariants as decision
 use Rattle.pair_decide.specs.Queries.{IsQuery, IsSame, roots_of, assigned_to}
 use Rattle.pair_decide.specs.Answers.{Decides, IsDifference}
-use Rattle.latch_blocks.specs.Readings.{AreRead}
-use Rattle.latch_blocks.proofs.Readings.{readings_are_values}
-use Rattle.latch_blocks.proofs.Supports.{reached_among}
+use Rattle.block_refine.specs.latch_blocks.Readings.{AreRead}
+use Rattle.block_refine.proofs.latch_blocks.Readings.{readings_are_values}
+use Rattle.block_refine.proofs.latch_blocks.Supports.{reached_among}
 use Rattle.block_refine.specs.declared.block_graph.nets.BlockNets.{BlockNets}
 use Rattle.block_refine.specs.declared.block_graph.graph.BlockGraph.{BlockGraph}
 use Rattle.block_refine.specs.declared.block_graph.compare.Comparison.{Comparison}

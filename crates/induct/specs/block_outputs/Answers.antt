@@ -8,7 +8,7 @@ use Rattle.pair_decide.specs.declared.query.Query.{Query}
 use Rattle.pair_decide.specs.declared.query.Proof.{Proof}
 use Rattle.pair_decide.specs.Answers.{IsAtLimit, IsDifference}
 use Rattle.pair_decide.specs.Queries.{assigned_to}
-use Rattle.latch_blocks.specs.Readings.{AreRead}
+use Rattle.block_refine.specs.latch_blocks.Readings.{AreRead}
 use Rattle.block_refine.specs.declared.block_graph.nets.BlockNets.{BlockNets}
 use Rattle.block_refine.specs.declared.block_graph.graph.BlockGraph.{BlockGraph}
 use Rattle.block_refine.specs.block_graph.Comparing.{IsLitIn, AreOwn, AreConstant, AgreeOver}

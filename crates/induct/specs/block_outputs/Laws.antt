@@ -2,7 +2,7 @@
 use Rattle.std.specs.Prelude.{◌≡◌, ℕ, List, All}
 use Rattle.std.specs.List.{AllZip}
 use Rattle.circuit_theory.specs.Interface.{AreNumbersOf}
-use Rattle.reset_laws.specs.Reset.{AgreeFromReset}
+use Rattle.circuit_laws.specs.reset_laws.Reset.{AgreeFromReset}
 use Rattle.flat_net.specs.Comparable.{IsComparable}
 use Rattle.flat_net.specs.View.{circuit_of, ports_of}
 use Rattle.block_refine.specs.declared.block_graph.nets.BlockNets.{BlockNets}

@@ -9,7 +9,7 @@ ghost use Rattle.induct.specs.block_outputs.Answers.{IsAnswer};
 
 use aig::{Aig, Lit};
 use block_refine::block_graph::{BlockGraph, BlockNets, Comparison, NetSignal};
-use class_separations::cone_values::value_in_cone;
+use class_search::class_separations::cone_values::value_in_cone;
 use pair_decide::{Decision, Proof};
 use sec_base::{Bits, Ids, MAX_CONFLICTS, NoMemory};
 use std::alloc::Global;

@@ -13,8 +13,8 @@ use crate::block_outputs::answer::{OutputAnswer, answer};
 use base_tables::NameTable;
 use block_refine::block_graph::{BlockGraph, BlockNets, NetSignal};
 use flat_net::{Net, Port, Signal};
-use interface::output_names;
 use sec_base::{MAX_CONFLICTS, NoMemory, Seq, Word};
+use sec_setup::ports::output_names;
 use std::alloc::Global;
 
 /// An output of A with B's output of its name.

@@ -10,8 +10,8 @@ use crate::induct_report::text::{
 use crate::{Block, Blocks, InductPair, InductVerdict, Induction};
 use base_tables::NameTable;
 use flat_net::Net;
-use interface::inputs_beside;
 use sec_base::{NoMemory, Seq, Text, put};
+use sec_setup::ports::inputs_beside;
 use std::alloc::Global;
 
 /// The report: how many inputs both circuits share and how many latches each has; how many blocks there are, a line for each with its

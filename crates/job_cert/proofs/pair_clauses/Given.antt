@@ -8,16 +8,16 @@ use Rattle.flat_net.specs.View.{NetView, circuit_of, ports_of}
 use Rattle.cbf_unfold.specs.View.{IsOrderOf}
 use Rattle.cnf_encode.specs.declared.cnf.Cnf.{Cnf}
 use Rattle.sec_setup.specs.declared.cut_points.exposed.Exposure.{Exposure}
-use Rattle.interface.specs.declared.pairs.SignalPair.{SignalPair}
-use Rattle.interface.specs.Pairing.{ArePairs}
-use Rattle.interface.proofs.NamedPairs.{pairs_cut}
-use Rattle.interface.proofs.Shared.{are_matched}
+use Rattle.sec_setup.specs.declared.ports.pairs.SignalPair.{SignalPair}
+use Rattle.sec_setup.specs.ports.Pairing.{ArePairs}
+use Rattle.sec_setup.proofs.ports.NamedPairs.{pairs_cut}
+use Rattle.sec_setup.proofs.ports.Shared.{are_matched}
 use Rattle.plain_asked.specs.Pairs.{AreLight, left_signals, right_signals}
 use Rattle.plain_asked.proofs.Refusals.{left_light, right_light}
 use Rattle.sec_setup.specs.Choosing.{IsChosen}
 use Rattle.sec_setup.specs.Cuts.{AreCutBy}
 use Rattle.sec_setup.specs.Matching.{InterfacesMatch}
-use Rattle.sec_setup.specs.Pairs.{ArePairsOf}
+use Rattle.sec_setup.specs.ports.Pairs.{ArePairsOf}
 use Rattle.sec_setup.proofs.Uncut.{uncut}
 use Rattle.shift_variables.proofs.Assignments.{once_each}
 use Rattle.job_cert.specs.pair_clauses.Clauses.{CanBeUnfolded, TellDifference, ArePairClauses, IsPairNamed}

@@ -8,10 +8,10 @@ use Rattle.circuit_theory.proofs.Lists.{Contains-map, Contains-map_from, at_of, 
 use Rattle.flat_net.specs.declared.parts.Port.{Port}
 use Rattle.flat_net.specs.declared.signals.Signal.{Signal}
 use Rattle.flat_net.specs.View.{NetView, named, circuit_of, ports_of}
-use Rattle.interface.specs.declared.pairs.SignalPair.{SignalPair}
-use Rattle.interface.specs.Pairing.{IsOutputPair, ArePairs}
-use Rattle.interface.proofs.Paired.{place_named-from}
-use Rattle.interface.proofs.Shared.{are_matched}
+use Rattle.sec_setup.specs.declared.ports.pairs.SignalPair.{SignalPair}
+use Rattle.sec_setup.specs.ports.Pairing.{IsOutputPair, ArePairs}
+use Rattle.sec_setup.proofs.ports.Paired.{place_named-from}
+use Rattle.sec_setup.proofs.ports.Shared.{are_matched}
 use Rattle.sec_setup.specs.Matching.{InterfacesMatch}
 use Rattle.swept_queries.proofs.Listed.{zip_left}
 use Rattle.witness_report.specs.declared.witness.PairName.TheVariants as pair

@@ -5,7 +5,7 @@ use Rattle.circuit_theory.specs.declared.Side.TheVariants.{A, B}
 use Rattle.flat_net.specs.View.{NetView, circuit_of}
 use Rattle.cnf_encode.specs.declared.cnf.Cnf.{Cnf}
 use Rattle.sec_setup.specs.declared.cut_points.exposed.Exposure.{Exposure}
-use Rattle.interface.specs.declared.pairs.SignalPair.{SignalPair}
+use Rattle.sec_setup.specs.declared.ports.pairs.SignalPair.{SignalPair}
 use Rattle.plain_asked.specs.Pairs.{Unfolds, right_signals, AreTooLarge}
 use Rattle.plain_asked.specs.declared.error.PlainError.{PlainError}
 use Rattle.plain_asked.specs.declared.error.PlainError.TheVariants as oversize
@@ -14,7 +14,7 @@ use Rattle.plain_asked.proofs.Refusals.{left_light}
 use Rattle.sec_setup.specs.Choosing.{IsChosen}
 use Rattle.sec_setup.specs.Cuts.{IsChoice, StandInOrder, AreCutBy}
 use Rattle.sec_setup.specs.Matching.{InterfacesMatch}
-use Rattle.sec_setup.specs.Pairs.{ArePairsOf, outputs_of}
+use Rattle.sec_setup.specs.ports.Pairs.{ArePairsOf, outputs_of}
 use Rattle.sec_setup.proofs.Uncut.{uncut}
 use Rattle.under_base.specs.compare_base.Compared as compared
 use Rattle.outcome_fits.proofs.plain_meaning.CutSizes.{cut_over, cut_light}

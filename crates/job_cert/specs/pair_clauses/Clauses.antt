@@ -6,7 +6,7 @@ use Rattle.circuit_theory.specs.Circuit.{Circuit}
 use Rattle.circuit_theory.specs.Interface.{shared_inputs, AreNumbersOf}
 use Rattle.circuit_theory.specs.Tree.{HaveEqualFunctions}
 use Rattle.flat_net.specs.View.{NetView, circuit_of, ports_of}
-use Rattle.interface.specs.declared.pairs.SignalPair.{SignalPair}
+use Rattle.sec_setup.specs.declared.ports.pairs.SignalPair.{SignalPair}
 use Rattle.proof_check.specs.Literals.{Literal}
 use Rattle.proof_check.specs.Clauses.{Satisfies, Unsatisfiable}
 use Rattle.cnf_encode.specs.declared.cnf.Cnf.{Cnf}

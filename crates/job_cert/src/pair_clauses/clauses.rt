@@ -14,11 +14,11 @@ use crate::pair_clauses::named::place_of;
 use aig::Lit;
 use cnf_encode::{Cnf, encode};
 use flat_net::Net;
-use interface::name_tables::word_of;
-use interface::pairs_of;
 use plain_asked::unfold_pairs;
 use sec_base::Orders;
 use sec_setup::cut_points::Exposure;
+use sec_setup::ports::name_tables::word_of;
+use sec_setup::ports::pairs_of;
 use sec_setup::{Nets, choose, graph_of, interface};
 use std::alloc::Global;
 

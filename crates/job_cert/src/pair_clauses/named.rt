@@ -1,11 +1,11 @@
 //! The pair of a name.
 
 ghost use Rattle.std.specs.Prelude.{◌≡◌, IsTrue, ◌↔◌, slice_get, Some, All, MatchOption};
-ghost use Rattle.interface.specs.declared.pairs.SignalPair.{SignalPair};
+ghost use Rattle.sec_setup.specs.declared.ports.pairs.SignalPair.{SignalPair};
 ghost use Rattle.witness_report.specs.declared.witness.PairName.TheVariants.{Output};
 ghost use Rattle.job_cert.specs.pair_clauses.Clauses.{IsPairNamed};
 
-use interface::SignalPair;
+use sec_setup::ports::SignalPair;
 use witness_report::PairName;
 
 /// The place of the outputs of this name, if they are there.

@@ -3,13 +3,13 @@
 ghost use Rattle.std.specs.Prelude.{◌≡◌, ◌≤◌, true, false};
 ghost use Rattle.circuit_theory.specs.declared.Mode.TheVariants.{Plain};
 ghost use Rattle.flat_net.specs.Comparable.{IsComparable};
-ghost use Rattle.event_check.specs.Compared.{ComparedIn};
-ghost use Rattle.event_check_under.specs.Answered.{ComparedUnderIn};
+ghost use Rattle.event_meaning.specs.event_names.event_fits.Compared.{ComparedIn};
+ghost use Rattle.event_check.specs.event_check_under.Answered.{ComparedUnderIn};
 
+use crate::compare_under::compare_under as compare_plainly_under;
 use circuit_theory::Mode;
-use compare_under::compare_under as compare_plainly_under;
 use event_check::compare_in_events;
-use event_check_under::compare_in_events_under;
+use event_check::event_check_under::compare_in_events_under;
 use flat_net::Net;
 use outcome::{Outcome, Settings};
 use plain_check::{CompareError, compare_plainly};
@@ -38,7 +38,7 @@ pub fn compare(
 }
 
 /// Compares the circuits `a` and `b` in a mode, in the runs whose inputs make the output of the circuit `c` 1 in each cycle: by cycles
-/// (`compare_under::compare_under`) or by events (`event_check_under::compare_in_events_under`). With `reset` it is as without `c`.
+/// (`crate::compare_under::compare_under`) or by events (`event_check::event_check_under::compare_in_events_under`). With `reset` it is as without `c`.
 pub fn compare_under(
     alloc: Global,
     a: &Net,

@@ -11,7 +11,7 @@ use Rattle.circuit_theory.proofs.Lists.{Contains-head, Contains-tail, Contains-m
 use Rattle.circuit_theory.proofs.Numbers.{is_among-complete}
 use Rattle.flat_net.specs.declared.parts.Port.{Port}
 use Rattle.flat_net.specs.View.{NetView, ports_of}
-use Rattle.pair_gen.specs.Twins.{IsTwin}
+use Rattle.job_gen.specs.pair_gen.Twins.{IsTwin}
 use Rattle.sec_setup.specs.Matching.{InterfacesMatch}
 
 filter_all : {X : Type 0} (p : X → Bool) (xs : List X) → ((x : X) → p x ≡ true) → filter p xs ≡ xs

@@ -2,7 +2,7 @@
 use Rattle.std.specs.List.{Contains}
 use Rattle.std.proofs.Common.{◌≡◌, ℕ, true, false, List, [], refl, sym, ◌∙◌, subst, ap, Option, Some, Result, Ok, Err, slice_get}
 use Rattle.circuit_theory.proofs.Lists.{of_at}
-use Rattle.sec_base.specs.Outside.{Takes}
+use Rattle.sec_base.specs.base_shelves.Outside.{Takes}
 use Rattle.witness_report.specs.declared.witness.Witness.{Witness}
 use Rattle.flat_net.specs.View.{circuit_of}
 use Rattle.pair_decide.specs.declared.query.Proof.{Proof}
@@ -15,7 +15,7 @@ use Rattle.outcome.specs.declared.verdict.Verdict.{Verdict}
 use Rattle.outcome.specs.declared.verdict.Verdict.TheVariants as verdict
 use Rattle.outcome.specs.declared.verdict.Why.{Why}
 use Rattle.outcome.specs.declared.verdict.Why.TheVariants as why
-use Rattle.sec_setup.specs.Pairs.{NamedPair, named_pairs}
+use Rattle.sec_setup.specs.ports.Pairs.{NamedPair, named_pairs}
 use Rattle.sec_setup.specs.Cuts.{columns_of, is_cut}
 use Rattle.outcome_fits.specs.Outcome.{PairFits, VerdictFits, IsFirstLimit}
 use Rattle.job_base.specs.declared.finding.Finding.{Finding}

@@ -6,7 +6,7 @@ use Rattle.circuit_theory.specs.declared.Side.{Side}
 use Rattle.circuit_theory.specs.declared.Side.TheVariants.{A, B}
 use Rattle.flat_net.specs.View.{NetView, circuit_of}
 use Rattle.flat_net.specs.Sound.{IsSound}
-use Rattle.pair_gen.specs.Words.{words_of}
+use Rattle.job_gen.specs.pair_gen.Words.{words_of}
 use Rattle.under_base.specs.declared.compare_base.error.CompareError.{CompareError}
 use Rattle.under_base.specs.declared.compare_base.error.CompareError.TheVariants as refused
 use Rattle.plain_check.specs.Compared.{Compared, AreTooLarge}

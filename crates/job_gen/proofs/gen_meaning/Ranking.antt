@@ -21,12 +21,12 @@ use Rattle.flat_net.specs.declared.parts.Driver.TheVariants as driver
 use Rattle.flat_net.specs.View.{NetView, circuit_of, cover_of}
 use Rattle.flat_net.specs.Sound.{IsSound}
 use Rattle.flat_net.proofs.Nets.{some_at, OfGate, OfLatch, equation_from}
-use Rattle.pair_gen.specs.declared.cells.Cell.{Cell}
-use Rattle.pair_gen.specs.declared.cells.Cell.TheVariants as cell
-use Rattle.pair_gen.specs.Cells.{name_of, column_of, data_of, second_of}
-use Rattle.pair_gen.specs.Twins.{place_of, IsOf, HasGate, HasLatch, IsTwin}
-use Rattle.pair_gen.specs.Sketch.{latch_cell, gate_cell}
-use Rattle.pair_gen.proofs.Numbers.{IsPlaced, gate_whole, latch_whole, gate_placed, latch_placed, latch_stage, latch_column, stage_of_place, layer_of_place, column_of_place, column_placed, data_placed}
+use Rattle.job_gen.specs.declared.pair_gen.cells.Cell.{Cell}
+use Rattle.job_gen.specs.declared.pair_gen.cells.Cell.TheVariants as cell
+use Rattle.job_gen.specs.pair_gen.Cells.{name_of, column_of, data_of, second_of}
+use Rattle.job_gen.specs.pair_gen.Twins.{place_of, IsOf, HasGate, HasLatch, IsTwin}
+use Rattle.job_gen.specs.pair_gen.Sketch.{latch_cell, gate_cell}
+use Rattle.job_gen.proofs.pair_gen.Numbers.{IsPlaced, gate_whole, latch_whole, gate_placed, latch_placed, latch_stage, latch_column, stage_of_place, layer_of_place, column_of_place, column_placed, data_placed}
 use Rattle.sec_setup.specs.cut_points.Exposed.{IsToldCycle}
 
 -- the cell that a driver is, and the driver of a cell

@@ -23,12 +23,12 @@ use Rattle.flat_net.specs.View.{NetView, named, circuit_of, cover_of, no_cover}
 use Rattle.flat_net.specs.Sound.{IsSound}
 use Rattle.flat_net.proofs.Nets.{OfGate, OfLatch, equation_from}
 use Rattle.flat_net.proofs.CutNets.{few_distinct}
-use Rattle.pair_gen.specs.declared.kinds.Kind.{Kind}
-use Rattle.pair_gen.specs.declared.kinds.Kind.TheVariants.{And, Or, Xor, AndNot}
-use Rattle.pair_gen.specs.Kinds.{kind_of, rows_of}
-use Rattle.pair_gen.specs.Cells.{shown_by}
-use Rattle.pair_gen.specs.Twins.{is_regrouped, IsTwin}
-use Rattle.pair_gen.proofs.Numbers.{shown_placed}
+use Rattle.job_gen.specs.declared.pair_gen.kinds.Kind.{Kind}
+use Rattle.job_gen.specs.declared.pair_gen.kinds.Kind.TheVariants.{And, Or, Xor, AndNot}
+use Rattle.job_gen.specs.pair_gen.Kinds.{kind_of, rows_of}
+use Rattle.job_gen.specs.pair_gen.Cells.{shown_by}
+use Rattle.job_gen.specs.pair_gen.Twins.{is_regrouped, IsTwin}
+use Rattle.job_gen.proofs.pair_gen.Numbers.{shown_placed}
 use Rattle.outcome_fits.specs.Fitting.{cut_outputs, IsCutOver}
 use Rattle.job_gen.proofs.gen_meaning.Ranking.{rank, rank_is, reads_down, takes_down, no_port, gate_there, rank_of}
 

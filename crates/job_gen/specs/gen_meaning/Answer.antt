@@ -3,7 +3,7 @@ use Rattle.std.specs.Prelude.{◌≡◌, ℕ, List, [], Option}
 use Rattle.std.specs.List.{Contains}
 use Rattle.circuit_theory.specs.declared.Mode.TheVariants.{Plain}
 use Rattle.circuit_theory.specs.Interface.{AreNumbersOf}
-use Rattle.sec_base.specs.Outside.{Takes}
+use Rattle.sec_base.specs.base_shelves.Outside.{Takes}
 use Rattle.flat_net.specs.View.{NetView, circuit_of, ports_of}
 use Rattle.witness_report.specs.declared.witness.Witness.{Witness}
 use Rattle.pair_decide.specs.declared.query.Proof.{Proof}
@@ -12,7 +12,7 @@ use Rattle.outcome.specs.declared.verdict.Verdict.{Verdict}
 use Rattle.outcome.specs.declared.verdict.Verdict.TheVariants as verdict
 use Rattle.outcome.specs.declared.verdict.LimitAt.TheVariants as limit_at
 use Rattle.sec_setup.specs.Cuts.{AreCutAt, columns_of}
-use Rattle.sec_setup.specs.Pairs.{NamedPair, named_pairs}
+use Rattle.sec_setup.specs.ports.Pairs.{NamedPair, named_pairs}
 use Rattle.outcome_fits.specs.Limits.{IsUndecided}
 use Rattle.under_base.specs.compare_base.Says.{SaysEqual, SaysDifferent}
 use Rattle.job_base.specs.declared.status.StatusName.{StatusName}

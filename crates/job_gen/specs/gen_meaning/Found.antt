@@ -4,8 +4,8 @@ use Rattle.circuit_theory.specs.declared.Mode.TheVariants.{Plain}
 use Rattle.circuit_theory.specs.declared.Side.TheVariants.{A, B}
 use Rattle.sec_base.specs.declared.settings.Settings.{Settings}
 use Rattle.flat_net.specs.View.{NetView}
-use Rattle.pair_gen.specs.Twins.{IsTwin}
-use Rattle.pair_gen.specs.Words.{words_of}
+use Rattle.job_gen.specs.pair_gen.Twins.{IsTwin}
+use Rattle.job_gen.specs.pair_gen.Words.{words_of}
 use Rattle.outcome.specs.declared.verdict.Outcome.{Outcome}
 use Rattle.plain_check.specs.Compared.{IsCompared}
 use Rattle.job_base.specs.Ends.{EndsBy}

@@ -5,8 +5,8 @@ ghost use Rattle.std.specs.Fmt.{decimal};
 ghost use Rattle.job_gen.specs.gen_meaning.Report.{gen_text, title_text, verdict_word};
 
 use crate::gen_meaning::generation::Generation;
+use crate::pair_gen::Twins;
 use outcome::Verdict;
-use pair_gen::Twins;
 use sec_base::{NoMemory, Seq, Text, put, put_number};
 use std::alloc::Global;
 

@@ -15,10 +15,10 @@ use Rattle.flat_net.specs.View.{NetView}
 use Rattle.flat_net.proofs.Nets.{some_at}
 use Rattle.lane_eval.specs.Tables.{assigned_to}
 use Rattle.lane_eval.proofs.Numbered.{assigned_to-at}
-use Rattle.latch_blocks.specs.Blocks.{block_at}
-use Rattle.latch_blocks.specs.Readings.{AreRead}
-use Rattle.latch_blocks.specs.Signals.{variable_at, variable_of}
-use Rattle.latch_blocks.specs.declared.variables.Variables.{Variables}
+use Rattle.block_refine.specs.latch_blocks.Blocks.{block_at}
+use Rattle.block_refine.specs.latch_blocks.Readings.{AreRead}
+use Rattle.block_refine.specs.latch_blocks.Signals.{variable_at, variable_of}
+use Rattle.block_refine.specs.declared.latch_blocks.variables.Variables.{Variables}
 use Rattle.induct.specs.block_refine.BlockNets.{BlockNets}
 use Rattle.induct.specs.block_refine.BlockGraph.{BlockGraph}
 use Rattle.induct.specs.block_refine.Graph.{IsBlockGraph}

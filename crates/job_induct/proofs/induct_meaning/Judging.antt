@@ -14,11 +14,11 @@ use Rattle.sec_base.specs.declared.basics.Tag.{Tag}
 use Rattle.flat_net.specs.declared.parts.Port.{Port}
 use Rattle.flat_net.specs.Sound.{IsSound}
 use Rattle.flat_net.specs.View.{NetView, circuit_of, ports_of}
-use Rattle.interface.proofs.Paired.{place_named-from}
+use Rattle.sec_setup.proofs.ports.Paired.{place_named-from}
 use Rattle.pair_decide.specs.declared.query.Proof.{Proof}
-use Rattle.latch_blocks.specs.Blocks.{block_at}
-use Rattle.latch_blocks.specs.QueryLaws.{AreBlockValues}
-use Rattle.latch_blocks.specs.Signals.{IsLeaf}
+use Rattle.block_refine.specs.latch_blocks.Blocks.{block_at}
+use Rattle.block_refine.specs.latch_blocks.QueryLaws.{AreBlockValues}
+use Rattle.block_refine.specs.latch_blocks.Signals.{IsLeaf}
 use Rattle.induct.specs.declared.block_outputs.answer.Shown.{Shown}
 use Rattle.induct.specs.declared.block_outputs.answer.OutputAnswer.{OutputAnswer}
 use Rattle.induct.specs.declared.block_outputs.answer.OutputAnswer.TheVariants as answer

@@ -1,14 +1,14 @@
 -- What the status of a comparison by blocks means.
 use Rattle.std.specs.Prelude.{IfSome}
 use Rattle.std.proofs.Common.{◌≡◌, ℕ, Bool, List, refl, sym, ap, subst, ◌∙◌, inl, inr, ◌⊎◌, Option, Some, None}
-use Rattle.sec_base.specs.Outside.{Takes}
+use Rattle.sec_base.specs.base_shelves.Outside.{Takes}
 use Rattle.sec_base.specs.declared.basics.Tag.{Tag}
 use Rattle.flat_net.specs.View.{NetView}
 use Rattle.pair_decide.specs.declared.query.Proof.{Proof}
 use Rattle.sec_files.specs.Loading.{Loads, circuit_of_text}
 use Rattle.sec_files.proofs.Texts.{spelled_circuit}
-use Rattle.text_circuits.proofs.Circuits.{text_design}
-use Rattle.text_circuits.proofs.Resets.{resets_agree_up}
+use Rattle.design_laws.proofs.text_circuits.Circuits.{text_design}
+use Rattle.design_laws.proofs.text_circuits.Resets.{resets_agree_up}
 use Rattle.job_base.specs.declared.finding.Judgement.{Judgement}
 use Rattle.job_base.specs.declared.finding.Judgement.TheVariants as judgement
 use Rattle.job_base.specs.declared.finding.Refusal.{Refusal}

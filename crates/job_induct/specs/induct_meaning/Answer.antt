@@ -4,16 +4,16 @@ use Rattle.circuit_theory.specs.Circuit.{Circuit}
 use Rattle.circuit_theory.specs.Agree.{place_named}
 use Rattle.circuit_theory.specs.Interface.{first_mismatch, shared_inputs}
 use Rattle.circuit_theory.specs.Joined.{Either, Left, Right}
-use Rattle.reset_laws.specs.Reset.{AgreeFromReset}
-use Rattle.sec_base.specs.Outside.{Takes}
+use Rattle.circuit_laws.specs.reset_laws.Reset.{AgreeFromReset}
+use Rattle.sec_base.specs.base_shelves.Outside.{Takes}
 use Rattle.sec_base.specs.declared.basics.Orders.{Orders}
 use Rattle.flat_net.specs.declared.parts.Port.{Port}
 use Rattle.flat_net.specs.declared.parts.LatchAt.{LatchAt}
 use Rattle.flat_net.specs.View.{NetView, circuit_of, ports_of}
 use Rattle.blif_read.specs.Design.{Place}
 use Rattle.pair_decide.specs.declared.query.Proof.{Proof}
-use Rattle.latch_blocks.specs.Blocks.{block_at}
-use Rattle.latch_blocks.specs.QueryLaws.{AreBlockValues}
+use Rattle.block_refine.specs.latch_blocks.Blocks.{block_at}
+use Rattle.block_refine.specs.latch_blocks.QueryLaws.{AreBlockValues}
 use Rattle.induct.specs.induct_report.block_refine.SplitLimit.{SplitLimit}
 use Rattle.induct.specs.induct_report.block_refine.Refining.{IsSplitLimit}
 use Rattle.induct.specs.block_outputs.Answers.{IsLimit}

@@ -2,12 +2,12 @@
 use Rattle.std.specs.Prelude.{◌≡◌, ℕ, ◌≤◌, List, [], ◌∷◌, None, Option}
 use Rattle.std.specs.List.{filter_map}
 use Rattle.circuit_theory.specs.Interface.{first_mismatch}
-use Rattle.reset_laws.specs.Reset.{AgreeFromReset}
+use Rattle.circuit_laws.specs.reset_laws.Reset.{AgreeFromReset}
 use Rattle.sec_base.specs.declared.limits.TheConstants.{MAX_WEIGHT}
 use Rattle.flat_net.specs.Sound.{IsSound}
 use Rattle.flat_net.specs.View.{NetView, circuit_of, ports_of}
 use Rattle.pair_decide.specs.declared.query.Proof.{Proof}
-use Rattle.latch_blocks.specs.Signals.{net_weight}
+use Rattle.block_refine.specs.latch_blocks.Signals.{net_weight}
 use Rattle.job_base.specs.declared.finding.Judgement.{Judgement}
 use Rattle.job_base.specs.declared.finding.Judgement.TheVariants as judgement
 use Rattle.induct.specs.declared.induction.InductPair.{InductPair}

@@ -7,7 +7,7 @@ use Rattle.circuit_theory.specs.Depth.{HasCycle, IsCycle, IsDepth, HasNoDepth}
 use Rattle.circuit_theory.specs.Run.{Marked}
 use Rattle.flat_net.specs.View.{circuit_of}
 use Rattle.flat_net.proofs.Nets.{OfGate, OfLatch, equation_from}
-use Rattle.inner_cone.specs.latch_cone.Cones.{IsMarkedBy}
+use Rattle.signal_graph.specs.inner_cone.latch_cone.Cones.{IsMarkedBy}
 use Rattle.latch_graph.proofs.Skipping.{IsLessLeftOut, has_cycle_less, cycle_less, no_depth_less, same_depth, mode_as_skips, skips_as_mode}
 use Rattle.latch_kinds.specs.enable_laws.Enabled.{Enabling, Counts, CountTheSame}
 use Rattle.latch_kinds.specs.enable_laws.Laws.{DepthsDependOnEnabled, CyclesDependOnEnabled, MarksDependOnEnabled, GraphsCountTheirLatches, BitsCountTheirLatches}

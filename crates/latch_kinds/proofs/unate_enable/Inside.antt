@@ -6,7 +6,7 @@ use Rattle.flat_net.specs.View.{NetView, circuit_of}
 use Rattle.flat_net.specs.Cut.{latch_at}
 use Rattle.flat_net.specs.Sound.{IsSound}
 use Rattle.flat_net.proofs.Exposed.{latch_there}
-use Rattle.inner_cone.specs.Inner.{AreInside, LeadsAside}
+use Rattle.signal_graph.specs.inner_cone.Inner.{AreInside, LeadsAside}
 use Rattle.latch_kinds.specs.unate_enable.Walks.{AreReached}
 use Rattle.latch_kinds.specs.unate_enable.Cones.{out_of_latch, data_of_latch}
 use Rattle.flat_net.proofs.Drivers.{latch_source}

@@ -17,7 +17,7 @@ use Rattle.flat_net.specs.Cut.{latch_at}
 use Rattle.flat_net.specs.Sound.{IsSound}
 use Rattle.flat_net.proofs.Nets.{some_at}
 use Rattle.flat_net.proofs.Exposed.{latch_there}
-use Rattle.inner_cone.proofs.latch_cone.Walks.{nothing_at}
+use Rattle.signal_graph.proofs.inner_cone.latch_cone.Walks.{nothing_at}
 use Rattle.flat_net.specs.Weights.{weight_at}
 use Rattle.latch_kinds.specs.unate_enable.Cones.{data_of_latch}
 use Rattle.latch_kinds.specs.unate_enable.Recovery.{AreConesLight}

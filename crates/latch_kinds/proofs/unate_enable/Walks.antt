@@ -8,8 +8,8 @@ use Rattle.std.proofs.lemmas.Map.Keys.{IsStrictlyIncreasing-from_distinct, IsDis
 use Rattle.circuit_theory.specs.Circuit.{Circuit, Reads, Reaches}
 use Rattle.circuit_theory.proofs.Lists.{All-from_each, at_of}
 use Rattle.flat_net.specs.View.{NetView, circuit_of}
-use Rattle.inner_cone.specs.latch_cone.Cones.{AreReached as AreAllReached}
-use Rattle.inner_cone.proofs.Inner.{eqb-swap, some_distinct}
+use Rattle.signal_graph.specs.inner_cone.latch_cone.Cones.{AreReached as AreAllReached}
+use Rattle.signal_graph.proofs.inner_cone.Inner.{eqb-swap, some_distinct}
 use Rattle.latch_kinds.specs.unate_enable.Walks.{AreReached}
 
 -- what is reached goes on to what that reads

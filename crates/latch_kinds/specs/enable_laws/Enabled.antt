@@ -4,7 +4,7 @@ use Rattle.circuit_theory.specs.declared.Mode.{Mode}
 use Rattle.circuit_theory.specs.Circuit.{Circuit, IsLatch}
 use Rattle.circuit_theory.specs.Agree.{EnabledIn}
 use Rattle.flat_net.specs.declared.parts.LatchAt.{LatchAt}
-use Rattle.inner_cone.specs.latch_cone.Cones.{IsMarkedBy}
+use Rattle.signal_graph.specs.inner_cone.latch_cone.Cones.{IsMarkedBy}
 
 -- by a mode, by the places of the latches, or by a bit for each latch of a list
 pub data Enabling : Type 0 where

@@ -5,7 +5,7 @@ use Rattle.circuit_theory.specs.Circuit.{Circuit}
 use Rattle.circuit_theory.specs.Depth.{HasCycle, IsCycle, IsDepth, HasNoDepth}
 use Rattle.circuit_theory.specs.Run.{Marked}
 use Rattle.flat_net.specs.View.{NetView, circuit_of}
-use Rattle.inner_cone.specs.latch_cone.Cones.{MarksEnabled}
+use Rattle.signal_graph.specs.inner_cone.latch_cone.Cones.{MarksEnabled}
 use Rattle.signal_graph.specs.Graph.{GraphView, IsGraphIn}
 use Rattle.latch_kinds.specs.enable_laws.Enabled.{Enabling, Counts, CountTheSame}
 

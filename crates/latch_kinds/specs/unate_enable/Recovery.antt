@@ -17,7 +17,7 @@ use Rattle.pair_decide.specs.Answers.{IsAtLimit}
 use Rattle.latch_kinds.specs.declared.unate_enable.support.LatchCone.{LatchCone}
 use Rattle.latch_kinds.specs.declared.unate_enable.recovery.Recovery.{Recovery}
 use Rattle.latch_kinds.specs.declared.unate_enable.recovery.Recovery.TheVariants as recovery
-use Rattle.inner_cone.specs.Inner.{AreRanked}
+use Rattle.signal_graph.specs.inner_cone.Inner.{AreRanked}
 use Rattle.latch_kinds.specs.declared.unate_enable.facts.NetFacts.{NetFacts}
 use Rattle.latch_kinds.specs.unate_enable.Cones.{out_of_latch, data_of_latch, IsConeOfLatch, places_of}
 

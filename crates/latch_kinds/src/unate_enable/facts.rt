@@ -5,8 +5,8 @@ ghost use Rattle.latch_kinds.specs.unate_enable.Recovery.{AreFactsOf};
 
 use crate::unate_enable::reads::are_cones_light;
 use flat_net::Net;
-use inner_cone::ranks;
 use sec_base::{Ids, NoMemory};
+use signal_graph::inner_cone::ranks;
 use std::alloc::Global;
 
 /// What is known of a net.

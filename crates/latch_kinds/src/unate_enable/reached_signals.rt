@@ -13,7 +13,7 @@ pub(crate) fn reached(alloc: Global, net: &Net, from: Signal) -> Result<Vec<u32>
     requires { from.0 < length net.now.drivers }
     ensures { IfOk result (λ signals. AreReached (circuit_of net.now) (length net.now.drivers) from.0 signals.items) }
 {
-    let seen = inner_cone::latch_cone::reached(alloc, net, from)?;
+    let seen = signal_graph::inner_cone::latch_cone::reached(alloc, net, from)?;
     let mut sorted = Vec::from_slice(alloc, seen.as_slice())?;
     sorted.sort()?;
     Ok(sorted)

@@ -9,7 +9,7 @@ ghost use Rattle.latch_kinds.specs.unate_enable.Walks.{AreReached};
 ghost use Rattle.latch_kinds.specs.declared.unate_enable.support.LatchCone.{LatchCone};
 ghost use Rattle.latch_kinds.specs.unate_enable.Cones.{data_of_latch, out_of_latch, IsConeOfLatch, places_of};
 ghost use Rattle.latch_kinds.specs.unate_enable.Building.{AreClosed};
-ghost use Rattle.inner_cone.specs.Inner.{AreInside};
+ghost use Rattle.signal_graph.specs.inner_cone.Inner.{AreInside};
 ghost use Rattle.latch_kinds.specs.unate_enable.Recovery.{IsRecovery, IsEnabledAt, AreFactsOf, IsTooLarge, IsAnswer, IsQueryOf, recovery_of};
 ghost use Rattle.latch_kinds.specs.declared.unate_enable.recovery.RecoverError.TheVariants as recover_error;
 
@@ -21,9 +21,9 @@ use crate::unate_enable::sources::{cone_among, places};
 use crate::unate_enable::ways::never_falls;
 use aig::Aig;
 use flat_net::{Net, Signal, latch_of};
-use inner_cone::inside;
 use pair_decide::{Decision, Proof, Query, decide};
 use sec_base::{Bits, Ids, MAX_CONFLICTS, MAX_WEIGHT, NoMemory};
+use signal_graph::inner_cone::inside;
 use std::alloc::Global;
 
 /// The limit of conflicts from which on the covers are looked at before the query.

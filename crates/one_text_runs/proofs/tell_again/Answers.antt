@@ -1,7 +1,7 @@
 use Rattle.std.specs.Prelude.{IsSome}
 use Rattle.std.proofs.Common.{ℕ, List, [], ◌∷◌, ◌∙◌, Option, refl, sym, subst}
 use Rattle.std.proofs.lemmas.List.Elements.{All-nil, All-cons, All-weaker}
-use Rattle.sec_base.specs.MemShelf.{IsServing}
+use Rattle.sec_base.specs.base_shelves.MemShelf.{IsServing}
 use Rattle.one_text_runs.proofs.tell_again.Goals as goal
 
 pub returns : goal.returns

@@ -26,7 +26,7 @@ use Rattle.sec_setup.specs.witness_report.PairName.{PairName}
 use Rattle.sec_setup.specs.witness_report.PairName.TheVariants as pair
 use Rattle.obligations.specs.PairResult.{PairResult}
 use Rattle.outcome_fits.specs.Outcome.{AnswerFits, PairFits, PairsFit, greatest_size}
-use Rattle.sec_setup.specs.Pairs.{NamedPair, pair_called, named_pairs}
+use Rattle.sec_setup.specs.ports.Pairs.{NamedPair, pair_called, named_pairs}
 use Rattle.sec_setup.specs.witness_report.Shown.{ArePlacesOf}
 
 some_is : {X : Type 0} {x y : X} → Some x ≡ Some y → x ≡ y

@@ -7,7 +7,7 @@ use Rattle.circuit_theory.specs.Sizes.{Visits, WeighsAt, IsWeight, IsOver}
 use Rattle.circuit_theory.proofs.Lists.{map-map}
 use Rattle.sec_setup.specs.flat_net.Cut.{IsCutCircuit}
 use Rattle.sec_setup.specs.flat_net.View.{NetView, named, circuit_of}
-use Rattle.sec_setup.specs.Pairs.{outputs_of}
+use Rattle.sec_setup.specs.ports.Pairs.{outputs_of}
 use Rattle.outcome_fits.specs.Fitting.{IsLight, IsTooLarge, cut_outputs, IsCutOver, IsCutLight}
 
 -- sizes look at inputs and equations alone

@@ -12,7 +12,7 @@ use Rattle.sec_setup.specs.witness_report.PairName.TheVariants as pair
 use Rattle.obligations.specs.pair_decide.Proof.{Proof}
 use Rattle.obligations.specs.PairResult.{PairResult}
 use Rattle.sec_setup.specs.Cuts.{is_cut}
-use Rattle.sec_setup.specs.Pairs.{NamedPair, pair_called, named_pairs}
+use Rattle.sec_setup.specs.ports.Pairs.{NamedPair, pair_called, named_pairs}
 use Rattle.outcome_fits.specs.Limits.{IsUndecided}
 use Rattle.outcome_fits.specs.Outcome.{AnswerFits}
 

@@ -10,7 +10,7 @@ use Rattle.circuit_theory.specs.Tree.{Tree, Trees, tree_value, tree_values, Unfo
 use Rattle.circuit_theory.specs.Query.{HasLeaf, HasLeafIn}
 use Rattle.circuit_theory.proofs.Lists.{at_of}
 use Rattle.circuit_theory.proofs.Numbers.{is_among-sound, is_among-complete}
-use Rattle.interface.proofs.Shared.{some_is}
+use Rattle.sec_setup.proofs.ports.Shared.{some_is}
 
 -- the leaf's value is that of its input, so many cycles before the last
 abbrev pub HasInputsValue : {P : Type 0} → Circuit P → List ℕ → (ℕ → P → Bool) → ℕ → (ℕ → ℕ → Bool) → (ℕ → ℕ → Type 0) → Type 0

@@ -32,7 +32,7 @@ use Rattle.obligations.specs.outcome.Verdict.TheVariants as verdict
 use Rattle.obligations.specs.outcome.Why.TheVariants as why
 use Rattle.obligations.specs.outcome.Outcome.{Outcome}
 use Rattle.outcome_fits.specs.Outcome.{AnswerFits, PairFits, IsFirstOfAnswer, NoneIs, VerdictFits}
-use Rattle.sec_setup.specs.Pairs.{NamedPair, named_pairs}
+use Rattle.sec_setup.specs.ports.Pairs.{NamedPair, named_pairs}
 use Rattle.outcome_fits.specs.plain_meaning.Equal.{AreEqual}
 use Rattle.outcome_fits.specs.Fitting.{OutcomeFits}
 use Rattle.sec_setup.specs.Cuts.{columns_of, is_cut}

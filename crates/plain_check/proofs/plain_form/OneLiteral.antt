@@ -12,10 +12,10 @@ use Rattle.pair_decide.specs.declared.query.Proof.{Proof}
 use Rattle.outcome.specs.declared.verdict.PairResult.{PairResult}
 use Rattle.obligations.specs.declared.obligation.Obligation.{Obligation}
 use Rattle.obligations.specs.Decided.{AnswerIs, IsAnswered}
-use Rattle.interface.specs.declared.pairs.SignalPair.{SignalPair}
+use Rattle.sec_setup.specs.declared.ports.pairs.SignalPair.{SignalPair}
 use Rattle.sec_setup.specs.declared.setup.Setup.{Setup}
 use Rattle.sec_setup.specs.Cuts.{is_cut}
-use Rattle.sec_setup.specs.Pairs.{places_of}
+use Rattle.sec_setup.specs.ports.Pairs.{places_of}
 use Rattle.plain_asked.specs.outcome_fits.Outcome.{AnswerFits, PairFits}
 use Rattle.plain_asked.specs.declared.functions.Functions.{Functions}
 use Rattle.plain_asked.specs.Asked.{AskedApart, AskedOf, AsksNothing}

@@ -10,8 +10,8 @@ use Rattle.outcome.specs.declared.verdict.LimitAt.TheVariants as limit_at
 use Rattle.outcome.specs.declared.verdict.PairResult.{PairResult}
 use Rattle.outcome.specs.declared.verdict.Verdict.{Verdict}
 use Rattle.sec_setup.specs.declared.setup.Setup.{Setup}
-use Rattle.interface.specs.declared.pairs.SignalPair.{SignalPair}
-use Rattle.sec_setup.specs.Pairs.{places_of}
+use Rattle.sec_setup.specs.declared.ports.pairs.SignalPair.{SignalPair}
+use Rattle.sec_setup.specs.ports.Pairs.{places_of}
 use Rattle.obligations.specs.declared.obligation.Obligation.{Obligation}
 use Rattle.obligations.specs.declared.obligation.Difference.{Difference}
 use Rattle.obligations.specs.declared.decision.Decided.{Decided}

@@ -7,7 +7,7 @@ use Rattle.outcome.specs.declared.verdict.LimitAt.{LimitAt}
 use Rattle.outcome.specs.declared.verdict.Verdict.TheVariants as verdict
 use Rattle.plain_asked.specs.declared.findings.Findings.{Findings}
 use Rattle.plain_asked.specs.Findings.{FindingsFit}
-use Rattle.sec_setup.specs.Pairs.{NamedPair}
+use Rattle.sec_setup.specs.ports.Pairs.{NamedPair}
 
 -- both places unfold to one tree
 abbrev pub HaveOneTree : {P Q : Type 0} → Circuit P → Circuit Q → List ℕ → List ℕ → P → Q → Type 0

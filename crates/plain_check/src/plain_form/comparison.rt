@@ -3,7 +3,7 @@
 ghost use Rattle.std.specs.Prelude.{◌≤◌, map, IfOk};
 ghost use Rattle.flat_net.specs.View.{circuit_of};
 ghost use Rattle.sec_setup.specs.Cuts.{is_cut};
-ghost use Rattle.sec_setup.specs.Pairs.{places_of};
+ghost use Rattle.sec_setup.specs.ports.Pairs.{places_of};
 ghost use Rattle.sec_setup.specs.Setup.{IsSetup};
 ghost use Rattle.plain_asked.specs.Formed.{Formed};
 ghost use Rattle.plain_asked.specs.Apart.{HaveFunctionsApart};

@@ -7,13 +7,13 @@ use Rattle.flatten.specs.DesignFaults.{IsClocked, IsFlatOf}
 use Rattle.sec_files.specs.Formats.{Blif}
 use Rattle.sec_files.specs.Loading.{Loads}
 use Rattle.sec_files.proofs.Texts.{text_net}
-use Rattle.latch_blocks.specs.Signals.{net_weight}
+use Rattle.block_refine.specs.latch_blocks.Signals.{net_weight}
 use Rattle.job_induct.specs.induct_meaning.Answer.{CanBeJudged}
-use Rattle.design_rows.specs.Designs as design
-use Rattle.design_rows.specs.Small.{Small, small_and, small_toggle, small_late, small_early}
-use Rattle.design_rows.specs.Texts.{on_and, off_and, toggle}
-use Rattle.design_rows.proofs.Spelling.{Spells, PortsMatch, accepted, net_is_small, match}
-use Rattle.design_rows.proofs.SpelledTexts.{on_and_spells, off_and_spells, toggle_spells}
+use Rattle.check_meaning.specs.design_rows.Designs as design
+use Rattle.check_meaning.specs.design_rows.Small.{Small, small_and, small_toggle, small_late, small_early}
+use Rattle.check_meaning.specs.design_rows.Texts.{on_and, off_and, toggle}
+use Rattle.check_meaning.proofs.design_rows.Spelling.{Spells, PortsMatch, accepted, net_is_small, match}
+use Rattle.check_meaning.proofs.design_rows.SpelledTexts.{on_and_spells, off_and_spells, toggle_spells}
 use Rattle.premise_rows.specs.block_premises.ByBlocks.{TextsCanBeJudged}
 use Rattle.premise_rows.specs.block_premises.ResetPremises.{late_from_zero, early_from_zero}
 use Rattle.premise_rows.proofs.block_premises.NetWeights.{circuit_weight, net_weighs}

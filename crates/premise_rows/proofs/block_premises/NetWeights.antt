@@ -13,12 +13,12 @@ use Rattle.circuit_theory.proofs.Lists.{Contains-cases, Contains-map, Contains-m
 use Rattle.circuit_theory.proofs.Sums.{sum_within}
 use Rattle.flat_net.specs.Sound.{IsSound}
 use Rattle.flat_net.specs.View.{NetView, circuit_of}
-use Rattle.net_alike.specs.FlatCircuit.{IsFlatCircuit}
+use Rattle.net_assembly.specs.net_alike.FlatCircuit.{IsFlatCircuit}
 use Rattle.flat_net.specs.Weights.{weight_at}
 use Rattle.flat_net.proofs.Drivers.{weighs}
 use Rattle.unfold_places.proofs.Lists.{sum_by-map}
-use Rattle.latch_blocks.specs.Signals.{net_weight}
-use Rattle.latch_blocks.proofs.Weights.{weight_below, weight_step, weight_all}
+use Rattle.block_refine.specs.latch_blocks.Signals.{net_weight}
+use Rattle.block_refine.proofs.latch_blocks.Weights.{weight_below, weight_step, weight_all}
 
 -- what a port drives counts nothing
 abbrev equation_weight : {P : Type 0} → Equation P → ℕ

@@ -10,7 +10,7 @@ use Rattle.circuit_theory.specs.Run.{NoneEnabled}
 use Rattle.circuit_theory.specs.Sizes.{Visits, WeighsAt, Weighed, IsOver}
 use Rattle.circuit_theory.proofs.Lists.{Contains-head, Contains-tail, Contains-cases, Contains-map_from, All-from_each}
 use Rattle.circuit_theory.proofs.Sums.{AllPairs-head, AllPairs-tail}
-use Rattle.reset_laws.specs.Weight.{ResetVisits, WeighedInCycle}
+use Rattle.circuit_laws.specs.reset_laws.Weight.{ResetVisits, WeighedInCycle}
 
 -- so many times
 abbrev pub times : ℕ → ℕ → ℕ

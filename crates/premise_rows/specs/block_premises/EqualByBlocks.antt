@@ -4,21 +4,21 @@ use Rattle.std.specs.List.{AllZip}
 use Rattle.circuit_theory.specs.Agree.{IsPair}
 use Rattle.circuit_theory.specs.Interface.{AreNumbersOf}
 use Rattle.circuit_theory.specs.Joined.{Either, Left, Right}
-use Rattle.reset_laws.specs.Reset.{AgreeFromReset}
+use Rattle.circuit_laws.specs.reset_laws.Reset.{AgreeFromReset}
 use Rattle.sec_base.specs.declared.basics.Init.TheVariants as init
 use Rattle.sec_base.specs.declared.basics.Orders.{Orders}
 use Rattle.flat_net.specs.declared.parts.Driver.TheVariants as driver
 use Rattle.flat_net.specs.Comparable.{IsComparable}
 use Rattle.flat_net.specs.Sound.{IsSound}
 use Rattle.flat_net.specs.View.{NetView, circuit_of, ports_of}
-use Rattle.latch_blocks.specs.QueryLaws.{AreBlockValues}
+use Rattle.block_refine.specs.latch_blocks.QueryLaws.{AreBlockValues}
 use Rattle.block_refine.specs.declared.block_graph.nets.BlockNets.{BlockNets}
 use Rattle.block_refine.specs.declared.block_graph.graph.BlockGraph.{BlockGraph}
 use Rattle.block_refine.specs.Refining.{AreCoarsest}
 use Rattle.induct.specs.declared.block_outputs.answer.OutputAnswer.TheVariants as answer
 use Rattle.induct.specs.declared.block_outputs.outputs.OutputPair.{OutputPair}
 use Rattle.induct.specs.block_outputs.Answers.{IsOutputAnswer}
-use Rattle.design_rows.specs.Designs.{xor_cover}
+use Rattle.check_meaning.specs.design_rows.Designs.{xor_cover}
 
 -- 0 a; 1 q, which starts with 0 and takes over 2, one of a and q but not both
 abbrev pub one_turning : NetView

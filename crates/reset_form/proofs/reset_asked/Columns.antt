@@ -6,11 +6,11 @@ use Rattle.circuit_theory.specs.Tree.{Tree}
 use Rattle.circuit_theory.specs.Query.{Variable, HasLeaf}
 use Rattle.circuit_theory.specs.Sizes.{Visits}
 use Rattle.flat_net.specs.View.{NetView, circuit_of}
-use Rattle.reset_laws.specs.Reset.{ResetUnfolds}
-use Rattle.reset_laws.specs.Weight.{ResetVisits}
-use Rattle.reset_functions.specs.reset_unfold.Places.{IsLeafAt}
-use Rattle.reset_functions.proofs.reset_unfold.TreeLeaves.{leaf_visits}
-use Rattle.sec_setup.specs.Pairs.{outputs_of}
+use Rattle.circuit_laws.specs.reset_laws.Reset.{ResetUnfolds}
+use Rattle.circuit_laws.specs.reset_laws.Weight.{ResetVisits}
+use Rattle.reset_form.specs.reset_functions.reset_unfold.Places.{IsLeafAt}
+use Rattle.reset_form.proofs.reset_functions.reset_unfold.TreeLeaves.{leaf_visits}
+use Rattle.sec_setup.specs.ports.Pairs.{outputs_of}
 use Rattle.sec_setup.specs.Setup.{AreColumns}
 use Rattle.sec_setup.proofs.ReadInputs.{visited_is_column}
 

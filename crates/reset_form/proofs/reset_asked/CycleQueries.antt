@@ -8,7 +8,7 @@ use Rattle.std.proofs.lemmas.Option.{slice_get_within, get_or_from_slice_get}
 use Rattle.circuit_theory.specs.Tree.{Tree, tree_value}
 use Rattle.circuit_theory.specs.Query as query
 use Rattle.circuit_theory.specs.Query.{Variable, AreVariables, HasLeaf, same_shift, pair_query, bits_of}
-use Rattle.reset_laws.specs.Reset.{CycleBefore}
+use Rattle.circuit_laws.specs.reset_laws.Reset.{CycleBefore}
 use Rattle.circuit_theory.proofs.Lists.{Contains-head, Contains-tail, Contains-cases, Contains-map, Contains-map_from, All-from_each, length-map}
 use Rattle.circuit_theory.proofs.Sums.{AllPairs-head, AllPairs-tail}
 use Rattle.base_tables.specs.Table.{AreDistinct}
@@ -24,8 +24,8 @@ use Rattle.aig.proofs.CoverMeaning.{value-one}
 use Rattle.unfold_places.specs.declared.signal_function.Unfolded.{Unfolded}
 use Rattle.unfold_places.specs.Growing.{IsNumberOf}
 use Rattle.unfold_places.proofs.Cone.{reached_one, constant_reaches}
-use Rattle.reset_functions.specs.reset_unfold.Unfolded.{IsResetUnfolded}
-use Rattle.reset_functions.proofs.reset_unfold.CoveredCones.{covers_cone}
+use Rattle.reset_form.specs.reset_functions.reset_unfold.Unfolded.{IsResetUnfolded}
+use Rattle.reset_form.proofs.reset_functions.reset_unfold.CoveredCones.{covers_cone}
 use Rattle.unfold_places.proofs.Lists.{pairs_map}
 use Rattle.pair_decide.specs.declared.query.Query.{Query}
 use Rattle.pair_decide.specs.Queries.{IsQuery, IsSame, IsLeast, Distinguishes, assigned_to, roots_of}

@@ -6,7 +6,7 @@ use Rattle.std.proofs.lemmas.Option.{slice_get-get_or}
 use Rattle.circuit_theory.specs.Tree.{Tree}
 use Rattle.circuit_theory.proofs.Lists.{Contains-map}
 use Rattle.flat_net.specs.View.{NetView, circuit_of}
-use Rattle.reset_laws.specs.Reset.{HaveEqualResets}
+use Rattle.circuit_laws.specs.reset_laws.Reset.{HaveEqualResets}
 use Rattle.aig.specs.declared.node.Lit.{Lit}
 use Rattle.aig.specs.declared.node.Node.{Node}
 use Rattle.aig.specs.Builds.{Builds}

@@ -11,12 +11,12 @@ use Rattle.unfold_places.specs.declared.signal_function.Unfolded.{Unfolded}
 use Rattle.unfold_places.proofs.Lists.{append_cases}
 use Rattle.pair_decide.specs.declared.query.Query.{Query}
 use Rattle.aig.specs.declared.node.Node.{Node}
-use Rattle.interface.specs.declared.pairs.SignalPair.{SignalPair}
+use Rattle.sec_setup.specs.declared.ports.pairs.SignalPair.{SignalPair}
 use Rattle.sec_setup.specs.declared.setup.Setup.{Setup}
 use Rattle.shift_variables.specs.cycle_variables.Cycles.{AreInCycles}
 use Rattle.reset_form.specs.reset_asked.Asked.{IsCycleQuery}
-use Rattle.reset_functions.specs.Pairs.{AreCyclesOf, IsTopOf}
-pub use Rattle.reset_functions.proofs.OwnPairs.{output_within, one_pair_depth}
+use Rattle.reset_form.specs.reset_functions.Pairs.{AreCyclesOf, IsTopOf}
+use Rattle.reset_form.proofs.reset_functions.OwnPairs.{one_pair_depth}
 use Rattle.reset_form.proofs.reset_asked.CycleQueries.{in_order}
 
 -- the functions of a pair at its place

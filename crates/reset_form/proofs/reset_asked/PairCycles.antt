@@ -17,14 +17,14 @@ use Rattle.pair_decide.specs.declared.query.Query.{Query}
 use Rattle.pair_decide.specs.declared.query.Proof.{Proof}
 use Rattle.pair_decide.specs.Queries.{IsQuery, IsSame}
 use Rattle.outcome.specs.declared.verdict.PairResult.{PairResult}
-use Rattle.interface.specs.declared.pairs.SignalPair.{SignalPair}
+use Rattle.sec_setup.specs.declared.ports.pairs.SignalPair.{SignalPair}
 use Rattle.obligations.specs.declared.obligation.Obligation.{Obligation}
 use Rattle.obligations.specs.Found.{IsFirstOpen}
 use Rattle.obligations.specs.Decided.{AnswerIs, IsAnswered}
 use Rattle.sec_setup.specs.declared.setup.Setup.{Setup}
-use Rattle.sec_setup.specs.Pairs.{places_of}
-use Rattle.reset_functions.specs.declared.bases.Bases.{Bases}
-use Rattle.reset_functions.specs.declared.functions.Functions.{Functions}
+use Rattle.sec_setup.specs.ports.Pairs.{places_of}
+use Rattle.reset_form.specs.declared.reset_functions.bases.Bases.{Bases}
+use Rattle.reset_form.specs.declared.reset_functions.functions.Functions.{Functions}
 use Rattle.reset_form.specs.reset_asked.Asked.{AskedOf}
 use Rattle.reset_form.specs.reset_asked.Numbers.{numbered}
 use Rattle.outcome_fits.specs.ResetOutcome.{AgreeAt, AgreeBefore, AnswerFits, PairFits}

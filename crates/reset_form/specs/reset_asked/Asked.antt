@@ -6,12 +6,12 @@ use Rattle.flat_net.specs.View.{circuit_of}
 use Rattle.unfold_places.specs.declared.signal_function.Unfolded.{Unfolded}
 use Rattle.pair_decide.specs.declared.query.Query.{Query}
 use Rattle.obligations.specs.declared.obligation.Obligation.{Obligation}
-use Rattle.interface.specs.declared.pairs.SignalPair.{SignalPair}
+use Rattle.sec_setup.specs.declared.ports.pairs.SignalPair.{SignalPair}
 use Rattle.sec_setup.specs.declared.setup.Setup.{Setup}
 use Rattle.shift_variables.specs.cycle_variables.Cycles.{IsCycleMerge}
-use Rattle.reset_functions.specs.declared.bases.Bases.{Bases}
-use Rattle.reset_functions.specs.declared.functions.Functions.{Functions}
-use Rattle.reset_functions.specs.Pairs.{AreCyclesOf}
+use Rattle.reset_form.specs.declared.reset_functions.bases.Bases.{Bases}
+use Rattle.reset_form.specs.declared.reset_functions.functions.Functions.{Functions}
+use Rattle.reset_form.specs.reset_functions.Pairs.{AreCyclesOf}
 
 -- the query of two functions: do they agree always? Its variables are those of both.
 pub record IsCycleQuery (places : List (ℕ × ℕ)) (left right : Unfolded) (q : Query) : Type 0 where

@@ -1,7 +1,7 @@
 -- The circuits of a setup, with the numbers of their variables.
 use Rattle.flat_net.specs.View.{circuit_of}
 use Rattle.sec_setup.specs.declared.setup.Setup.{Setup}
-use Rattle.reset_functions.specs.declared.bases.Bases.{Bases}
+use Rattle.reset_form.specs.declared.reset_functions.bases.Bases.{Bases}
 use Rattle.outcome_fits.specs.ResetOutcome.{Numbered}
 
 abbrev pub numbered : Setup → Bases → Numbered

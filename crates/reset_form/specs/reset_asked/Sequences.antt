@@ -9,7 +9,7 @@ use Rattle.witness_report.specs.declared.witness.Witness.{Witness}
 use Rattle.obligations.specs.declared.obligation.Obligation.{Obligation}
 use Rattle.obligations.specs.declared.obligation.Difference.{Difference}
 use Rattle.obligations.specs.declared.verdict.VerdictAt.TheVariants as at
-use Rattle.reset_laws.specs.Reset.{reset_rows}
+use Rattle.circuit_laws.specs.reset_laws.Reset.{reset_rows}
 use Rattle.shift_variables.specs.Sequences.{bits_at}
 
 -- the obligation and the query of a difference

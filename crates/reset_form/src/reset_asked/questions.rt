@@ -1,17 +1,17 @@
 //! What the reset form asks of each pair.
 
 ghost use Rattle.std.specs.Prelude.{◌≡◌, ◌<◌, length, slice_get, Some, All, IfOk};
-ghost use Rattle.interface.specs.declared.pairs.SignalPair.{SignalPair};
+ghost use Rattle.sec_setup.specs.declared.ports.pairs.SignalPair.{SignalPair};
 ghost use Rattle.sec_setup.specs.Setup.{IsSetup};
 ghost use Rattle.shift_variables.specs.cycle_variables.Cycles.{AreInCycles};
 ghost use Rattle.reset_form.specs.reset_asked.Asked.{AreAsked, AskedOf, AreCycleQueries, IsCycleQuery};
-ghost use Rattle.reset_functions.specs.Pairs.{HaveFunctions};
+ghost use Rattle.reset_form.specs.reset_functions.Pairs.{HaveFunctions};
 
+use crate::reset_functions::{Bases, Functions};
 use aig::Lit;
 use base_tables::PlaceTable;
 use obligations::{Obligation, Queries, copy_name};
 use pair_decide::Query;
-use reset_functions::{Bases, Functions};
 use sec_base::NoMemory;
 use sec_setup::{Setup, pair_depth};
 use shift_variables::cycle_variables::merge_cycles;

@@ -1,7 +1,7 @@
 //! Places are unfolded in an order of evaluation.
 
 ghost use Rattle.std.specs.Prelude.{◌≡◌, ℕ, ◌+◌, ◌^◌, ◌<◌, ◌≤◌, length, Contains, OnOk};
-ghost use Rattle.reset_laws.specs.Weight.{IsResetOver};
+ghost use Rattle.circuit_laws.specs.reset_laws.Weight.{IsResetOver};
 ghost use Rattle.flat_net.specs.View.{circuit_of};
 ghost use Rattle.unfold_places.specs.Reach.{IsMet};
 ghost use Rattle.unfold_places.specs.declared.error.UnfoldError.TheVariants as unfold_error;

@@ -15,7 +15,7 @@ use Rattle.latch_graph.proofs.flat_net.Places.{one_at}
 use Rattle.latch_graph.specs.Graph.{GraphView, IsGraphOf, IsGraphIn}
 use Rattle.latch_graph.proofs.Skipping.{cycle_in_graph}
 use Rattle.sec_setup.specs.declared.cut_points.expose_pick.pairs.LatchPair.{LatchPair}
-use Rattle.minimal_cut.specs.Chosen.{IsFree, IsMinimalChoice, at_places, names_at}
+use Rattle.latch_graph.specs.minimal_cut.Chosen.{IsFree, IsMinimalChoice, at_places, names_at}
 use Rattle.sec_setup.specs.cut_points.expose_pick.Pairs.{lefts, rights}
 use Rattle.sec_setup.specs.cut_points.expose_pick.Laws.{ChosenIsMinimalCut}
 use Rattle.sec_setup.specs.cut_points.expose_pick.Laws as laws

@@ -14,7 +14,7 @@ use Rattle.latch_graph.specs.flat_net.Cut.{no_latch, latch_at, exposed_names}
 use Rattle.latch_graph.proofs.flat_net.Nets.{latch_stands}
 use Rattle.latch_graph.specs.Graph.{GraphView, IsGraphIn, signals_at}
 use Rattle.latch_graph.proofs.Skipping.{mode_cycle}
-use Rattle.minimal_cut.specs.Chosen.{names_at}
+use Rattle.latch_graph.specs.minimal_cut.Chosen.{names_at}
 use Rattle.sec_setup.specs.cut_points.expose_pick.Pairs.{IsLeft}
 use Rattle.sec_setup.specs.cut_points.Common.{common_names}
 use Rattle.sec_setup.specs.cut_points.Exposed.{Exposes, IsFreeWithout, IsToldCycle, TellsCycle}

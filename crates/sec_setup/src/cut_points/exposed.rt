@@ -4,7 +4,7 @@ ghost use Rattle.std.specs.Prelude.{◌≡◌, ◌<◌, length, All, IfOk};
 ghost use Rattle.latch_graph.specs.flat_net.Cut.{exposed_names};
 ghost use Rattle.circuit_theory.specs.declared.Mode.{Mode};
 ghost use Rattle.latch_graph.specs.Graph.{IsGraphOf, IsGraphIn};
-ghost use Rattle.minimal_cut.specs.Chosen.{at_places};
+ghost use Rattle.latch_graph.specs.minimal_cut.Chosen.{at_places};
 ghost use Rattle.sec_setup.specs.cut_points.expose_pick.Pairs.{lefts, rights};
 ghost use Rattle.sec_setup.specs.cut_points.Exposed.{Exposes, TellsCycle};
 

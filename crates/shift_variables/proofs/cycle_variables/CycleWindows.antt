@@ -10,7 +10,7 @@ use Rattle.circuit_theory.specs.Sequence.{sequence_row}
 use Rattle.circuit_theory.proofs.Lists.{Contains-map_from, of_at, length-map}
 use Rattle.unfold_places.proofs.Lists.{pairs_at}
 use Rattle.pair_decide.specs.Queries.{assigned_to}
-use Rattle.reset_laws.specs.Reset.{CycleBefore}
+use Rattle.circuit_laws.specs.reset_laws.Reset.{CycleBefore}
 use Rattle.shift_variables.specs.Variables.{variable_of, variables_of}
 use Rattle.shift_variables.specs.Sequences.{bits_at, EndsShift}
 use Rattle.shift_variables.proofs.MergeLists.{pairs_drop}

@@ -6,7 +6,7 @@ use Rattle.std.proofs.lemmas.List.Kept.{AllPairs-cons}
 use Rattle.circuit_theory.specs.Query.{Variable}
 use Rattle.circuit_theory.proofs.Lists.{Contains-head, Contains-tail, Contains-cases, All-from_each}
 use Rattle.circuit_theory.proofs.Sums.{AllPairs-head}
-use Rattle.reset_laws.specs.Reset.{CycleBefore}
+use Rattle.circuit_laws.specs.reset_laws.Reset.{CycleBefore}
 use Rattle.shift_variables.specs.Variables.{variable_of}
 use Rattle.shift_variables.proofs.MergeLists.{pairs_drop, drop_at}
 use Rattle.shift_variables.specs.cycle_variables.Cycles.{GoesFirst, IsCycleMerge}

@@ -12,10 +12,10 @@ use Rattle.flat_net.specs.View.{NetView, circuit_of, start_of}
 use Rattle.flat_net.specs.Sound.{IsSound}
 use Rattle.flat_net.proofs.Growth.{slice_get-append}
 use Rattle.flat_net.proofs.Nets.{some_at}
-use Rattle.reset_laws.specs.Reset.{power_of, start_at, powers, powers_from}
-use Rattle.reset_laws.proofs.ResetAgreement.{power_is}
-use Rattle.reset_laws.proofs.ResetWindows.{start_none}
-use Rattle.reset_laws.proofs.reset_nets.Starts.{nets_have_starts}
+use Rattle.circuit_laws.specs.reset_laws.Reset.{power_of, start_at, powers, powers_from}
+use Rattle.circuit_laws.proofs.reset_laws.ResetAgreement.{power_is}
+use Rattle.circuit_laws.proofs.reset_laws.ResetWindows.{start_none}
+use Rattle.circuit_laws.proofs.reset_laws.reset_nets.Starts.{nets_have_starts}
 use Rattle.shift_variables.proofs.Reading.{below_or_here}
 use Rattle.shift_variables.specs.cycle_variables.Cycles.{start_or, IsPowerUp}
 

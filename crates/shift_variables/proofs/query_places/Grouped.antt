@@ -4,7 +4,7 @@ use Rattle.std.specs.Prelude.{◌⊎◌}
 use Rattle.std.specs.List.{AllPairs}
 use Rattle.std.proofs.lemmas.Option.{same_Some}
 use Rattle.circuit_theory.specs.Query.{Variable, ShiftBefore}
-use Rattle.reset_laws.specs.Reset.{CycleBefore}
+use Rattle.circuit_laws.specs.reset_laws.Reset.{CycleBefore}
 use Rattle.shift_variables.specs.Variables.{variable_of}
 use Rattle.unfold_places.proofs.Lists.{pairs_at}
 use Rattle.shift_variables.specs.query_places.Places.{place_of, AreGrouped}

@@ -7,7 +7,7 @@ use Rattle.circuit_theory.specs.Circuit.{Circuit}
 use Rattle.circuit_theory.specs.Cone.{latches_of}
 use Rattle.sec_base.specs.declared.basics.Init.{Init}
 use Rattle.sec_base.specs.declared.basics.Init.TheVariants as init
-use Rattle.reset_laws.specs.Reset.{CycleBefore, power_of, start_at}
+use Rattle.circuit_laws.specs.reset_laws.Reset.{CycleBefore, power_of, start_at}
 use Rattle.shift_variables.specs.Variables.{variable_of}
 
 -- the number of an input or a latch

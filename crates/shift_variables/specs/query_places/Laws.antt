@@ -1,7 +1,7 @@
 -- Variables in order stand side by side where they have one place.
 use Rattle.std.specs.Prelude.{ℕ, List}
 use Rattle.std.specs.List.{AllPairs}
-use Rattle.reset_laws.specs.Reset.{CycleBefore}
+use Rattle.circuit_laws.specs.reset_laws.Reset.{CycleBefore}
 use Rattle.shift_variables.specs.Variables.{variable_of, AreInOrder}
 use Rattle.shift_variables.specs.query_places.Places.{AreGrouped}
 

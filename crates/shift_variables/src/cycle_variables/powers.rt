@@ -2,7 +2,7 @@
 
 ghost use Rattle.std.specs.Prelude.{◌≡◌, length, IfOk};
 ghost use Rattle.flat_net.specs.View.{circuit_of};
-ghost use Rattle.reset_laws.specs.Reset.{powers};
+ghost use Rattle.circuit_laws.specs.reset_laws.Reset.{powers};
 ghost use Rattle.shift_variables.specs.Sequences.{bits_at};
 ghost use Rattle.shift_variables.specs.cycle_variables.Cycles.{AreInCycles, IsPowerUp, start_or};
 

@@ -3,7 +3,7 @@
 ghost use Rattle.std.specs.Prelude.{◌≡◌, ◌≢◌, ℕ, ◌+◌, ◌<◌, map, length, false, slice_index_or, All, IfOk};
 ghost use Rattle.std.specs.List.{AllPairs};
 ghost use Rattle.pair_decide.specs.Queries.{assigned_to};
-ghost use Rattle.reset_laws.specs.Reset.{reset_rows};
+ghost use Rattle.circuit_laws.specs.reset_laws.Reset.{reset_rows};
 ghost use Rattle.shift_variables.specs.Sequences.{bits_at};
 ghost use Rattle.shift_variables.specs.cycle_variables.Cycles.{AreInCycles, number_of};
 

@@ -4,21 +4,21 @@ use Rattle.std.specs.Prelude.{◌⊎◌, slice_get, IfSome, IfNone}
 use Rattle.std.specs.List.{Contains, AllPairs, sum_by}
 use Rattle.std.proofs.lemmas.List.Sums.{sum_by-cons, sum_by-append}
 use Rattle.std.proofs.lemmas.Option.{slice_get_within}
-use Rattle.inner_cone.specs.flat_net.Signal.{Signal}
-use Rattle.inner_cone.specs.flat_net.Gate.{Gate}
-use Rattle.inner_cone.specs.flat_net.LatchAt.{LatchAt}
-use Rattle.inner_cone.specs.flat_net.Driver.{Driver}
-use Rattle.inner_cone.specs.flat_net.Driver.TheVariants as driver
-use Rattle.inner_cone.specs.flat_net.View.{NetView, circuit_of, cover_of}
-use Rattle.inner_cone.specs.flat_net.Sound.{IsSound, Drives}
-use Rattle.inner_cone.proofs.flat_net.Places.{one_at, cover_of-is}
-use Rattle.inner_cone.proofs.flat_net.Growth.{slice_get-append, slice_get-push, slice_get-push_cases, length-push}
-use Rattle.inner_cone.proofs.flat_net.Nets.{some_at, gate_stands, latch_stands, input_stands}
-use Rattle.inner_cone.specs.circuit_theory.Cover.{Cover}
-use Rattle.inner_cone.specs.circuit_theory.Circuit.{Gate as gate_equation, IsLatch, Reads}
-use Rattle.inner_cone.specs.circuit_theory.Sizes.{WeighsAt, Weighed, Visits, IsWeight, IsOver}
-use Rattle.inner_cone.proofs.circuit_theory.Lists.{Contains-map, Contains-map_from, at_of, of_at, map_at, length-map}
-use Rattle.inner_cone.proofs.circuit_theory.Sums.{same_or_not}
+use Rattle.signal_graph.specs.inner_cone.flat_net.Signal.{Signal}
+use Rattle.signal_graph.specs.inner_cone.flat_net.Gate.{Gate}
+use Rattle.signal_graph.specs.inner_cone.flat_net.LatchAt.{LatchAt}
+use Rattle.signal_graph.specs.inner_cone.flat_net.Driver.{Driver}
+use Rattle.signal_graph.specs.inner_cone.flat_net.Driver.TheVariants as driver
+use Rattle.signal_graph.specs.inner_cone.flat_net.View.{NetView, circuit_of, cover_of}
+use Rattle.signal_graph.specs.inner_cone.flat_net.Sound.{IsSound, Drives}
+use Rattle.signal_graph.proofs.inner_cone.flat_net.Places.{one_at, cover_of-is}
+use Rattle.signal_graph.proofs.inner_cone.flat_net.Growth.{slice_get-append, slice_get-push, slice_get-push_cases, length-push}
+use Rattle.signal_graph.proofs.inner_cone.flat_net.Nets.{some_at, gate_stands, latch_stands, input_stands}
+use Rattle.signal_graph.specs.inner_cone.circuit_theory.Cover.{Cover}
+use Rattle.signal_graph.specs.inner_cone.circuit_theory.Circuit.{Gate as gate_equation, IsLatch, Reads}
+use Rattle.signal_graph.specs.inner_cone.circuit_theory.Sizes.{WeighsAt, Weighed, Visits, IsWeight, IsOver}
+use Rattle.signal_graph.proofs.inner_cone.circuit_theory.Lists.{Contains-map, Contains-map_from, at_of, of_at, map_at, length-map}
+use Rattle.signal_graph.proofs.inner_cone.circuit_theory.Sums.{same_or_not}
 use Rattle.signal_graph.specs.declared.nodes.Node.{Node}
 use Rattle.signal_graph.proofs.Lists.{AllPairs-from_at}
 use Rattle.signal_graph.specs.Graph.{GraphView, IsGraphOf, IsPlainGraphOf, ArePlainNodes, AreTaken, step_of}

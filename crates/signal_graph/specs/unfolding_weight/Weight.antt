@@ -1,16 +1,16 @@
 -- When an answer about the weight is right.
 use Rattle.std.specs.Prelude.{◌≡◌, ℕ, ◌+◌, ◌*◌, ◌<◌, ◌≤◌, max, List, length, slice_get, Option, Some, None, [], ◌∷◌, ◌++◌, ◌⊎◌}
 use Rattle.std.specs.List.{Contains, sum_by}
-use Rattle.inner_cone.specs.circuit_theory.Circuit.{Circuit}
-use Rattle.inner_cone.specs.circuit_theory.Sizes.{IsWeight, IsOver, Visits}
-use Rattle.inner_cone.specs.flat_net.Table.{AreDistinct}
-use Rattle.inner_cone.specs.flat_net.Signal.{Signal}
-use Rattle.inner_cone.specs.flat_net.Gate.{Gate}
-use Rattle.inner_cone.specs.flat_net.Driver.{Driver}
-use Rattle.inner_cone.specs.flat_net.Driver.TheVariants as driver
+use Rattle.signal_graph.specs.inner_cone.circuit_theory.Circuit.{Circuit}
+use Rattle.signal_graph.specs.inner_cone.circuit_theory.Sizes.{IsWeight, IsOver, Visits}
+use Rattle.signal_graph.specs.inner_cone.flat_net.Table.{AreDistinct}
+use Rattle.signal_graph.specs.inner_cone.flat_net.Signal.{Signal}
+use Rattle.signal_graph.specs.inner_cone.flat_net.Gate.{Gate}
+use Rattle.signal_graph.specs.inner_cone.flat_net.Driver.{Driver}
+use Rattle.signal_graph.specs.inner_cone.flat_net.Driver.TheVariants as driver
 use Rattle.signal_graph.specs.declared.nodes.Node.{Node}
 use Rattle.signal_graph.specs.Graph.{step_of}
-use Rattle.inner_cone.specs.flat_net.View.{NetView, circuit_of, cover_of}
+use Rattle.signal_graph.specs.inner_cone.flat_net.View.{NetView, circuit_of, cover_of}
 use Rattle.signal_graph.specs.declared.unfolding_weight.weight.Weight.{Weight}
 use Rattle.signal_graph.specs.declared.unfolding_weight.weight.Weight.TheVariants.{Within, Over}
 

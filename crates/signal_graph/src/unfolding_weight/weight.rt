@@ -1,15 +1,15 @@
 //! The weight of an unfolding.
 
 ghost use Rattle.std.specs.Prelude.{◌≡◌, ℕ, ◌+◌, ◌*◌, ◌^◌, ◌<◌, ◌≤◌, map, List, [], length, slice_get, Some, IfOk, IfSome, IfNone, OnOk};
-ghost use Rattle.inner_cone.specs.circuit_theory.Sizes.{IsOver};
-ghost use Rattle.inner_cone.specs.flat_net.Signal.{Signal};
-ghost use Rattle.inner_cone.specs.flat_net.View.{circuit_of};
+ghost use Rattle.signal_graph.specs.inner_cone.circuit_theory.Sizes.{IsOver};
+ghost use Rattle.signal_graph.specs.inner_cone.flat_net.Signal.{Signal};
+ghost use Rattle.signal_graph.specs.inner_cone.flat_net.View.{circuit_of};
 ghost use Rattle.signal_graph.specs.Graph.{ArePlainNodes, step_of};
 ghost use Rattle.signal_graph.specs.unfolding_weight.Weight.{Weighs, weight_of, AreMet, Stay, Meeting, IsVisited, AreVisited, AreThere, AreReadsThere};
 
+use crate::inner_cone::{Driver, Net, NoMemory, Signal};
 use crate::nodes::Node;
 use base_tables::UniqueTable;
-use inner_cone::{Driver, Net, NoMemory, Signal};
 use std::alloc::Global;
 
 /// The weight of the unfoldings of some signals, if it is within a cap.

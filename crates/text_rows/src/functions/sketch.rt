@@ -1,164 +1,161 @@
 //! Small graphs that rows define.
 
-ghost use Rattle.std.specs.Prelude.{◌≡◌, ◌*◌, ◌<◌, ◌≤◌, [], ◌∷◌, ◌++◌, length, IfOk, OnOk, IfSome, IsTrue};
+ghost use Rattle.std.specs.Prelude.{◌≡◌, ◌≤◌, [], ◌∷◌, ◌++◌, length, IfOk, OnOk, IsTrue};
 ghost use Rattle.sec_base.specs.Cover.{IsCube, IsPlace};
 
+use crate::row_text::{number_of, split_at};
 use aig::{Aig, Lit};
-use row_text::{number_of, split_at};
 use sec_base::{Cover, Cubes, NoMemory, Seq};
 use std::alloc::Global;
 
 /// The most nodes of a graph that a row defines.
-const NODES: u32 = 10_000;
+pub(crate) const NODES: u64 = 10_000;
 
-/// A graph, and the literal that each definition but those of variables gave.
-#[derive(Drop)]
+/// The most variables that a word defines, or takes the and of.
+const VARIABLES: u64 = 100;
+
+/// A number of no literal, past those of each graph. So is its complement.
+const NONE: u64 = u64::MAX;
+
+/// A graph, and the number of the literal that each definition but those of variables gave. It isn't whole where one gave none.
 pub(crate) struct Sketch {
     pub(crate) graph: Aig,
-    pub(crate) made: Vec<u32>,
+    pub(crate) made: Vec<u64>,
+    pub(crate) is_whole: bool,
+}
+
+/// It is let go by one call: an owner isn't taken apart field by field at each way out.
+impl Drop for Sketch {
+    fn drop(self) {
+        let Sketch {
+            graph: _,
+            made: _,
+            is_whole: _,
+        } = self;
+    }
 }
 
 impl Sketch {
-    /// The literal that a word names: a number, or `@k` for what definition k gave; with `~` before it, the complement.
-    /// None where the graph has no such literal.
-    pub(crate) fn literal(&self, word: &[u8]) -> Option<Lit>
-        ensures { IfSome result (λ l. l.0 < 2 * length self.now.graph) }
-    {
-        match word.strip_prefix(b"~".as_slice()) {
-            Some(plain) => Some(Aig::not(self.plain_literal(plain)?)),
-            None => self.plain_literal(word),
-        }
-    }
-
-    fn plain_literal(&self, word: &[u8]) -> Option<Lit>
-        ensures { IfSome result (λ l. l.0 < 2 * length self.now.graph) }
-    {
-        let number = match word.strip_prefix(b"@".as_slice()) {
-            Some(digits) => *self.made.get(number_of(digits)? as usize)?,
-            None => u32::try_from(number_of(word)?).ok()?,
+    /// The number of the literal that a word names: a number, or `@k` for what definition k gave; with `~` before it, the complement.
+    pub(crate) fn literal(&self, word: &[u8]) -> u64 {
+        let (plain, turn) = match word {
+            [b'~', plain @ ..] => (plain, 1),
+            plain => (plain, 0),
         };
-        if self.graph.size() < NODES && number < 2 * self.graph.size() {
-            Some(Lit(number))
-        } else {
-            None
-        }
+        let number = match plain {
+            [b'@', digits @ ..] => {
+                let place = number_of(digits).unwrap_or(NONE);
+                match self.made.get(place as usize) {
+                    Some(made) => *made,
+                    None => NONE,
+                }
+            }
+            digits => number_of(digits).unwrap_or(NONE),
+        };
+        number ^ turn
     }
 
     /// Adds what a word defines: `vN` the first N variables; `upN`, `downN` or `noneN` the and of these, from the first on, from
     /// the last on, or of their complements; `L&R` and `L|R` an and and an or; `on-ROW,ROW` and `off-ROW,ROW` a cover of the
-    /// first two variables. None where that can't be.
-    fn define(&mut self, alloc: Global, word: &[u8]) -> Option<()> {
-        if let Some(digits) = word.strip_prefix(b"v".as_slice()) {
-            return self.define_variables(digits);
-        }
-        let lit = self.literal_by(alloc, word)?;
-        self.made.push(lit.0).ok()
-    }
-
-    /// The literal that a word defines.
-    fn literal_by(&mut self, alloc: Global, word: &[u8]) -> Option<Lit> {
-        if let Some(digits) = word.strip_prefix(b"up".as_slice()) {
-            self.and_up(digits, false)
-        } else if let Some(digits) = word.strip_prefix(b"none".as_slice()) {
-            self.and_up(digits, true)
-        } else if let Some(digits) = word.strip_prefix(b"down".as_slice()) {
-            self.and_down(digits)
-        } else if let Some(rows) = word.strip_prefix(b"on-".as_slice()) {
-            self.cover_of(alloc, rows, true)
-        } else if let Some(rows) = word.strip_prefix(b"off-".as_slice()) {
-            self.cover_of(alloc, rows, false)
-        } else {
-            self.gate(word)
+    /// first two variables.
+    fn define(&mut self, alloc: Global, word: &[u8]) {
+        let number = match word {
+            [b'v', digits @ ..] => return self.define_variables(digits),
+            [b'u', _, digits @ ..] => self.and_all(digits, false, 2),
+            [b'd', _, _, _, digits @ ..] => self.and_all(digits, true, 2),
+            [b'n', _, _, _, digits @ ..] => self.and_all(digits, false, 3),
+            [b'o', b'n', _, rows @ ..] => self.cover_of(alloc, rows, true),
+            [b'o', _, _, _, rows @ ..] => self.cover_of(alloc, rows, false),
+            _ => self.gate(word),
+        };
+        if number >= 2 * self.graph.size() as u64 || self.made.push(number).is_err() {
+            self.is_whole = false;
         }
     }
 
-    fn define_variables(&mut self, digits: &[u8]) -> Option<()> {
-        for variable in 0..count_of(digits)? {
-            if self.graph.size() < NODES {
-                self.graph.input(variable).ok()?;
+    fn define_variables(&mut self, digits: &[u8]) {
+        for variable in 0..number_of(digits).unwrap_or(0).min(VARIABLES) {
+            if self.graph.size() as u64 >= NODES || self.graph.input(variable as u32).is_err() {
+                self.is_whole = false;
             }
         }
-        Some(())
     }
 
     /// The and or the or that a word spells.
-    fn gate(&mut self, word: &[u8]) -> Option<Lit> {
+    fn gate(&mut self, word: &[u8]) -> u64 {
         let (first, second) = split_at(b'&', word);
         if !second.is_empty() {
-            let l = self.literal(first)?;
-            let r = self.literal(second)?;
-            return self.and_of(l, r);
+            return self.and_of(self.literal(first), self.literal(second));
         }
         let (first, second) = split_at(b'|', word);
-        let l = self.literal(first)?;
-        let r = self.literal(second)?;
-        let neither = self.and_of(Aig::not(l), Aig::not(r))?;
-        Some(Aig::not(neither))
+        self.and_of(self.literal(first) ^ 1, self.literal(second) ^ 1) ^ 1
     }
 
-    /// The and, or None where the graph has no room or isn't the literals'.
-    fn and_of(&mut self, l: Lit, r: Lit) -> Option<Lit> {
-        let size = self.graph.size();
-        if size >= NODES || l.0 >= 2 * size || r.0 >= 2 * size {
-            return None;
+    /// The and, or none where the graph has no room or isn't the literals'.
+    fn and_of(&mut self, l: u64, r: u64) -> u64 {
+        let size = self.graph.size() as u64;
+        if size >= NODES || l >= 2 * size || r >= 2 * size {
+            return NONE;
         }
-        self.graph.and(l, r).ok()
-    }
-
-    /// The and of so many variables, from the first on, or of their complements.
-    fn and_up(&mut self, digits: &[u8], negated: bool) -> Option<Lit> {
-        let mut all = Lit::TRUE;
-        for variable in 0..count_of(digits)? {
-            all = self.and_variable(all, variable, negated)?;
+        match self.graph.and(Lit(l as u32), Lit(r as u32)) {
+            Ok(lit) => lit.0 as u64,
+            Err(_) => NONE,
         }
-        Some(all)
     }
 
-    /// The and of so many variables, from the last on.
-    fn and_down(&mut self, digits: &[u8]) -> Option<Lit> {
-        let count = count_of(digits)?;
-        let mut all = Lit::TRUE;
-        for behind in 0..count {
-            all = self.and_variable(all, count - 1 - behind, false)?;
-        }
-        Some(all)
-    }
-
-    fn and_variable(&mut self, all: Lit, variable: u32, negated: bool) -> Option<Lit>
-        requires { variable < 100 }
+    /// The and of so many literals, each that of a variable, the first of which is 2 or its complement 3; down from the last one, or up
+    /// from the first.
+    fn and_all(&mut self, digits: &[u8], is_down: bool, first: u64) -> u64
+        requires { first ≤ 3 }
     {
-        self.and_of(all, Lit(2 * variable + 2 + u32::from(negated)))
+        let count = number_of(digits).unwrap_or(0).min(VARIABLES);
+        let mut all = 1;
+        for place in 0..count {
+            let number = if is_down {
+                2 * (count - place)
+            } else {
+                2 * place + first
+            };
+            all = self.and_of(all, number);
+        }
+        all
     }
 
     /// The literal of the cover of the first two variables that has the two rows that a comma parts.
-    fn cover_of(&mut self, alloc: Global, rows: &[u8], on: bool) -> Option<Lit> {
+    fn cover_of(&mut self, alloc: Global, rows: &[u8], on: bool) -> u64 {
         if rows.len() != 5 || !is_row(&rows[..2]) || !is_row(&rows[3..]) {
-            return None;
+            return NONE;
         }
-        let size = self.graph.size();
+        let size = self.graph.size() as u64;
         if size < 3 || size > NODES {
-            return None;
+            return NONE;
         }
-        let cover = cover_by(alloc, &rows[..2], &rows[3..], on).ok()?;
-        self.graph.cover(&cover, &[Lit(2), Lit(4)]).ok()
+        let Ok(cover) = cover_by(alloc, &rows[..2], &rows[3..], on) else {
+            return NONE;
+        };
+        match self.graph.cover(&cover, &[Lit(2), Lit(4)]) {
+            Ok(lit) => lit.0 as u64,
+            Err(_) => NONE,
+        }
     }
 }
 
-/// The graph of the definitions, or None where one isn't of its graph.
-pub(crate) fn sketched(alloc: Global, definitions: &[u8]) -> Option<Sketch> {
+/// The graph of the definitions, which isn't whole where one isn't of its graph.
+pub(crate) fn sketched(alloc: Global, definitions: &[u8]) -> Result<Sketch, NoMemory> {
     let mut sketch = Sketch {
-        graph: Aig::new(alloc).ok()?,
+        graph: Aig::new(alloc)?,
         made: Vec::new(alloc),
+        is_whole: true,
     };
     let mut rest = definitions;
     for _ in 0..definitions.len() {
         let (word, later) = split_at(b' ', rest);
         rest = later;
         if !word.is_empty() {
-            sketch.define(alloc, word)?;
+            sketch.define(alloc, word);
         }
     }
-    Some(sketch)
+    Ok(sketch)
 }
 
 fn cover_by(alloc: Global, first: &[u8], second: &[u8], on: bool) -> Result<Cover, NoMemory>
@@ -191,16 +188,4 @@ fn is_place(byte: u8) -> bool
     ensures { IsTrue result → IsPlace byte }
 {
     byte == b'0' || byte == b'1' || byte == b'-'
-}
-
-/// The number, where it is at most 100.
-fn count_of(digits: &[u8]) -> Option<u32>
-    ensures { IfSome result (λ count. count ≤ 100) }
-{
-    let count = number_of(digits)?;
-    if count <= 100 {
-        Some(count as u32)
-    } else {
-        None
-    }
 }

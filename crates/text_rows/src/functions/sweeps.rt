@@ -2,11 +2,8 @@
 
 ghost use Rattle.std.specs.Prelude.{◌≡◌, ◌*◌, ◌<◌, length};
 
-use crate::functions::calls::literal_at;
-use crate::functions::decisions::conflicts_at;
-use crate::functions::sketch::Sketch;
+use crate::row_text::show;
 use aig::{Aig, Lit, Lits};
-use row_text::show;
 use sec_base::NoMemory;
 use std::alloc::Global;
 use std::rt::HostRuntime;
@@ -26,16 +23,7 @@ fn fill(words: &mut [u64])
     }
 }
 
-fn show_merged(rt: &HostRuntime, swept: &Swept) {
-    let lits = swept.lits.as_slice();
-    if lits.first() == lits.get(1) {
-        show(rt, b" one literal");
-    } else {
-        show(rt, b" two literals");
-    }
-}
-
-/// The sweep of both with 512 assignments that a generator gives.
+/// The sweep of both with 512 assignments that a generator gives, of 100 variables at most.
 fn sweep_both(
     alloc: Global,
     graph: &Aig,
@@ -46,44 +34,41 @@ fn sweep_both(
     requires left { left.0 < 2 * length graph.now }
     requires right { right.0 < 2 * length graph.now }
 {
+    let mut words = [0; 800];
+    let count = 8 * (graph.vars() as usize);
+    if count > 800 {
+        return Err(NoMemory);
+    }
+    fill(&mut words[..count]);
     let mut roots = Lits::new(alloc);
     roots.push(left)?;
     roots.push(right)?;
-    let mut words = vec![in alloc; 0; 8 * (graph.vars() as usize)]?;
-    fill(words.as_mut_slice());
-    sweep(alloc, graph, &roots, conflicts, words.as_slice())
+    sweep(alloc, graph, &roots, conflicts, &words[..count])
 }
 
-/// Shows whether a sweep with at most so many conflicts as the third word says gives both sides one literal.
-pub(crate) fn show_swept(rt: &HostRuntime, sketch: &Sketch, given: &[&[u8]]) -> bool {
-    let Some(left) = literal_at(sketch, given, 0) else {
-        return false;
-    };
-    let Some(right) = literal_at(sketch, given, 1) else {
-        return false;
-    };
-    let Some(conflicts) = conflicts_at(given, 2) else {
-        return false;
-    };
-    match sweep_both(rt.alloc(), &sketch.graph, left, right, conflicts) {
-        Ok(swept) => show_merged(rt, &swept),
+/// Shows whether a sweep with at most so many conflicts gives both sides one literal.
+pub(crate) fn show_swept(rt: &HostRuntime, graph: &Aig, left: Lit, right: Lit, conflicts: u32)
+    requires left { left.0 < 2 * length graph.now }
+    requires right { right.0 < 2 * length graph.now }
+{
+    match sweep_both(rt.alloc(), graph, left, right, conflicts) {
+        Ok(swept) => show_merged(rt, swept.lits.as_slice()),
         Err(_) => show(rt, b" no memory"),
     }
-    true
+}
+
+fn show_merged(rt: &HostRuntime, lits: &[Lit]) {
+    match lits {
+        [first, second] if first.0 == second.0 => show(rt, b" one literal"),
+        _ => show(rt, b" two literals"),
+    }
 }
 
 /// Shows whether both literals are told to agree by cases.
-pub(crate) fn show_cases(rt: &HostRuntime, sketch: &Sketch, given: &[&[u8]]) -> bool {
-    let Some(left) = literal_at(sketch, given, 0) else {
-        return false;
-    };
-    let Some(right) = literal_at(sketch, given, 1) else {
-        return false;
-    };
-    match agree_by_cases(rt.alloc(), &sketch.graph, left, right) {
+pub(crate) fn show_cases(rt: &HostRuntime, graph: &Aig, left: Lit, right: Lit) {
+    match agree_by_cases(rt.alloc(), graph, left, right) {
         Ok(true) => show(rt, b" agree"),
         Ok(false) => show(rt, b" not told"),
         Err(_) => show(rt, b" no memory"),
     }
-    true
 }

@@ -18,19 +18,19 @@ use Rattle.flat_net.specs.declared.parts.Port.{Port}
 use Rattle.flat_net.specs.Cut.{latch_at, stays, IsCut}
 use Rattle.flat_net.specs.Sound.{IsSound}
 use Rattle.flat_net.specs.View.{NetView, circuit_of, ports_of}
-use Rattle.interface.specs.declared.pairs.SignalPair.{SignalPair}
-use Rattle.reset_laws.specs.Reset.{AreBased}
-use Rattle.reset_laws.specs.Weight.{IsResetWeight, IsResetOver}
-use Rattle.reset_laws.proofs.reset_nets.Starts.{nets_have_starts}
-use Rattle.reset_functions.specs.reset_unfold.Places.{starts_of}
+use Rattle.sec_setup.specs.declared.ports.pairs.SignalPair.{SignalPair}
+use Rattle.circuit_laws.specs.reset_laws.Reset.{AreBased}
+use Rattle.circuit_laws.specs.reset_laws.Weight.{IsResetWeight, IsResetOver}
+use Rattle.circuit_laws.proofs.reset_laws.reset_nets.Starts.{nets_have_starts}
+use Rattle.reset_form.specs.reset_functions.reset_unfold.Places.{starts_of}
 use Rattle.sec_setup.specs.declared.setup.Setup.{Setup}
 use Rattle.outcome_fits.specs.Cuts.{columns_of}
 use Rattle.outcome_fits.specs.Pairs.{NamedPair, named_pairs, places_of}
 use Rattle.sec_setup.specs.Setup.{IsSetupOf}
-use Rattle.reset_functions.specs.declared.bases.Bases.{Bases}
-use Rattle.reset_functions.specs.Bases.{AreBases}
+use Rattle.reset_form.specs.declared.reset_functions.bases.Bases.{Bases}
+use Rattle.reset_form.specs.reset_functions.Bases.{AreBases}
 use Rattle.outcome_fits.specs.ResetOutcome.{Numbered}
-use Rattle.reset_functions.specs.Pairs.{IsLeftSide, IsRightSide, IsLight, IsTooLarge}
+use Rattle.reset_form.specs.reset_functions.Pairs.{IsLeftSide, IsRightSide, IsLight, IsTooLarge}
 use Rattle.under_base.specs.compare_base.FromReset.{IsLeftStart, IsRightStart, IsLeftLight, IsRightLight, AreTooLargeFromReset, numbered_by}
 
 -- all latches stay

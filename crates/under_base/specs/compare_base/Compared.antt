@@ -12,7 +12,7 @@ use Rattle.obligations.specs.outcome.Verdict.TheVariants as verdict
 use Rattle.obligations.specs.outcome.Why.TheVariants as why
 use Rattle.obligations.specs.outcome.Outcome.{Outcome}
 use Rattle.obligations.specs.outcome.ResetWitness.{ResetWitness}
-use Rattle.reset_laws.specs.Reset.{AgreeFromReset}
+use Rattle.circuit_laws.specs.reset_laws.Reset.{AgreeFromReset}
 use Rattle.sec_setup.specs.cut_points.Common.{common_names}
 use Rattle.sec_setup.specs.cut_points.Exposed.{IsFreeWithout, IsToldCycle}
 use Rattle.sec_setup.specs.declared.error.SetupError.{SetupError}

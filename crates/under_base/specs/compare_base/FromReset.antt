@@ -13,10 +13,10 @@ use Rattle.obligations.specs.outcome.Outcome.{Outcome}
 use Rattle.obligations.specs.outcome.PairResult.{PairResult}
 use Rattle.obligations.specs.outcome.Verdict.{Verdict}
 use Rattle.obligations.specs.outcome.Verdict.TheVariants as verdict
-use Rattle.reset_laws.specs.Reset.{AreBased}
+use Rattle.circuit_laws.specs.reset_laws.Reset.{AreBased}
 use Rattle.outcome_fits.specs.Pairs.{NamedPair, named_pairs}
 use Rattle.outcome_fits.specs.ResetOutcome.{Numbered, PairFits, IsFirstDifference, IsFirstLimit, greatest_size}
-use Rattle.reset_functions.specs.Pairs.{IsLight, IsTooLarge}
+use Rattle.reset_form.specs.reset_functions.Pairs.{IsLight, IsTooLarge}
 
 -- an output of A in a cycle up to the depth of its pair
 abbrev pub IsLeftStart : Circuit ℕ → Circuit ℕ → ℕ × ℕ → Type 0

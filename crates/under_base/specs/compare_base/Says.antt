@@ -12,7 +12,7 @@ use Rattle.witness_report.specs.declared.witness.Witness.{Witness}
 use Rattle.witness_report.specs.Shown.{Obeys, MakesDiffer, MakesCutsDiffer}
 use Rattle.obligations.specs.outcome.Outcome.{Outcome}
 use Rattle.obligations.specs.outcome.ResetWitness.{ResetWitness}
-use Rattle.reset_laws.specs.Reset.{AreAlikeFromReset, TakesPower}
+use Rattle.circuit_laws.specs.reset_laws.Reset.{AreAlikeFromReset, TakesPower}
 use Rattle.outcome_fits.specs.plain_meaning.Equal.{AreEqual}
 
 -- what equal says; in the event mode no pair is settled from a cycle on that is known

@@ -3,7 +3,7 @@ use Rattle.std.specs.Prelude.{◌≡◌, ◌≢◌, ◌↔◌, ℕ, ◌*◌, ◌
 use Rattle.circuit_theory.specs.Circuit.{Circuit}
 use Rattle.circuit_theory.specs.Tree.{Tree, tree_value}
 use Rattle.circuit_theory.specs.Query.{Variable}
-use Rattle.reset_laws.specs.Reset.{ResetUnfolds, CycleBefore}
+use Rattle.circuit_laws.specs.reset_laws.Reset.{ResetUnfolds, CycleBefore}
 use Rattle.aig.specs.declared.node.Node.{Node}
 use Rattle.base_tables.specs.Table.{AreDistinct}
 use Rattle.aig.specs.Graph.{IsGraph}

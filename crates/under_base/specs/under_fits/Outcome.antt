@@ -7,7 +7,7 @@ use Rattle.circuit_theory.specs.Interface.{shared_inputs, AreNumbersOf}
 use Rattle.flat_net.specs.View.{NetView, circuit_of, ports_of}
 use Rattle.obligations.specs.outcome.Outcome.{Outcome}
 use Rattle.sec_setup.specs.Cuts.{IsChoice, AreCutAt, columns_of, is_cut}
-use Rattle.sec_setup.specs.Pairs.{named_pairs}
+use Rattle.sec_setup.specs.ports.Pairs.{named_pairs}
 use Rattle.outcome_fits.specs.Outcome.{greatest_size}
 use Rattle.assume_laws.specs.Assume.{Assumption, RunMeets, ReadsInputs, AgreeUnder, AgreeOnwardUnder}
 use Rattle.under_base.specs.under_fits.Verdict.{EachFitsUnder, VerdictFitsUnder}

@@ -7,7 +7,7 @@ use Rattle.sec_base.specs.declared.basics.PairAnswer.{PairAnswer}
 use Rattle.sec_base.specs.declared.basics.PairAnswer.TheVariants as answer
 use Rattle.obligations.specs.pair_decide.Proof.{Proof}
 use Rattle.obligations.specs.outcome.PairResult.{PairResult}
-use Rattle.sec_setup.specs.Pairs.{NamedPair}
+use Rattle.sec_setup.specs.ports.Pairs.{NamedPair}
 use Rattle.assume_laws.specs.Assume.{Assumption, MeetsAtVariables, HaveEqualFunctionsUnder}
 use Rattle.under_base.specs.under_fits.Limits.{IsUndecidedUnder}
 

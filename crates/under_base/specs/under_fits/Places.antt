@@ -4,9 +4,9 @@ use Rattle.std.specs.List.{AllPairs, AllZip, Contains}
 use Rattle.circuit_theory.specs.Circuit.{Circuit}
 use Rattle.circuit_theory.specs.Tree.{Tree, Unfolds}
 use Rattle.sec_base.specs.declared.limits.TheConstants.{MAX_WEIGHT}
-use Rattle.sec_setup.specs.Pairs.{NamedPair}
+use Rattle.sec_setup.specs.ports.Pairs.{NamedPair}
 use Rattle.assume_laws.specs.Assume.{HasVariableAt}
-use Rattle.assume_places.specs.Gathered.{sum_under}
+use Rattle.assume_queries.specs.assume_functions.assume_places.Gathered.{sum_under}
 
 -- one of both functions of the pair has a variable at the shift
 pub record IsReadAt {P Q : Type 0} (a : Circuit P) (b : Circuit Q) (left right : List ℕ) (x : NamedPair P Q) (k : ℕ) : Type 0 where

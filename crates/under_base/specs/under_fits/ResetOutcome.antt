@@ -15,8 +15,8 @@ use Rattle.obligations.specs.outcome.PairResult.{PairResult}
 use Rattle.obligations.specs.outcome.ResetWitness.{ResetWitness}
 use Rattle.obligations.specs.outcome.Verdict.{Verdict}
 use Rattle.obligations.specs.outcome.Verdict.TheVariants as verdict
-use Rattle.reset_laws.specs.Reset.{AreBased, AreAlikeFromReset, TakesPower}
-use Rattle.sec_setup.specs.Pairs.{NamedPair, named_pairs}
+use Rattle.circuit_laws.specs.reset_laws.Reset.{AreBased, AreAlikeFromReset, TakesPower}
+use Rattle.sec_setup.specs.ports.Pairs.{NamedPair, named_pairs}
 use Rattle.outcome_fits.specs.ResetOutcome.{Numbered, IsFirstLimit, greatest_size}
 use Rattle.assume_laws.specs.Assume.{Assumption, RunMeets, ReadsInputs}
 use Rattle.under_base.specs.under_fits.ResetVerdict.{PairFitsUnder, IsFirstDifferenceUnder}

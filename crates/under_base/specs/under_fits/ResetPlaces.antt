@@ -3,9 +3,9 @@ use Rattle.std.specs.Prelude.{◌≡◌, ◌≢◌, ◌↔◌, ℕ, ◌+◌, ◌
 use Rattle.std.specs.List.{AllPairs, AllZip, Contains, sum_by}
 use Rattle.circuit_theory.specs.Fits.{IsPairDepth}
 use Rattle.circuit_theory.specs.Tree.{Tree}
-use Rattle.reset_laws.specs.Reset.{ResetUnfolds}
+use Rattle.circuit_laws.specs.reset_laws.Reset.{ResetUnfolds}
 use Rattle.sec_base.specs.declared.limits.TheConstants.{MAX_WEIGHT}
-use Rattle.sec_setup.specs.Pairs.{NamedPair}
+use Rattle.sec_setup.specs.ports.Pairs.{NamedPair}
 use Rattle.assume_laws.specs.Assume.{HasVariableAt}
 use Rattle.outcome_fits.specs.ResetOutcome.{Numbered}
 

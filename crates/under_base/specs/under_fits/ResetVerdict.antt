@@ -6,7 +6,7 @@ use Rattle.sec_base.specs.declared.basics.PairAnswer.TheVariants as answer
 use Rattle.obligations.specs.pair_decide.Proof.{Proof}
 use Rattle.obligations.specs.outcome.PairResult.{PairResult}
 use Rattle.obligations.specs.outcome.ResetWitness.{ResetWitness}
-use Rattle.sec_setup.specs.Pairs.{NamedPair}
+use Rattle.sec_setup.specs.ports.Pairs.{NamedPair}
 use Rattle.assume_laws.specs.Assume.{Assumption, HaveEqualResetsUnder}
 use Rattle.assume_laws.specs.Sequences.{IsResetWitnessUnder}
 use Rattle.outcome_fits.specs.ResetOutcome.{Numbered}

@@ -9,7 +9,7 @@ use Rattle.obligations.specs.outcome.PairResult.{PairResult}
 use Rattle.obligations.specs.outcome.Verdict.{Verdict}
 use Rattle.obligations.specs.outcome.Verdict.TheVariants as verdict
 use Rattle.obligations.specs.outcome.Why.TheVariants as why
-use Rattle.sec_setup.specs.Pairs.{NamedPair}
+use Rattle.sec_setup.specs.ports.Pairs.{NamedPair}
 use Rattle.outcome_fits.specs.Outcome.{NoneIs, IsFirstLimit}
 use Rattle.assume_laws.specs.Assume.{Assumption}
 use Rattle.assume_laws.specs.Sequences.{IsWitnessUnder}

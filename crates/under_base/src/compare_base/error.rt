@@ -2,7 +2,7 @@
 
 use assume_laws::assume_shape::ShapeFault;
 use outcome_fits::plain_meaning::SetupError;
-use reset_functions::SameBy;
+use reset_form::reset_functions::SameBy;
 use sec_base::{NoMemory, Side, Word, Words};
 
 /// Why two circuits aren't compared.

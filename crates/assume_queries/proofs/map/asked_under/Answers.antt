@@ -6,7 +6,7 @@ use Rattle.aig.proofs.Growth.{Grows-trans}
 use Rattle.pair_decide.specs.declared.query.Query.{Query}
 use Rattle.obligations.specs.Asked.{queries_of}
 use Rattle.assume_laws.specs.assume_shape.Shape.{assumption_of}
-use Rattle.assume_places.proofs.Gathering.{is_over, is_light}
+use Rattle.assume_queries.proofs.assume_functions.assume_places.Gathering.{is_over, is_light}
 use Rattle.assume_queries.specs.assume_answers.Order.{AreOrdered}
 use Rattle.assume_queries.specs.Parted.{IsObligationMade}
 use Rattle.assume_queries.specs.assume_answers.Under.{IsObligationUnder}

@@ -2,7 +2,7 @@ use Rattle.std.proofs.Common.{◌≡◌, ◌+◌, ◌≤◌, ℕ, List, drop, le
 use Rattle.std.specs.List.{AllZip, sum_by}
 use Rattle.aig.specs.Graph.{Grows, IsGraph}
 use Rattle.obligations.specs.Asked.{queries_of}
-use Rattle.assume_places.specs.Gathered.{AreOwn}
+use Rattle.assume_queries.specs.assume_functions.assume_places.Gathered.{AreOwn}
 use Rattle.assume_queries.specs.Parted.{IsObligationMade}
 use Rattle.assume_queries.proofs.map.obligations_under.Given as goal
 

@@ -1,7 +1,7 @@
 -- Round after round.
 use Rattle.std.proofs.Common.{◌++◌, List, ℕ, sym, subst, arith}
-use Rattle.latch_blocks.proofs.Going.{partition_begins}
-use Rattle.latch_blocks.specs.Partitions.{IsOnTheWay}
+use Rattle.block_refine.proofs.latch_blocks.Going.{partition_begins}
+use Rattle.block_refine.specs.latch_blocks.Partitions.{IsOnTheWay}
 use Rattle.block_refine.specs.declared.block_graph.nets.BlockNets.{BlockNets}
 use Rattle.block_refine.specs.declared.pass.Round.TheVariants as round
 use Rattle.block_refine.specs.Passes.{IsRound}

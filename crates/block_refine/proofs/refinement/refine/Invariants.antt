@@ -1,6 +1,6 @@
 use Rattle.std.proofs.Common.{◌++◌}
-use Rattle.latch_blocks.specs.Laws.{pairs_alike}
-use Rattle.latch_blocks.specs.Partitions.{IsOnTheWay}
+use Rattle.block_refine.specs.latch_blocks.Laws.{pairs_alike}
+use Rattle.block_refine.specs.latch_blocks.Partitions.{IsOnTheWay}
 use Rattle.block_refine.proofs.refinement.refine.Given as goal
 
 abbrev pub invariant-rounds : goal.invariant-rounds

@@ -3,7 +3,7 @@ use Rattle.std.proofs.Common.{◌∙◌, List, length, ap, subst, arith}
 use Rattle.std.specs.Prelude.{IfOk}
 use Rattle.sec_base.specs.declared.basics.Init.{Init}
 use Rattle.flat_net.specs.declared.parts.LatchAt.{LatchAt}
-use Rattle.latch_blocks.specs.Blocks.{IsByStarts}
+use Rattle.block_refine.specs.latch_blocks.Blocks.{IsByStarts}
 use Rattle.block_refine.proofs.block_graph.Pushed.{both_sides}
 use Rattle.block_refine.proofs.starts.by_starts.Goals as goal
 

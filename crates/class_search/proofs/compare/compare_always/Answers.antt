@@ -1,6 +1,6 @@
 -- The query of an enable against `always`.
 use Rattle.std.proofs.Common.{List, refl, sym, subst}
-use Rattle.event_variables.specs.aig.Node.{Node}
+use Rattle.event_nodes.specs.event_variables.aig.Node.{Node}
 use Rattle.pair_decide.specs.declared.query.Query.{Query}
 use Rattle.pair_decide.specs.Queries.{IsQuery}
 use Rattle.pair_decide.specs.Answers.{Decides}

@@ -1,7 +1,7 @@
 -- The query of two enables.
 use Rattle.std.proofs.Common.{ℕ, List, refl, sym, subst}
-use Rattle.event_variables.specs.aig.Node.{Node}
-use Rattle.event_variables.specs.Variables.{AreInOrder, IsMergeOf}
+use Rattle.event_nodes.specs.event_variables.aig.Node.{Node}
+use Rattle.event_nodes.specs.event_variables.Variables.{AreInOrder, IsMergeOf}
 use Rattle.pair_decide.specs.declared.query.Query.{Query}
 use Rattle.pair_decide.specs.Queries.{IsQuery}
 use Rattle.pair_decide.specs.Answers.{Decides}

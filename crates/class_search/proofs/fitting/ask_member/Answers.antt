@@ -1,6 +1,6 @@
 -- Enables of one value agree; the others are asked about.
 use Rattle.std.proofs.Common.{ap}
-use Rattle.event_variables.specs.aig.Values.{value}
+use Rattle.event_nodes.specs.event_variables.aig.Values.{value}
 use Rattle.class_search.proofs.Agreeing.{compared_same}
 use Rattle.class_search.proofs.Queries.{ready_next}
 use Rattle.class_search.proofs.fitting.ask_member.Goals as goal

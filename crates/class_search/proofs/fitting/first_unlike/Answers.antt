@@ -3,9 +3,9 @@ use Rattle.std.proofs.Common.{◌∙◌, Some, refl, sym, ap, subst, arith}
 use Rattle.std.specs.Prelude.{Option, IfNone, IfSome}
 use Rattle.std.proofs.lemmas.Option.{slice_get-get_or, slice_get_within}
 use Rattle.circuit_theory.proofs.Lists.{All-from_each, at_of}
-use Rattle.event_variables.proofs.flat_net.Places.{All-at}
-use Rattle.event_variables.specs.Nodes.{EventGraphView}
-use Rattle.event_variables.proofs.Growing.{grows_refl, grows_trans}
+use Rattle.event_nodes.proofs.event_variables.flat_net.Places.{All-at}
+use Rattle.event_nodes.specs.Nodes.{EventGraphView}
+use Rattle.event_nodes.proofs.Growing.{grows_refl, grows_trans}
 use Rattle.class_search.specs.declared.compare.Enable.{Enable}
 use Rattle.class_search.specs.declared.compare.Compared.{Compared}
 use Rattle.class_search.specs.Comparing.{IsReadyEnable}

@@ -1,5 +1,5 @@
 use Rattle.std.proofs.Common.{◌≡◌, ◌+◌, ◌<◌, ◌≤◌, ℕ, length, slice_get, Some}
-use Rattle.event_variables.specs.Nodes.{GrowsEvents}
+use Rattle.event_nodes.specs.Nodes.{GrowsEvents}
 use Rattle.class_search.specs.declared.compare.Enable.{Enable}
 use Rattle.class_search.specs.Comparing.{IsReadyEnable}
 use Rattle.class_search.specs.Fitting.{AreSameEnables}

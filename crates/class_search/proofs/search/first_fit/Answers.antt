@@ -1,7 +1,7 @@
 -- The answer to the query with `always` decides, or what tells the enable from it goes on.
 use Rattle.std.proofs.Common.{subst}
 use Rattle.pair_decide.specs.declared.query.Decision.{Decision}
-use Rattle.event_variables.proofs.event_nodes.Growing.{grows_refl}
+use Rattle.event_nodes.proofs.Growing.{grows_refl}
 use Rattle.class_search.specs.Comparing.{IsAlwaysComparison}
 use Rattle.class_search.proofs.search.first_fit.Goals as goal
 

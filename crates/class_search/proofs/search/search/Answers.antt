@@ -3,8 +3,8 @@ use Rattle.std.proofs.Common.{◌≡◌, ◌∙◌, ℕ, List, [], ◌∷◌, �
 use Rattle.std.specs.List.{All}
 use Rattle.std.specs.Prelude.{Option, IfNone, IfSome}
 use Rattle.std.proofs.lemmas.Option.{slice_get-get_or}
-use Rattle.event_variables.proofs.event_nodes.Growing.{grows_trans}
-use Rattle.event_variables.specs.event_nodes.Nodes.{EventGraphView}
+use Rattle.event_nodes.proofs.Growing.{grows_trans}
+use Rattle.event_nodes.specs.Nodes.{EventGraphView}
 use Rattle.class_search.specs.declared.compare.Enable.{Enable}
 use Rattle.class_search.specs.declared.fitting.Unlike.{Unlike}
 use Rattle.class_search.specs.Comparing.{IsReadyEnable}

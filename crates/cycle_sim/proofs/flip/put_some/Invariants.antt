@@ -2,7 +2,7 @@ use Rattle.std.proofs.Common.{◌≡◌, ℕ, Bool, length, ◌⊎◌, slice_get
 use Rattle.circuit_theory.specs.Circuit.{Meets}
 use Rattle.flat_net.specs.declared.parts.LatchAt.{LatchAt}
 use Rattle.flat_net.specs.View.{circuit_of}
-use Rattle.inner_cone.specs.Gates.{AreInnerGates}
+use Rattle.signal_graph.specs.inner_cone.Gates.{AreInnerGates}
 use Rattle.cycle_sim.specs.Steps.{AreInputsRight, AreLatchesRight, AreAsideRight}
 use Rattle.cycle_sim.specs.Turning.{IsOutOfSome}
 use Rattle.cycle_sim.proofs.SomeGates.{SomeBelow}

@@ -4,12 +4,12 @@ use Rattle.circuit_theory.specs.Run.{Marked}
 use Rattle.flat_net.specs.declared.parts.LatchAt.{LatchAt}
 use Rattle.flat_net.specs.View.{circuit_of}
 use Rattle.flat_net.proofs.Places.{one_at}
-use Rattle.inner_cone.specs.latch_cone.Cones.{IsMarkedBy}
+use Rattle.signal_graph.specs.inner_cone.latch_cone.Cones.{IsMarkedBy}
 use Rattle.std.specs.List.{list_all}
 use Rattle.std.specs.Prelude.{All}
 use Rattle.flat_net.specs.declared.signals.Signal.{Signal}
 use Rattle.flat_net.proofs.Nets.{some_at}
-use Rattle.inner_cone.specs.Gates.{AreInnerGates}
+use Rattle.signal_graph.specs.inner_cone.Gates.{AreInnerGates}
 use Rattle.cycle_sim.proofs.Marks.{sides_within}
 use Rattle.cycle_sim.proofs.Turned.{held_mark, rest_marked, mark_of}
 use Rattle.cycle_sim.proofs.load.held_next.Goals as goal

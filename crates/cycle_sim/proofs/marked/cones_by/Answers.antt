@@ -3,9 +3,9 @@ use Rattle.std.proofs.Common.{◌≡◌, ◌∙◌, ℕ, true, false, List, [], 
 use Rattle.std.proofs.lemmas.Option.{get_or_from_slice_get, slice_get_within}
 use Rattle.flat_net.specs.declared.parts.LatchAt.{LatchAt}
 use Rattle.flat_net.proofs.Growth.{slice_get-push_cases}
-use Rattle.inner_cone.specs.declared.parts.InnerParts.{InnerParts}
-use Rattle.inner_cone.specs.Sides.{AreSides}
-use Rattle.inner_cone.specs.Gates.{AreInnerGates}
+use Rattle.signal_graph.specs.declared.inner_cone.parts.InnerParts.{InnerParts}
+use Rattle.signal_graph.specs.inner_cone.Sides.{AreSides}
+use Rattle.signal_graph.specs.inner_cone.Gates.{AreInnerGates}
 use Rattle.cycle_sim.proofs.marked.cones_by.Goals as goal
 
 pub overflow_cast-j : goal.overflow_cast-j

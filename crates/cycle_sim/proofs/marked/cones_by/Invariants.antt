@@ -1,8 +1,8 @@
 use Rattle.std.proofs.Common.{◌≡◌, ℕ, true, length, slice_get, Some}
 use Rattle.flat_net.specs.declared.parts.LatchAt.{LatchAt}
-use Rattle.inner_cone.specs.declared.parts.InnerParts.{InnerParts}
-use Rattle.inner_cone.specs.Sides.{AreSides}
-use Rattle.inner_cone.specs.Gates.{AreInnerGates}
+use Rattle.signal_graph.specs.declared.inner_cone.parts.InnerParts.{InnerParts}
+use Rattle.signal_graph.specs.inner_cone.Sides.{AreSides}
+use Rattle.signal_graph.specs.inner_cone.Gates.{AreInnerGates}
 use Rattle.cycle_sim.proofs.marked.cones_by.Given as goal
 
 abbrev pub invariant-loop-j : goal.invariant-loop-j

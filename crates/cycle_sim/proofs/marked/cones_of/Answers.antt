@@ -1,6 +1,6 @@
 -- The numbers are those of the signals.
 use Rattle.std.proofs.Common.{subst, sym}
-use Rattle.inner_cone.specs.Inner.{AreRanked}
+use Rattle.signal_graph.specs.inner_cone.Inner.{AreRanked}
 use Rattle.cycle_sim.proofs.marked.cones_of.Goals as goal
 
 pub cones_by-requires-clause-ranked : goal.cones_by-requires-clause-ranked

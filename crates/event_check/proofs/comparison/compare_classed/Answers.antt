@@ -2,9 +2,9 @@
 use Rattle.std.proofs.Common.{◌∙◌, ℕ, List, None, refl, sym, ap, subst, Ok}
 use Rattle.outcome.specs.declared.verdict.Outcome.{Outcome}
 use Rattle.under_base.proofs.compare_base.Refusals.{refused_by}
-use Rattle.event_answers.specs.Compared.{ComparedInEvents}
-use Rattle.event_answers.proofs.Told.{told_outcome, outcome_by}
-use Rattle.event_answers.proofs.Refusals.{pairs_refused}
+use Rattle.event_meaning.specs.event_names.event_fits.Compared.{ComparedInEvents}
+use Rattle.event_check.proofs.event_answers.Told.{told_outcome, outcome_by}
+use Rattle.event_check.proofs.event_answers.Refusals.{pairs_refused}
 use Rattle.event_check.proofs.Answering.{pairs_compared}
 use Rattle.event_check.proofs.comparison.compare_classed.Goals as goal
 

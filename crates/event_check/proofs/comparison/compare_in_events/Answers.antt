@@ -3,10 +3,10 @@ use Rattle.std.proofs.Common.{◌∙◌, None, sym, ap, subst, length, Ok}
 use Rattle.outcome.specs.declared.verdict.Outcome.{Outcome}
 use Rattle.under_base.specs.compare_base.Compared.{refusal_of}
 use Rattle.under_base.proofs.compare_base.Refusals.{refused_by}
-use Rattle.event_answers.specs.Compared.{ComparedInEvents}
-use Rattle.event_answers.specs.Reached.{ReachesPairs}
-use Rattle.event_answers.specs.declared.reaching.Reached.{Reached}
-use Rattle.event_answers.proofs.Told.{limit_at, told_outcome}
+use Rattle.event_meaning.specs.event_names.event_fits.Compared.{ComparedInEvents}
+use Rattle.event_check.specs.event_answers.Reached.{ReachesPairs}
+use Rattle.event_check.specs.declared.event_answers.reaching.Reached.{Reached}
+use Rattle.event_check.proofs.event_answers.Told.{limit_at, told_outcome}
 use Rattle.event_check.proofs.Answering.{limit_compared, unmatched}
 use Rattle.event_check.proofs.comparison.compare_in_events.Goals as goal
 

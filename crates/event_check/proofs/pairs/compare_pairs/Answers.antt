@@ -1,11 +1,11 @@
 -- What is found, or why the pairs can't be unfolded.
 use Rattle.std.proofs.Common.{List, refl, sym, subst}
 use Rattle.std.specs.List.{All}
-use Rattle.interface.specs.declared.pairs.SignalPair.{SignalPair}
+use Rattle.sec_setup.specs.declared.ports.pairs.SignalPair.{SignalPair}
 use Rattle.event_meaning.specs.event_meaning_under.CompareError.{CompareError}
-use Rattle.event_answers.specs.Asked.{IsPairOf}
-use Rattle.event_answers.specs.Finding.{AreNotUnfolded, IsNamedFound, refusal_of}
-use Rattle.event_answers.proofs.Finding.{not_unfolded}
+use Rattle.event_check.specs.event_answers.Asked.{IsPairOf}
+use Rattle.event_check.specs.event_answers.Finding.{AreNotUnfolded, IsNamedFound, refusal_of}
+use Rattle.event_check.proofs.event_answers.Finding.{not_unfolded}
 use Rattle.event_check.proofs.Finding.{found_named, pairs_found}
 use Rattle.event_check.proofs.pairs.compare_pairs.Goals as goal
 

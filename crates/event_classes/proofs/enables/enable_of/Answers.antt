@@ -2,7 +2,7 @@
 use Rattle.std.proofs.Common.{Err, ap}
 use Rattle.std.proofs.lemmas.Result.{err_from_is_err_and}
 use Rattle.flat_net.proofs.Nets.{some_at}
-use Rattle.class_totals.specs.event_walk.Walk.{enable_start}
+use Rattle.edbf_unfold.specs.event_literals.event_walk.Walk.{enable_start}
 use Rattle.event_classes.proofs.Refusing.{refused_alike, ok_refused, error_is}
 use Rattle.event_classes.proofs.Enabling.{ready_enable}
 use Rattle.event_classes.proofs.enables.enable_of.Goals as goal

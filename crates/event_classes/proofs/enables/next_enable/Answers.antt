@@ -1,7 +1,7 @@
 -- The enable is that of the latch of both circuits side by side.
 use Rattle.std.proofs.Common.{Err, sym, ap, subst}
 use Rattle.std.proofs.lemmas.Result.{err_from_is_err_and}
-use Rattle.event_order.specs.Order.{IsTagOf}
+use Rattle.class_search.specs.event_order.Order.{IsTagOf}
 use Rattle.event_classes.specs.declared.map.ClassMap.{ClassMap}
 use Rattle.event_classes.proofs.Enabling.{enable_on, own_on, side_of_two}
 use Rattle.event_classes.proofs.Limiting.{error_is, no_error}

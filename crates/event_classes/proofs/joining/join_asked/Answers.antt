@@ -3,17 +3,17 @@ use Rattle.std.proofs.Common.{ℕ, List, refl, sym, ap, subst}
 use Rattle.std.proofs.lemmas.Result.{on_ok_weaker}
 use Rattle.class_search.specs.declared.class.Class.{Class}
 use Rattle.class_search.specs.Search.{AreReadyClasses, IsFit, IsUnfit}
-use Rattle.class_queries.specs.Enables.{both_of}
+use Rattle.edbf_unfold.specs.class_queries.Enables.{both_of}
 use Rattle.event_classes.specs.Limits.{IsNamed, IsErrorOf}
 use Rattle.event_classes.specs.Map.{GoesOn, places_in, taken_of, with_next}
-use Rattle.class_totals.specs.Totals.{HaveCounted}
+use Rattle.event_functions.specs.class_totals.Totals.{HaveCounted}
 use Rattle.event_nodes.specs.Nodes.{EventGraphView}
 use Rattle.event_classes.proofs.Limiting.{named_of, limit_at, limit_alone, error_is}
 use Rattle.event_classes.proofs.Stopping.{class_before}
 use Rattle.event_classes.specs.declared.map.ClassMap.{ClassMap}
 use Rattle.event_classes.proofs.NextLatch.{made_grows, within_grows, next_same, fit_place, found_fits_in, enable_grows}
 use Rattle.event_classes.proofs.Found.{told_by, own_grows}
-use Rattle.class_fits.proofs.Standing.{classes_ready}
+use Rattle.class_search.proofs.class_fits.Standing.{classes_ready}
 use Rattle.event_classes.proofs.Setting.{goes_on_from}
 use Rattle.event_classes.proofs.joining.join_asked.Goals as goal
 

@@ -4,7 +4,7 @@ use Rattle.std.proofs.lemmas.Result.{on_ok_weaker}
 use Rattle.std.specs.Prelude.{◌≡◌, is_ok, true}
 use Rattle.event_classes.proofs.Limiting.{when_ok}
 use Rattle.class_search.specs.declared.search.Fit.{Fit}
-use Rattle.class_fits.specs.Members.{class_of_fit}
+use Rattle.class_search.specs.class_fits.Members.{class_of_fit}
 use Rattle.class_search.specs.declared.told.Told.{Told}
 use Rattle.event_classes.specs.Map.{FitsIn, AreToldAt, AreToldBy}
 use Rattle.event_classes.proofs.joining.join_fit.Goals as goal

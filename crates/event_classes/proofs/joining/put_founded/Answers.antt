@@ -1,8 +1,8 @@
 -- A latch that founds a class, where there is room for it.
 use Rattle.std.proofs.Common.{◌≡◌, ◌∙◌, ◌+◌, suc, List, [], ◌∷◌, ◌++◌, length, sym, ap, subst, arith}
 use Rattle.class_search.specs.declared.class.Class.{Class}
-use Rattle.class_separations.specs.declared.apart.Apart.{Apart}
-use Rattle.class_separations.specs.Telling.{AreToldIn, HasKept}
+use Rattle.class_search.specs.declared.class_separations.apart.Apart.{Apart}
+use Rattle.class_search.specs.class_separations.Telling.{AreToldIn, HasKept}
 use Rattle.event_classes.specs.declared.map.ClassMap.{ClassMap}
 use Rattle.event_classes.specs.Map.{FitsIn}
 use Rattle.event_classes.proofs.NextLatch.{founded_goes_on}

@@ -2,7 +2,7 @@
 use Rattle.std.proofs.Common.{sym, subst, arith}
 use Rattle.std.proofs.lemmas.Result.{err_from_is_err_and}
 use Rattle.std.specs.List.{All}
-use Rattle.event_order.specs.Order.{IsTagOf, IsTagOrder}
+use Rattle.class_search.specs.event_order.Order.{IsTagOf, IsTagOrder}
 use Rattle.event_classes.proofs.Limiting.{error_is, many_no_large, many_no_limit, memory_no_many, memory_no_large, memory_no_limit}
 use Rattle.event_classes.proofs.Stopping.{many_latches}
 use Rattle.event_classes.proofs.making.make_classes.Goals as goal

@@ -3,7 +3,7 @@ use Rattle.std.proofs.Common.{Err, sym, ap, subst}
 use Rattle.std.proofs.lemmas.Result.{err_from_is_err_and}
 use Rattle.std.specs.List.{All}
 use Rattle.event_nodes.specs.View.{EventCircuitView}
-use Rattle.event_order.specs.Order.{IsTagOf}
+use Rattle.class_search.specs.event_order.Order.{IsTagOf}
 use Rattle.event_classes.specs.Steps.{HaveDepths}
 use Rattle.event_classes.proofs.Limiting.{error_is, no_error, memory_no_many, memory_no_large, memory_no_limit}
 use Rattle.event_classes.proofs.Stopping.{many_both, heavy_both, limit_both}

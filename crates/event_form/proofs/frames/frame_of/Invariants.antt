@@ -3,4 +3,4 @@ use Rattle.event_form.specs.Frames.{TellsFrame}
 use Rattle.event_form.proofs.frames.frame_of.Given as goal
 
 abbrev pub invariant-loop-i : goal.invariant-loop-i
-invariant-loop-i l = TellsFrame l.events.events (take l.i l.vars) (take l.i l.bits) l.frame.items
+invariant-loop-i l = TellsFrame l.events (take l.i l.vars) (take l.i l.bits) l.frame.items

@@ -2,8 +2,8 @@
 use Rattle.std.proofs.Common.{◌<◌, [], ◌∷◌, length, Err, sym, ap, subst}
 use Rattle.std.proofs.lemmas.Result.{err_from_is_err_and}
 use Rattle.circuit_theory.specs.Joined.{Left}
-use Rattle.class_search.specs.event_nodes.View.{EventCircuitView}
-use Rattle.class_search.proofs.event_nodes.Growing.{grows_refl}
+use Rattle.event_nodes.specs.View.{EventCircuitView}
+use Rattle.event_nodes.proofs.Growing.{grows_refl}
 use Rattle.event_functions.specs.Functions.{signal_start}
 use Rattle.event_form.proofs.Asking.{function_on, later_refl, later_trans, more_is_later}
 use Rattle.event_form.proofs.Counted.{left_counted, none_counted, pair_counted, within_same}

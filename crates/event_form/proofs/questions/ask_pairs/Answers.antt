@@ -4,10 +4,10 @@ use Rattle.std.specs.List.{Contains}
 use Rattle.std.proofs.lemmas.List.{take_all}
 use Rattle.std.proofs.lemmas.Result.{err_from_is_err_and}
 use Rattle.std.proofs.lemmas.Option.{slice_get-get_or}
-use Rattle.interface.proofs.flat_net.Places.{All-at}
-use Rattle.class_search.proofs.event_nodes.Growing.{grows_refl}
-use Rattle.interface.specs.declared.pairs.SignalPair.{SignalPair}
-use Rattle.event_agreement.specs.pair_events.View.{side_of_both}
+use Rattle.sec_setup.proofs.ports.flat_net.Places.{All-at}
+use Rattle.event_nodes.proofs.Growing.{grows_refl}
+use Rattle.sec_setup.specs.declared.ports.pairs.SignalPair.{SignalPair}
+use Rattle.event_form.specs.event_agreement.pair_events.View.{side_of_both}
 use Rattle.event_form.specs.Asked.{AreAsked, IsPairOf}
 use Rattle.event_form.specs.Counted.{CountsOn, left_starts, right_starts}
 use Rattle.event_functions.specs.Functions.{signal_start}

@@ -2,8 +2,8 @@ use Rattle.std.proofs.Common.{take}
 use Rattle.event_form.specs.Asked.{AreAsked, IsLater}
 use Rattle.event_form.specs.Counted.{CountsOn}
 use Rattle.event_form.proofs.questions.ask_pairs.Given as goal
-use Rattle.class_search.specs.event_nodes.Nodes.{IsEventGraph}
-use Rattle.event_agreement.specs.pair_events.View.{IsWithinLimits, side_of_both}
+use Rattle.event_nodes.specs.Nodes.{IsEventGraph}
+use Rattle.event_form.specs.event_agreement.pair_events.View.{IsWithinLimits, side_of_both}
 
 abbrev pub invariant-loop-i : goal.invariant-loop-i
 invariant-loop-i l = record {

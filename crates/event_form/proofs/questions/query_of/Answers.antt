@@ -1,7 +1,7 @@
 -- The query of both functions.
 use Rattle.std.proofs.Common.{ℕ, List, refl, sym, subst}
 use Rattle.class_search.specs.event_variables.Variables.{AreInOrder, IsMergeOf}
-use Rattle.event_agreement.proofs.event_pairs.Growing.{in_order_later}
+use Rattle.event_form.proofs.event_agreement.event_pairs.Growing.{in_order_later}
 use Rattle.event_form.proofs.questions.query_of.Goals as goal
 
 pub and-requires-clause-left : goal.and-requires-clause-left

@@ -1,9 +1,9 @@
 -- What was made, as it is told.
-use Rattle.class_search.specs.event_nodes.Nodes.{GrowsEvents}
-use Rattle.event_agreement.specs.event_pairs.Functions.{IsEventFunction}
-use Rattle.event_agreement.proofs.pair_events.Unfolding.{on_ok}
-use Rattle.event_agreement.specs.pair_events.Counted.{GoOnCounting}
-use Rattle.event_agreement.specs.pair_events.View.{IsWithinLimits, side_of_both, signal_at}
+use Rattle.event_nodes.specs.Nodes.{GrowsEvents}
+use Rattle.event_form.specs.event_agreement.event_pairs.Functions.{IsEventFunction}
+use Rattle.event_form.proofs.event_agreement.pair_events.Unfolding.{on_ok}
+use Rattle.event_form.specs.event_agreement.pair_events.Counted.{GoOnCounting}
+use Rattle.event_form.specs.event_agreement.pair_events.View.{IsWithinLimits, side_of_both, signal_at}
 use Rattle.event_form.specs.Asked.{IsLater}
 use Rattle.event_form.proofs.Asking.{later_by}
 use Rattle.event_form.proofs.Refusing.{told_if, told_on, told_many, told_large, signal_refused}

@@ -3,8 +3,8 @@ use Rattle.std.proofs.Common.{◌≡◌, ◌<◌, ℕ, length, refl, sym, subst,
 use Rattle.std.specs.List.{Contains}
 use Rattle.std.proofs.lemmas.Option.{slice_get_within}
 use Rattle.circuit_theory.proofs.Lists.{All-from_each, at_of, of_at}
-use Rattle.event_variables.proofs.flat_net.Places.{All-at}
-use Rattle.event_variables.proofs.event_nodes.Lists.{adds_none, adds_trans, adds_weaker}
+use Rattle.event_nodes.proofs.event_variables.flat_net.Places.{All-at}
+use Rattle.event_nodes.proofs.Lists.{adds_none, adds_trans, adds_weaker}
 use Rattle.event_functions.proofs.Totaling.{counted_next}
 use Rattle.event_functions.proofs.counting.count_all.Goals as goal
 

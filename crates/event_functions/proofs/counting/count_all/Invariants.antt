@@ -1,7 +1,7 @@
 use Rattle.std.proofs.Common.{◌≡◌, ◌<◌, ℕ, slice_get, Some}
 use Rattle.std.specs.List.{Contains}
-use Rattle.event_variables.specs.event_nodes.Adds.{Adds}
-use Rattle.event_variables.specs.event_nodes.Visited.{IsWeighed}
+use Rattle.event_nodes.specs.Adds.{Adds}
+use Rattle.event_nodes.specs.Visited.{IsWeighed}
 use Rattle.event_functions.proofs.counting.count_all.Given as goal
 
 abbrev pub invariant-loop-number : goal.invariant-loop-number

@@ -1,7 +1,7 @@
 -- The nodes that were made tell which number is passed.
 use Rattle.std.proofs.Common.{◌∙◌, sym, arith}
-use Rattle.event_variables.proofs.event_nodes.Growing.{grows_refl}
-use Rattle.event_reach.proofs.Making.{no_nodes}
+use Rattle.event_nodes.proofs.Growing.{grows_refl}
+use Rattle.event_functions.proofs.event_reach.Making.{no_nodes}
 use Rattle.event_functions.specs.Functions.{signal_start}
 use Rattle.event_functions.proofs.Refusing.{from_ok, many_or_large}
 use Rattle.event_functions.proofs.refusal.signal_nodes.Goals as goal

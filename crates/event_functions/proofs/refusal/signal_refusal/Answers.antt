@@ -1,6 +1,6 @@
 -- What the walk said, or how many event nodes there are.
-use Rattle.event_variables.proofs.event_nodes.Growing.{grows_refl}
-use Rattle.event_reach.proofs.Making.{no_nodes}
+use Rattle.event_nodes.proofs.Growing.{grows_refl}
+use Rattle.event_functions.proofs.event_reach.Making.{no_nodes}
 use Rattle.event_functions.specs.Functions.{signal_start}
 use Rattle.event_functions.proofs.Refusing.{memory_or_many, memory_or_large, many_or_large}
 use Rattle.event_functions.proofs.refusal.signal_refusal.Goals as goal

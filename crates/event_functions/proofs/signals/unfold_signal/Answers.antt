@@ -2,14 +2,14 @@
 use Rattle.std.proofs.Common.{ℕ, List, [], ◌∷◌, None, Err, refl, sym, ap, subst, arith}
 use Rattle.std.specs.List.{All, Contains}
 use Rattle.std.proofs.lemmas.Result.{err_from_is_err_and}
-use Rattle.event_variables.specs.flat_net.View.{NetView}
-use Rattle.event_variables.specs.event_nodes.Visited.{IsWeighed, HoldsVisits, IsVisitedPair}
-use Rattle.event_variables.proofs.event_nodes.Growing.{grows_trans}
-use Rattle.event_variables.proofs.event_nodes.Lists.{adds_none}
-use Rattle.event_literals.specs.Walk.{HasCountedStart, IsCounting}
+use Rattle.event_nodes.specs.event_variables.flat_net.View.{NetView}
+use Rattle.event_nodes.specs.Visited.{IsWeighed, HoldsVisits, IsVisitedPair}
+use Rattle.event_nodes.proofs.Growing.{grows_trans}
+use Rattle.event_nodes.proofs.Lists.{adds_none}
+use Rattle.edbf_unfold.specs.event_literals.event_walk.Walk.{HasCountedStart, IsCounting}
 use Rattle.edbf_unfold.specs.Reached.{IsReachOf}
-use Rattle.event_variables.proofs.Meaning.{visited_inputs}
-use Rattle.event_literals.proofs.Known.{known_at_later}
+use Rattle.event_nodes.proofs.event_variables.Meaning.{visited_inputs}
+use Rattle.edbf_unfold.proofs.event_literals.Known.{known_at_later}
 use Rattle.event_functions.specs.Functions.{signal_start}
 use Rattle.event_functions.specs.Refused.{IsOverweight}
 use Rattle.event_functions.proofs.Refusing.{error_is, refused_memory, refused_value}

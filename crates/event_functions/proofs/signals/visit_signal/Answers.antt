@@ -1,15 +1,15 @@
 -- An unfolder that has met nothing visits the start.
 use Rattle.std.proofs.Common.{◌∙◌, ◌<◌, ℕ, [], length, None, Err, refl, sym, ap, subst, arith}
-use Rattle.event_variables.specs.event_nodes.View.{EventCircuitView}
-use Rattle.event_literals.specs.Walk.{HasCountedStart, IsCounting}
-use Rattle.event_literals.specs.Known.{IsKnownAt}
+use Rattle.event_nodes.specs.View.{EventCircuitView}
+use Rattle.edbf_unfold.specs.event_literals.event_walk.Walk.{HasCountedStart, IsCounting}
+use Rattle.edbf_unfold.specs.event_literals.Known.{IsKnownAt}
 use Rattle.edbf_unfold.specs.Care.{IsCareLit}
 use Rattle.edbf_unfold.specs.Reached.{IsReachOf}
 use Rattle.event_functions.specs.Functions.{signal_start}
-use Rattle.event_variables.specs.event_nodes.Visited.{places_weight}
-use Rattle.event_variables.proofs.event_nodes.Growing.{grows_refl, grows_trans}
-use Rattle.event_variables.proofs.event_nodes.Lists.{adds_none}
-use Rattle.event_reach.proofs.Making.{no_nodes}
+use Rattle.event_nodes.specs.Visited.{places_weight}
+use Rattle.event_nodes.proofs.Growing.{grows_refl, grows_trans}
+use Rattle.event_nodes.proofs.Lists.{adds_none}
+use Rattle.event_functions.proofs.event_reach.Making.{no_nodes}
 use Rattle.event_functions.proofs.Refusing.{error_is, value_apart}
 use Rattle.event_functions.proofs.Totaling.{visits_over}
 use Rattle.event_functions.proofs.Visiting.{fresh_circuit, fresh_known, fresh_ready, counting_on}

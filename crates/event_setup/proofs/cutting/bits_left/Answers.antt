@@ -4,7 +4,7 @@ use Rattle.std.specs.List.{AllZip}
 use Rattle.std.proofs.lemmas.List.{take_all}
 use Rattle.std.proofs.lemmas.Option.{same_Some}
 use Rattle.circuit_theory.proofs.Lists.{of_at}
-use Rattle.event_order.proofs.LatchDepths.{item_at, zip_more}
+use Rattle.class_search.proofs.event_order.LatchDepths.{item_at, zip_more}
 use Rattle.flat_net.specs.declared.parts.LatchAt.{LatchAt}
 use Rattle.event_setup.specs.Cutting.{HasBit}
 use Rattle.event_setup.proofs.cutting.bits_left.Goals as goal

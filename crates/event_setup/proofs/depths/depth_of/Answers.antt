@@ -1,6 +1,6 @@
 -- Without a cycle of latches each signal has a depth.
 use Rattle.std.proofs.Common.{arith}
-use Rattle.event_order.proofs.LatchDepths.{depth_told}
+use Rattle.class_search.proofs.event_order.LatchDepths.{depth_told}
 use Rattle.event_setup.proofs.SignalDepths.{has_depth}
 use Rattle.event_setup.proofs.depths.depth_of.Goals as goal
 

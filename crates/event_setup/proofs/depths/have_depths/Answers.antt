@@ -1,6 +1,6 @@
 -- One latch more has a depth.
 use Rattle.std.proofs.Common.{length, ap, arith}
-use Rattle.event_order.proofs.LatchDepths.{item_at, one_more, all_have}
+use Rattle.class_search.proofs.event_order.LatchDepths.{item_at, one_more, all_have}
 use Rattle.event_setup.proofs.SignalDepths.{out_there}
 use Rattle.event_setup.proofs.depths.have_depths.Goals as goal
 

@@ -1,4 +1,4 @@
-use Rattle.event_order.proofs.LatchDepths.{HaveDepths}
+use Rattle.class_search.proofs.event_order.LatchDepths.{HaveDepths}
 use Rattle.event_setup.proofs.depths.have_depths.Given as goal
 
 abbrev pub invariant-loop-latch : goal.invariant-loop-latch

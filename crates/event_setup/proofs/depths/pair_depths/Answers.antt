@@ -3,9 +3,9 @@ use Rattle.std.proofs.Common.{◌∙◌, List, refl, sym, subst}
 use Rattle.std.specs.List.{AllZip}
 use Rattle.std.proofs.lemmas.List.{take_all}
 use Rattle.std.proofs.lemmas.Option.{same_Some}
-use Rattle.event_order.proofs.LatchDepths.{item_at, zip_more}
+use Rattle.class_search.proofs.event_order.LatchDepths.{item_at, zip_more}
 use Rattle.flat_net.proofs.Places.{All-at}
-use Rattle.interface.specs.declared.pairs.SignalPair.{SignalPair}
+use Rattle.sec_setup.specs.declared.ports.pairs.SignalPair.{SignalPair}
 use Rattle.event_setup.specs.Setup.{IsPairDepthIn, IsPairWithin}
 use Rattle.event_setup.proofs.depths.pair_depths.Goals as goal
 

@@ -1,7 +1,7 @@
 -- What the latches are gives the bits.
 use Rattle.std.proofs.Common.{◌∙◌, ap, length, sym, subst}
 use Rattle.circuit_theory.specs.declared.Mode.TheVariants.{Event}
-use Rattle.inner_cone.specs.latch_cone.Kinds.{AreKindsIn}
+use Rattle.signal_graph.specs.inner_cone.latch_cone.Kinds.{AreKindsIn}
 use Rattle.event_setup.proofs.Recovering.{recovered}
 use Rattle.event_setup.proofs.enables.enabled_in.Goals as goal
 

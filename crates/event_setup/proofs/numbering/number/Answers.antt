@@ -1,7 +1,7 @@
 -- No column stands twice, and there are numbers enough.
 use Rattle.std.proofs.Common.{◌∙◌, List, ℕ, sym, subst}
-use Rattle.interface.specs.Numbered.{AreNumbered}
-use Rattle.interface.proofs.Columns.{columns_once}
+use Rattle.sec_setup.specs.ports.Numbered.{AreNumbered}
+use Rattle.sec_setup.proofs.ports.Columns.{columns_once}
 use Rattle.event_setup.proofs.Setups.{few_numbers}
 use Rattle.event_setup.proofs.numbering.number.Goals as goal
 

@@ -2,8 +2,8 @@
 use Rattle.std.proofs.Common.{subst, sym}
 use Rattle.std.specs.List.{All}
 use Rattle.flat_net.specs.View.{ports_of}
-use Rattle.interface.proofs.NamedPairs.{pairs_cut}
-use Rattle.interface.proofs.Shared.{are_matched}
+use Rattle.sec_setup.proofs.ports.NamedPairs.{pairs_cut}
+use Rattle.sec_setup.proofs.ports.Shared.{are_matched}
 use Rattle.event_setup.specs.Setup.{IsPairWithin}
 use Rattle.event_setup.proofs.Acyclic.{left_acyclic, right_acyclic}
 use Rattle.event_setup.proofs.Setups.{left_circuit, pairs_within, right_circuit}

@@ -2,9 +2,9 @@
 use Rattle.std.proofs.Common.{◌∙◌, ℕ, List, length, refl, ap, subst, sym}
 use Rattle.base_tables.specs.Table.{AreDistinct}
 use Rattle.flat_net.specs.View.{ports_of}
-use Rattle.interface.proofs.Columns.{columns_once}
-use Rattle.interface.proofs.NamedPairs.{pairs_cut, pairs_named}
-use Rattle.interface.proofs.Shared.{are_matched}
+use Rattle.sec_setup.proofs.ports.Columns.{columns_once}
+use Rattle.sec_setup.proofs.ports.NamedPairs.{pairs_cut, pairs_named}
+use Rattle.sec_setup.proofs.ports.Shared.{are_matched}
 use Rattle.event_setup.proofs.Setups.{all_columns, cut_at, cut_in, is_setup, left_columns, right_columns}
 use Rattle.event_setup.proofs.setup.set_up_cut.Goals as goal
 

@@ -2,10 +2,10 @@
 use Rattle.std.proofs.Common.{sym, subst}
 use Rattle.std.specs.List.{All}
 use Rattle.event_nodes.specs.Nodes.{EventGraphView}
-use Rattle.event_agreement.specs.pair_events.Laws.{AreKept}
-use Rattle.event_agreement.specs.pair_events.View.{side_of_both}
+use Rattle.event_form.specs.event_agreement.pair_events.Laws.{AreKept}
+use Rattle.event_form.specs.event_agreement.pair_events.View.{side_of_both}
 use Rattle.event_form.specs.Asked.{AreAsked}
-use Rattle.event_witness_under.specs.Questions.{IsOneOver}
+use Rattle.event_under_form.specs.event_witness_under.Questions.{IsOneOver}
 use Rattle.event_under_form.specs.Asked.{AreAskedAssumed}
 use Rattle.event_under_form.proofs.Questions.{asked_assumed, if_all, ones_over}
 use Rattle.event_under_form.proofs.asking.questions_of.Goals as goal

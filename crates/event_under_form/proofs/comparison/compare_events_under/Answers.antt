@@ -2,16 +2,16 @@
 use Rattle.std.proofs.Common.{◌≡◌, ℕ, Err, refl, sym, ap, subst}
 use Rattle.circuit_theory.specs.Joined.{Either}
 use Rattle.circuit_theory.specs.Frame.{EventSide}
-use Rattle.event_agreement.specs.pair_events.View.{side_of_both}
+use Rattle.event_form.specs.event_agreement.pair_events.View.{side_of_both}
 use Rattle.event_form.specs.Asked.{AreAsked}
-use Rattle.event_findings.specs.Separated.{AreSeparated}
-use Rattle.event_findings.proofs.Telling.{separated_stay}
+use Rattle.event_findings.specs.unshown_pairs.class_events.Separated.{AreSeparated}
+use Rattle.event_findings.proofs.unshown_pairs.class_events.Telling.{separated_stay}
 use Rattle.event_form.proofs.Asking.{later_trans, side_same}
 use Rattle.event_form.proofs.Refusing.{error_is}
 use Rattle.event_comparison.specs.Asked.{AreAskedFrom}
 use Rattle.event_comparison.proofs.Comparing.{asked_from, compared_later, counted_on}
 use Rattle.event_comparison.proofs.Repeating.{never_again, stopped_told}
-use Rattle.event_under_verdicts.specs.event_under.Places.{IsLightAtNodes, IsOverAtNodes}
+use Rattle.event_under.specs.Places.{IsLightAtNodes, IsOverAtNodes}
 use Rattle.event_under_form.specs.Formed.{ArePairsOver, AreRefusedUnder}
 use Rattle.event_under_form.specs.Refusals.{refusal_of, refusal_under}
 use Rattle.event_under_form.specs.declared.error.EventUnderError.TheVariants as under_error

@@ -5,8 +5,8 @@ use Rattle.outcome.specs.declared.verdict.PairResult.{PairResult}
 use Rattle.obligations.specs.Asked as graph_level
 use Rattle.obligations.specs.Decided.{HaveDecided}
 use Rattle.obligations.specs.Verdict.{IsVerdictAt}
-use Rattle.assume_sequences.specs.Filled.{bit_of}
-use Rattle.event_under_verdicts.specs.Shown.{IsFoundUnder, IsShownUnder}
+use Rattle.assume_queries.specs.assume_sequences.Filled.{bit_of}
+use Rattle.event_under_form.specs.event_under_verdicts.Shown.{IsFoundUnder, IsShownUnder}
 use Rattle.event_under_form.proofs.Questions.{are_queries, found_at}
 use Rattle.event_under_form.proofs.comparison.findings_of.Goals as goal
 

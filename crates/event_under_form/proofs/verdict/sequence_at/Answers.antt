@@ -2,11 +2,11 @@
 use Rattle.std.proofs.Common.{subst}
 use Rattle.event_nodes.specs.Nodes.{EventGraphView}
 use Rattle.event_nodes.proofs.Growing.{grows_refl}
-use Rattle.assume_sequences.specs.Filled.{bit_of}
-use Rattle.event_findings.proofs.Showing.{if_ok}
-use Rattle.event_under_verdicts.specs.Shown.{IsWitnessUnder}
-use Rattle.event_witness_under.specs.Ready.{IsReadyAt}
-use Rattle.event_witness_under.specs.Shown.{IsSequenceAt}
+use Rattle.assume_queries.specs.assume_sequences.Filled.{bit_of}
+use Rattle.event_findings.proofs.event_witness.Showing.{if_ok}
+use Rattle.event_under_form.specs.event_under_verdicts.Shown.{IsWitnessUnder}
+use Rattle.event_under_form.specs.event_witness_under.Ready.{IsReadyAt}
+use Rattle.event_under_form.specs.event_witness_under.Shown.{IsSequenceAt}
 use Rattle.event_under_form.proofs.Showing.{can_make, can_show, sequence_shown}
 use Rattle.event_under_form.proofs.verdict.sequence_at.Goals as goal
 

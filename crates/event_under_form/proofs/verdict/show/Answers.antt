@@ -5,9 +5,9 @@ use Rattle.obligations.specs.declared.verdict.VerdictAt.{VerdictAt}
 use Rattle.outcome.specs.declared.verdict.PairResult.{PairResult}
 use Rattle.sec_base.specs.declared.basics.PairAnswer.TheVariants as answer
 use Rattle.witness_report.specs.declared.witness.PairName.{PairName}
-use Rattle.assume_sequences.specs.Filled.{bit_of}
+use Rattle.assume_queries.specs.assume_sequences.Filled.{bit_of}
 use Rattle.event_findings.specs.declared.verdict.EventVerdict.TheVariants as verdict
-use Rattle.event_under_verdicts.specs.Shown.{IsFoundUnder, IsShownUnder}
+use Rattle.event_under_form.specs.event_under_verdicts.Shown.{IsFoundUnder, IsShownUnder}
 use Rattle.event_under_form.proofs.verdict.show.Goals as goal
 
 pub sequence_at-requires-clause-differs : goal.sequence_at-requires-clause-differs

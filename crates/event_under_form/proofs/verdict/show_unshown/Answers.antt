@@ -5,12 +5,12 @@ use Rattle.sec_base.specs.declared.basics.PairAnswer.TheVariants as answer
 use Rattle.event_nodes.specs.Nodes.{EventGraphView}
 use Rattle.event_form.specs.Counted.{left_starts, right_starts}
 use Rattle.event_form.proofs.Refusing.{error_is, memory_refused, ok_refused}
-use Rattle.event_agreement.specs.pair_events.View.{side_of_both}
-use Rattle.event_findings.specs.Reached.{BothReachAlways}
-use Rattle.event_findings.specs.Separations.{AreToldApart, AreToldFor}
+use Rattle.event_form.specs.event_agreement.pair_events.View.{side_of_both}
+use Rattle.event_findings.specs.unshown_pairs.Reached.{BothReachAlways}
+use Rattle.event_findings.specs.unshown_pairs.Separations.{AreToldApart, AreToldFor}
 use Rattle.event_comparison.proofs.Showing.{refused_for_all, stay_counted}
-use Rattle.event_witness_under.specs.Ready.{IsReadyAt}
-use Rattle.event_witness_under.specs.Shown.{IsSequenceAt}
+use Rattle.event_under_form.specs.event_witness_under.Ready.{IsReadyAt}
+use Rattle.event_under_form.specs.event_witness_under.Shown.{IsSequenceAt}
 use Rattle.event_under_form.specs.Asked.{DiffersAt}
 use Rattle.event_under_form.proofs.Showing.{can_make, can_show, difference_within, frame_shown, of_pair, pair_is, pair_there, sequence_shown}
 use Rattle.event_under_form.proofs.verdict.show_unshown.Goals as goal

@@ -1,6 +1,6 @@
 -- The partition of the moment.
 use Rattle.std.proofs.Common.{ℕ, List, length, refl, sym, ap, subst, arith}
-use Rattle.latch_blocks.specs.Blocks.{AreInOrder}
+use Rattle.block_refine.specs.latch_blocks.Blocks.{AreInOrder}
 use Rattle.induct.specs.Inductions.{AreMembers}
 use Rattle.induct.proofs.Inducing.{split_told}
 use Rattle.induct.proofs.OverBlocks.{latches_few}

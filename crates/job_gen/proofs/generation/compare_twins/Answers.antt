@@ -1,7 +1,7 @@
 use Rattle.std.proofs.Common.{false, refl, subst, Result}
 use Rattle.circuit_theory.specs.declared.Side.TheVariants.{A, B}
-use Rattle.pair_gen.specs.Words.{words_of}
-use Rattle.pair_gen.proofs.Whole.{twin_comparable}
+use Rattle.job_gen.specs.pair_gen.Words.{words_of}
+use Rattle.job_gen.proofs.pair_gen.Whole.{twin_comparable}
 use Rattle.outcome.specs.declared.verdict.Outcome.{Outcome}
 use Rattle.under_base.specs.declared.compare_base.error.CompareError.{CompareError}
 use Rattle.plain_check.specs.Compared.{Compared}

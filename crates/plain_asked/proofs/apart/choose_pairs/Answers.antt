@@ -7,7 +7,7 @@ use Rattle.flat_net.specs.declared.signals.Signal.{Signal}
 use Rattle.circuit_theory.proofs.Lists.{length-map, zip_length}
 use Rattle.cbf_unfold.specs.Unfolded.{IsLiteralOf}
 use Rattle.cbf_unfold.proofs.Known.{fits_later}
-use Rattle.interface.specs.declared.pairs.SignalPair.{SignalPair}
+use Rattle.sec_setup.specs.declared.ports.pairs.SignalPair.{SignalPair}
 use Rattle.plain_asked.specs.Apart.{AreChosen, ChoosesOf}
 use Rattle.plain_asked.specs.Pairs.{left_signals, right_signals}
 use Rattle.plain_asked.proofs.Growing.{numbers_of, refused_left, refused_right}

@@ -7,7 +7,7 @@ use Rattle.unfold_places.proofs.Lists.{adds_none, adds_trans}
 use Rattle.circuit_theory.specs.declared.Side.TheVariants.{A, B}
 use Rattle.flat_net.specs.declared.signals.Signal.{Signal}
 use Rattle.cbf_unfold.proofs.Known.{fits_later}
-use Rattle.interface.specs.declared.pairs.SignalPair.{SignalPair}
+use Rattle.sec_setup.specs.declared.ports.pairs.SignalPair.{SignalPair}
 use Rattle.plain_asked.specs.Apart.{UnfoldsApart}
 use Rattle.plain_asked.specs.Pairs.{IsFunctionOf, left_signals, right_signals}
 use Rattle.plain_asked.proofs.Growing.{refused_left, refused_right}

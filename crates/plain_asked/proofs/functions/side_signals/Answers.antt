@@ -2,7 +2,7 @@
 use Rattle.std.proofs.Common.{◌∙◌, ◌++◌, ◌∷◌, [], ap, map}
 use Rattle.std.proofs.lemmas.List.{take_all}
 use Rattle.flat_net.specs.declared.signals.Signal.{Signal}
-use Rattle.interface.specs.declared.pairs.SignalPair.{SignalPair}
+use Rattle.sec_setup.specs.declared.ports.pairs.SignalPair.{SignalPair}
 use Rattle.plain_asked.specs.Pairs.{signal_of}
 use Rattle.plain_asked.proofs.Growing.{map_next}
 use Rattle.plain_asked.proofs.functions.side_signals.Goals as goal

@@ -1,6 +1,6 @@
 -- A's functions stay while B is unfolded.
 use Rattle.std.proofs.Common.{◌≡◌, length, Err, refl, sym, ap, subst, arith, rules}
-use Rattle.interface.specs.declared.pairs.SignalPair.{SignalPair}
+use Rattle.sec_setup.specs.declared.ports.pairs.SignalPair.{SignalPair}
 use Rattle.plain_asked.specs.Pairs.{Unfolds, left_signals, right_signals}
 use Rattle.plain_asked.proofs.Growing.{functions_later, refused_left, refused_right}
 use Rattle.plain_asked.proofs.functions.unfold_pairs.Goals as goal

@@ -10,7 +10,7 @@ use Rattle.flat_net.specs.declared.signals.Signal.{Signal}
 use Rattle.flat_net.specs.View.{NetView}
 use Rattle.unfold_places.specs.declared.signal_function.Unfolded.{Unfolded}
 use Rattle.unfold_places.proofs.Lists.{adds_none}
-use Rattle.interface.specs.declared.pairs.SignalPair.{SignalPair}
+use Rattle.sec_setup.specs.declared.ports.pairs.SignalPair.{SignalPair}
 use Rattle.plain_asked.specs.Pairs.{IsFunctionOf, AreLight, IsRefusalOf, side_signals, signal_of}
 use Rattle.plain_asked.proofs.Growing.{numbers_of, light_when, within_from, zip_from_map}
 use Rattle.plain_asked.proofs.functions.unfold_side.Goals as goal

@@ -1,7 +1,7 @@
 -- The functions of the pair stand at its place.
 use Rattle.std.proofs.Common.{◌≡◌, slice_get, Some, sym, subst, arith}
 use Rattle.std.proofs.lemmas.Result.{IfOk-weaker}
-use Rattle.interface.specs.declared.pairs.SignalPair.{SignalPair}
+use Rattle.sec_setup.specs.declared.ports.pairs.SignalPair.{SignalPair}
 use Rattle.plain_asked.specs.Asked.{AskedOf, AsksWith, IsOnlyQuery}
 use Rattle.plain_asked.proofs.PairAt.{element, left_within, right_within, left_variables, right_variables, left_here, right_here}
 use Rattle.plain_asked.proofs.questions.obligation_of.Goals as goal

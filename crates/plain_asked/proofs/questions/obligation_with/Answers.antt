@@ -2,7 +2,7 @@
 use Rattle.std.proofs.Common.{◌≡◌, ◌<◌, List, length, slice_get, Some, refl, sym, ◌∙◌, ap, subst}
 use Rattle.std.specs.Prelude.{not}
 use Rattle.std.proofs.lemmas.Option.{same_Some}
-use Rattle.interface.specs.declared.pairs.SignalPair.{SignalPair}
+use Rattle.sec_setup.specs.declared.ports.pairs.SignalPair.{SignalPair}
 use Rattle.plain_asked.specs.Asked.{AsksWith}
 use Rattle.plain_asked.proofs.PairAt.{left_shown, right_shown, output_within}
 use Rattle.shift_variables.proofs.Reading.{item_at}

@@ -1,12 +1,12 @@
 -- A refusal is that of the unfolding.
 use Rattle.std.proofs.Common.{◌≡◌, ℕ, Err, sym, subst, rules}
-use Rattle.reset_functions.specs.declared.error.ResetError.{ResetError}
-use Rattle.reset_functions.specs.declared.error.ResetError.TheVariants as refused
+use Rattle.reset_form.specs.declared.reset_functions.error.ResetError.{ResetError}
+use Rattle.reset_form.specs.declared.reset_functions.error.ResetError.TheVariants as refused
 use Rattle.circuit_theory.specs.declared.Side.TheVariants.{A, B}
 use Rattle.sec_setup.specs.declared.setup.Setup.{Setup}
-use Rattle.reset_functions.specs.declared.bases.Bases.{Bases}
+use Rattle.reset_form.specs.declared.reset_functions.bases.Bases.{Bases}
 use Rattle.reset_form.specs.Formed.{Formed}
-use Rattle.reset_functions.specs.Pairs.{Unfolds}
+use Rattle.reset_form.specs.reset_functions.Pairs.{Unfolds}
 use Rattle.reset_form.proofs.comparison.compare_reset.Goals as goal
 
 refusal_formed : (s : Setup) (b : Bases) (conflicts : ℕ) (e : ResetError) → Unfolds s b (Err e) → Formed s conflicts (Err e)

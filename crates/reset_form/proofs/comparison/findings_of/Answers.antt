@@ -7,7 +7,8 @@ use Rattle.obligations.specs.Decided.{HaveDecided}
 use Rattle.obligations.specs.Verdict.{IsVerdictAt}
 use Rattle.outcome_fits.specs.ResetOutcome.{greatest_size}
 use Rattle.reset_form.specs.Shown.{CanBeShown, IsShown}
-use Rattle.reset_form.proofs.FirstPairs.{own_pairs, pairs_fit, queries_are}
+use Rattle.reset_form.proofs.FirstPairs.{pairs_fit, queries_are}
+use Rattle.reset_form.proofs.reset_functions.OwnPairs.{own_pairs}
 use Rattle.reset_form.proofs.reset_asked.Sound.{AreSound}
 use Rattle.reset_form.proofs.Outcomes.{verdict_fits, can_be_shown}
 use Rattle.reset_form.proofs.comparison.findings_of.Goals as goal

@@ -6,8 +6,8 @@ use Rattle.obligations.specs.declared.obligation.Obligation.{Obligation}
 use Rattle.obligations.specs.declared.obligation.Difference.{Difference}
 use Rattle.sec_setup.specs.declared.setup.Setup.{Setup}
 use Rattle.shift_variables.specs.cycle_variables.Cycles.{AreInCycles}
-use Rattle.reset_functions.specs.declared.bases.Bases.{Bases}
-use Rattle.reset_functions.specs.declared.functions.Functions.{Functions}
+use Rattle.reset_form.specs.declared.reset_functions.bases.Bases.{Bases}
+use Rattle.reset_form.specs.declared.reset_functions.functions.Functions.{Functions}
 use Rattle.outcome.specs.declared.verdict.ResetWitness.{ResetWitness}
 use Rattle.reset_form.specs.Shown.{IsShowable, IsWitnessOf, IsWitnessAt}
 use Rattle.reset_form.proofs.shown.witness_at.Goals as goal

@@ -2,7 +2,7 @@
 use Rattle.std.proofs.Common.{◌≡◌, ◌∙◌, ℕ, Bool, List, ap}
 use Rattle.circuit_theory.specs.Circuit.{Circuit}
 use Rattle.flat_net.specs.View.{circuit_of}
-use Rattle.reset_laws.specs.Reset.{powers}
+use Rattle.circuit_laws.specs.reset_laws.Reset.{powers}
 use Rattle.shift_variables.specs.Sequences.{bits_at}
 use Rattle.reset_form.proofs.witness.witness_of.Goals as goal
 

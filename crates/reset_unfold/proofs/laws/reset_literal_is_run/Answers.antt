@@ -1,6 +1,6 @@
 -- The literal has the tree's value, and the tree has the run's.
 use Rattle.std.proofs.Common.{◌∙◌, arith}
-use Rattle.reset_laws.proofs.ResetTrees.{reset_tree_is_run}
+use Rattle.circuit_laws.proofs.reset_laws.ResetTrees.{reset_tree_is_run}
 use Rattle.flat_net.specs.View.{circuit_of}
 use Rattle.reset_unfold.proofs.laws.reset_literal_is_run.Goals as goal
 

@@ -3,7 +3,7 @@ use Rattle.std.proofs.Common.{◌+◌, ℕ, List, length, sym, subst, take}
 use Rattle.std.proofs.lemmas.List.{take_all}
 use Rattle.flat_net.specs.View.{circuit_of}
 use Rattle.flat_net.proofs.Nets.{sound_is_net}
-use Rattle.reset_laws.proofs.reset_nets.Starts.{nets_have_starts}
+use Rattle.circuit_laws.proofs.reset_laws.reset_nets.Starts.{nets_have_starts}
 use Rattle.unfold_places.proofs.Order.{differ_permuted, strictly}
 use Rattle.reset_unfold.specs.Reach.{AreLeavesOf}
 use Rattle.reset_unfold.proofs.LeafLists.{leaves_none, leaves_skip, leaves_push, leaves_permuted}

@@ -18,7 +18,7 @@ use Rattle.latch_graph.specs.Graph.{GraphView, IsGraphOf, IsGraphIn, SkippedBy, 
 use Rattle.latch_graph.proofs.Skipping.{has_cycle_less, skips_as_mode, mode_as_skips}
 use Rattle.latch_graph.proofs.Trails.{after_last, after_next}
 use Rattle.sec_setup.specs.declared.cut_points.expose_pick.pairs.LatchPair.{LatchPair}
-use Rattle.minimal_cut.specs.Chosen.{IsMinimalChoice, at_places, names_at}
+use Rattle.latch_graph.specs.minimal_cut.Chosen.{IsMinimalChoice, at_places, names_at}
 use Rattle.sec_setup.specs.cut_points.expose_pick.Pairs.{IsLeft, lefts, rights}
 use Rattle.sec_setup.specs.cut_points.expose_pick.Laws.{HaveOneName, AreAllPairs}
 use Rattle.sec_setup.proofs.cut_points.expose_pick.Removed.{cycle_fewer}

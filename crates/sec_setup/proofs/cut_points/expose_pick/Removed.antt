@@ -12,7 +12,7 @@ use Rattle.latch_graph.specs.flat_net.Cut.{no_latch}
 use Rattle.latch_graph.specs.Graph.{GraphView, IsGraphOf, SkippedBy, marked_names, signals_at}
 use Rattle.latch_graph.specs.Rounds.{latch_in}
 use Rattle.latch_graph.proofs.Turns.{marked_has, marked_from}
-use Rattle.minimal_cut.specs.Chosen.{names_at, IsFree}
+use Rattle.latch_graph.specs.minimal_cut.Chosen.{names_at, IsFree}
 use Rattle.sec_setup.specs.cut_points.expose_pick.Pairs.{IsLeft}
 use Rattle.sec_setup.specs.cut_points.expose_pick.Bits.{AreBits}
 

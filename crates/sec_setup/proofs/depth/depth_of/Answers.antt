@@ -2,7 +2,7 @@
 use Rattle.std.proofs.Common.{length, arith}
 use Rattle.circuit_theory.specs.declared.Mode.TheVariants.{Plain}
 use Rattle.circuit_theory.specs.Run.{NoneEnabled}
-use Rattle.interface.specs.flat_net.View.{circuit_of}
+use Rattle.sec_setup.specs.ports.flat_net.View.{circuit_of}
 use Rattle.latch_graph.proofs.NoDepth.{no_depth_cycle}
 use Rattle.latch_graph.proofs.Skipping.{mode_depth, mode_no_depth}
 use Rattle.sec_setup.proofs.depth.depth_of.Goals as goal

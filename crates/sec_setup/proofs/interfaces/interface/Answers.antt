@@ -1,5 +1,5 @@
 use Rattle.std.proofs.Common.{arith}
-use Rattle.interface.proofs.Numbering.{orders_from, few_shared}
+use Rattle.sec_setup.proofs.ports.Numbering.{orders_from, few_shared}
 use Rattle.sec_setup.proofs.interfaces.interface.Goals as goal
 
 pub orders_of-requires : goal.orders_of-requires

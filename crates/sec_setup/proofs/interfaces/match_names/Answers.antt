@@ -1,6 +1,6 @@
 use Rattle.std.proofs.Common.{map, ◌∙◌, ap}
 use Rattle.std.specs.Option.{option_map}
-use Rattle.interface.specs.flat_net.Port.{Port}
+use Rattle.sec_setup.specs.ports.flat_net.Port.{Port}
 use Rattle.sec_setup.proofs.Mismatches.{mismatch_is, refused_name}
 use Rattle.sec_setup.proofs.interfaces.match_names.Goals as goal
 

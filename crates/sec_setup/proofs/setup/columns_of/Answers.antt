@@ -1,8 +1,8 @@
 -- Each exposed name is new among the columns.
 use Rattle.std.proofs.Common.{◌∙◌, List, [], ◌∷◌, ◌++◌, ℕ, cond, ap}
 use Rattle.base_tables.specs.Table.{is_among}
-use Rattle.interface.proofs.Columns.{column_more}
-use Rattle.interface.proofs.Paired.{item_at}
+use Rattle.sec_setup.proofs.ports.Columns.{column_more}
+use Rattle.sec_setup.proofs.ports.Paired.{item_at}
 use Rattle.sec_setup.proofs.setup.columns_of.Goals as goal
 
 pub loop-name-preserved : goal.loop-name-preserved

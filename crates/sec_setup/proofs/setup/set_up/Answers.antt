@@ -1,14 +1,14 @@
 -- The setup is that of both nets.
 use Rattle.std.proofs.Common.{◌≡◌, ◌∙◌, List, ℕ, length, sym, ap, subst}
 use Rattle.base_tables.specs.Table.{AreDistinct}
-use Rattle.interface.specs.flat_net.View.{circuit_of, ports_of}
+use Rattle.sec_setup.specs.ports.flat_net.View.{circuit_of, ports_of}
 use Rattle.sec_setup.specs.Cuts.{AreCutAt, columns_of}
-use Rattle.interface.specs.Pairs.{named_pairs}
-use Rattle.interface.proofs.Columns.{columns_once}
+use Rattle.sec_setup.specs.ports.Pairs.{named_pairs}
+use Rattle.sec_setup.proofs.ports.Columns.{columns_once}
 use Rattle.sec_setup.proofs.CutNets.{cut_acyclic}
-use Rattle.interface.proofs.NamedPairs.{pairs_named, pairs_cut}
+use Rattle.sec_setup.proofs.ports.NamedPairs.{pairs_named, pairs_cut}
 use Rattle.sec_setup.proofs.Setups.{cut_at, all_columns, left_columns, right_columns}
-use Rattle.interface.proofs.Shared.{are_matched}
+use Rattle.sec_setup.proofs.ports.Shared.{are_matched}
 use Rattle.sec_setup.proofs.setup.set_up.Goals as goal
 
 pub returns-clause-setup : goal.returns-clause-setup

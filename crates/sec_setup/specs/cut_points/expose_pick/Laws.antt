@@ -9,7 +9,7 @@ use Rattle.latch_graph.specs.Graph.{GraphView, IsGraphIn}
 use Rattle.sec_setup.specs.declared.cut_points.expose_pick.pairs.LatchPair.{LatchPair}
 use Rattle.sec_setup.specs.declared.cut_points.expose_pick.error.PickError.{PickError}
 use Rattle.sec_setup.specs.declared.cut_points.expose_pick.error.PickError.TheVariants as pick_error
-use Rattle.minimal_cut.specs.Chosen.{IsMinimalChoice, at_places, names_at}
+use Rattle.latch_graph.specs.minimal_cut.Chosen.{IsMinimalChoice, at_places, names_at}
 use Rattle.sec_setup.specs.cut_points.expose_pick.Pairs.{lefts, rights}
 use Rattle.sec_setup.specs.cut_points.expose_pick.Refused.{Refuses}
 

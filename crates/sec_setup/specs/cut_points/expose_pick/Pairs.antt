@@ -3,7 +3,7 @@ use Rattle.std.specs.Prelude.{ℕ, ◌<◌, List, length, map, All}
 use Rattle.circuit_theory.specs.Depth.{IsCycle, BeginsWithLeast}
 use Rattle.latch_graph.specs.flat_net.View.{NetView, circuit_of}
 use Rattle.latch_graph.specs.Graph.{GraphView, IsGraphOf, SkippedBy, signals_at}
-use Rattle.minimal_cut.specs.Chosen.{names_at}
+use Rattle.latch_graph.specs.minimal_cut.Chosen.{names_at}
 use Rattle.sec_setup.specs.declared.cut_points.expose_pick.pairs.LatchPair.{LatchPair}
 
 -- the positions in the first circuit

@@ -4,7 +4,7 @@ use Rattle.circuit_theory.specs.declared.Side.TheVariants.{A, B}
 use Rattle.latch_graph.specs.Graph.{GraphView}
 use Rattle.sec_setup.specs.declared.cut_points.expose_pick.error.PickError.{PickError}
 use Rattle.sec_setup.specs.declared.cut_points.expose_pick.error.PickError.TheVariants as pick_error
-use Rattle.minimal_cut.specs.Chosen.{IsFree}
+use Rattle.latch_graph.specs.minimal_cut.Chosen.{IsFree}
 use Rattle.sec_setup.specs.cut_points.expose_pick.Pairs.{IsLeft}
 
 -- a cycle of the first graph is left, or else one of the second

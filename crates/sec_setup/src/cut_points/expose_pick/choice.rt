@@ -3,15 +3,15 @@
 ghost use Rattle.std.specs.Prelude.{◌≡◌, ◌≢◌, ◌<◌, All, length, IfOk, OnOk, IfErr};
 ghost use Rattle.std.specs.List.{AllPairs};
 ghost use Rattle.base_tables.specs.Table.{AreDistinct};
-ghost use Rattle.minimal_cut.specs.Chosen.{IsFree, IsMinimalChoice};
+ghost use Rattle.latch_graph.specs.minimal_cut.Chosen.{IsFree, IsMinimalChoice};
 ghost use Rattle.sec_setup.specs.cut_points.expose_pick.Pairs.{lefts, rights};
 ghost use Rattle.sec_setup.specs.cut_points.expose_pick.Refused.{Refuses};
 
 use crate::cut_points::expose_pick::error::PickError;
 use crate::cut_points::expose_pick::pairs::{LatchPairs, lefts_of, rights_of};
 use crate::cut_points::expose_pick::remaining_cycle::cycle_left;
+use latch_graph::minimal_cut::chosen;
 use latch_graph::{Ids, LatchGraph, Side};
-use minimal_cut::chosen;
 use std::alloc::Global;
 
 /// The places of pairs whose latches are a minimal cut, in increasing order: no cycle is left in either graph without

@@ -1,7 +1,7 @@
 //! Cycles that are left without all common latches.
 
 ghost use Rattle.std.specs.Prelude.{◌≡◌, ◌<◌, false, All, length, IfOk, IfSome, IfNone};
-ghost use Rattle.minimal_cut.specs.Chosen.{IsFree};
+ghost use Rattle.latch_graph.specs.minimal_cut.Chosen.{IsFree};
 ghost use Rattle.sec_setup.specs.cut_points.expose_pick.Pairs.{IsLeft};
 ghost use Rattle.sec_setup.specs.cut_points.expose_pick.Bits.{AreBits};
 

@@ -1,8 +1,8 @@
 use Rattle.std.proofs.Common.{◌≡◌, ◌∙◌, ◌∷◌, ◌++◌, [], List, Some, slice_get, length, take, refl, ap}
 use Rattle.std.proofs.lemmas.List.{take_all}
 use Rattle.std.proofs.lemmas.Option.{slice_get_read}
-use Rattle.inner_cone.specs.flat_net.LatchAt.{LatchAt}
-use Rattle.inner_cone.proofs.flat_net.TableLemmas.{take-push}
+use Rattle.signal_graph.specs.inner_cone.flat_net.LatchAt.{LatchAt}
+use Rattle.signal_graph.proofs.inner_cone.flat_net.TableLemmas.{take-push}
 use Rattle.signal_graph.proofs.nodes.copy_latches.Goals as goal
 
 pub loop-latch-preserved : goal.loop-latch-preserved

@@ -1,9 +1,9 @@
 use Rattle.std.proofs.Common.{◌≡◌, ◌<◌, List, false, get_or, slice_get, Some, None, length, subst, sym, ap, ◌∙◌, refl, arith}
 use Rattle.std.proofs.lemmas.Option.{slice_get_within, slice_get_read, slice_get-get_or}
-use Rattle.inner_cone.proofs.flat_net.Places.{one_at}
-use Rattle.inner_cone.specs.flat_net.Gate.{Gate}
-use Rattle.inner_cone.specs.flat_net.LatchAt.{LatchAt}
-use Rattle.inner_cone.specs.flat_net.Driver.TheVariants as driver
+use Rattle.signal_graph.proofs.inner_cone.flat_net.Places.{one_at}
+use Rattle.signal_graph.specs.inner_cone.flat_net.Gate.{Gate}
+use Rattle.signal_graph.specs.inner_cone.flat_net.LatchAt.{LatchAt}
+use Rattle.signal_graph.specs.inner_cone.flat_net.Driver.TheVariants as driver
 use Rattle.signal_graph.specs.Graph.{IsNodeOf}
 use Rattle.signal_graph.proofs.nodes.node_of.Goals as goal
 

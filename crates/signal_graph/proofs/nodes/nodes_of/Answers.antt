@@ -1,10 +1,10 @@
 use Rattle.std.proofs.Common.{◌≡◌, ◌≢◌, ◌<◌, ◌+◌, ℕ, List, [], ◌∷◌, slice_get, Some, length, subst, sym, ap, arith, inl, inr}
 use Rattle.std.specs.Prelude.{◌⊎◌}
 use Rattle.std.proofs.lemmas.Option.{slice_get_within}
-use Rattle.inner_cone.proofs.flat_net.Growth.{slice_get-append, slice_get-push, length-push}
-use Rattle.inner_cone.specs.flat_net.Driver.{Driver}
-use Rattle.inner_cone.proofs.circuit_theory.Sums.{same_or_not}
-use Rattle.inner_cone.specs.Inner.{AreRanked}
+use Rattle.signal_graph.proofs.inner_cone.flat_net.Growth.{slice_get-append, slice_get-push, length-push}
+use Rattle.signal_graph.specs.inner_cone.flat_net.Driver.{Driver}
+use Rattle.signal_graph.proofs.inner_cone.circuit_theory.Sums.{same_or_not}
+use Rattle.signal_graph.specs.inner_cone.Inner.{AreRanked}
 use Rattle.signal_graph.specs.declared.nodes.Node.{Node}
 use Rattle.signal_graph.specs.Graph.{IsNodeOf}
 use Rattle.signal_graph.proofs.nodes.nodes_of.Goals as goal

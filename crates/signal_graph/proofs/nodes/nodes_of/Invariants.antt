@@ -1,5 +1,5 @@
 use Rattle.std.proofs.Common.{◌≡◌, ◌<◌, ℕ, length, slice_get, Some}
-use Rattle.inner_cone.specs.flat_net.Driver.{Driver}
+use Rattle.signal_graph.specs.inner_cone.flat_net.Driver.{Driver}
 use Rattle.signal_graph.specs.declared.nodes.Node.{Node}
 use Rattle.signal_graph.specs.Graph.{IsNodeOf}
 use Rattle.signal_graph.proofs.nodes.nodes_of.Given as goal

@@ -3,7 +3,7 @@ use Rattle.std.proofs.Common.{length, ap, arith}
 use Rattle.std.specs.List.{Contains}
 use Rattle.std.proofs.lemmas.Option.{slice_get_within}
 use Rattle.circuit_theory.proofs.Lists.{All-from_each, at_of}
-use Rattle.interface.specs.flat_net.Port.{Port}
+use Rattle.sec_setup.specs.ports.flat_net.Port.{Port}
 use Rattle.assume_laws.proofs.assume_shape.shape.first_foreign.Goals as goal
 
 pub returns-clause-none : goal.returns-clause-none

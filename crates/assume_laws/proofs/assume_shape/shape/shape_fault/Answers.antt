@@ -1,7 +1,7 @@
 -- No latch, one output, and the first foreign input or none.
 use Rattle.std.proofs.Common.{◌≡◌, ◌≤◌, ◌∙◌, ℕ, List, [], ◌∷◌, length, get_or, slice_get, Some, refl, ap, arith}
 use Rattle.std.proofs.lemmas.Option.{get_or_from_slice_get}
-use Rattle.interface.specs.flat_net.Port.{Port}
+use Rattle.sec_setup.specs.ports.flat_net.Port.{Port}
 use Rattle.assume_laws.proofs.assume_shape.shape.shape_fault.Goals as goal
 
 nothing : {X : Type 0} (xs : List X) → length xs ≤ 0 → xs ≡ []

@@ -1,6 +1,6 @@
 -- A split, and the first members of its blocks.
 use Rattle.std.proofs.Common.{ℕ, Bool, List, length, sym, ap, subst, arith}
-use Rattle.latch_blocks.specs.Blocks.{AreInOrder, IsSplit}
+use Rattle.block_refine.specs.latch_blocks.Blocks.{AreInOrder, IsSplit}
 use Rattle.block_refine.specs.Passes.{AreMembers}
 use Rattle.block_refine.proofs.pass.Pass.split_by.Goals as goal
 

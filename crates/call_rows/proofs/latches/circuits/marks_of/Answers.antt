@@ -1,7 +1,7 @@
 -- What the latches are gives the bits, and the graph tells that there is no cycle.
 use Rattle.std.proofs.Common.{◌∙◌, ap, length, sym, subst}
 use Rattle.circuit_theory.specs.declared.Mode.TheVariants.{Event}
-use Rattle.inner_cone.specs.latch_cone.Kinds.{AreKindsIn}
+use Rattle.signal_graph.specs.inner_cone.latch_cone.Kinds.{AreKindsIn}
 use Rattle.call_rows.proofs.latches.circuits.marks_of.Goals as goal
 
 pub new-requires : goal.new-requires

@@ -4,9 +4,9 @@ use Rattle.std.proofs.lemmas.Result.{IfOk-weaker}
 use Rattle.event_nodes.specs.Graph.{flip}
 use Rattle.event_nodes.proofs.Growth.{Grows-length}
 use Rattle.event_nodes.proofs.Literals.{flip-within}
-use Rattle.event_literals.proofs.Lits.{cover_grown}
-use Rattle.event_literals.proofs.OrStaying.{IsShortOr-grows}
-use Rattle.event_literals.proofs.Going.{grown_trans, grown_within}
+use Rattle.edbf_unfold.proofs.event_literals.Lits.{cover_grown}
+use Rattle.edbf_unfold.proofs.event_literals.OrStaying.{IsShortOr-grows}
+use Rattle.edbf_unfold.proofs.event_literals.Going.{grown_trans, grown_within}
 use Rattle.edbf_unfold.proofs.unfolder.EventUnfolder.and_enable.Goals as goal
 
 pub enable_of-requires-clause-low : goal.enable_of-requires-clause-low

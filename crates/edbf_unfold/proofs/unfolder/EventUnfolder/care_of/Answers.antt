@@ -2,13 +2,13 @@
 use Rattle.std.proofs.Common.{◌+◌, ◌*◌, ◌≤◌, ℕ, List, length, get_or, sym, subst, arith}
 use Rattle.std.proofs.lemmas.List.{take_all}
 use Rattle.std.proofs.lemmas.Option.{slice_get_within, slice_get-get_or}
-use Rattle.event_literals.specs.declared.event_walk.frames.Ways.{Ways}
+use Rattle.edbf_unfold.specs.declared.event_literals.event_walk.frames.Ways.{Ways}
 use Rattle.edbf_unfold.specs.Care.{IsCareOf}
-use Rattle.event_literals.specs.Known.{IsMet}
-use Rattle.event_literals.specs.event_walk.Ready.{IsReadyBy}
+use Rattle.edbf_unfold.specs.event_literals.Known.{IsMet}
+use Rattle.edbf_unfold.specs.event_literals.event_walk.Ready.{IsReadyBy}
 use Rattle.edbf_unfold.proofs.Caring.{care_none, care_next}
-use Rattle.event_literals.proofs.Going.{are_known_later, grown_trans}
-use Rattle.event_literals.proofs.Lits.{grown_none}
+use Rattle.edbf_unfold.proofs.event_literals.Going.{are_known_later, grown_trans}
+use Rattle.edbf_unfold.proofs.event_literals.Lits.{grown_none}
 use Rattle.edbf_unfold.proofs.unfolder.EventUnfolder.care_of.Goals as goal
 
 pub loop-number-init : goal.loop-number-init

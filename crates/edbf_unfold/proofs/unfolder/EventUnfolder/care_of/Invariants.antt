@@ -1,5 +1,5 @@
 use Rattle.std.proofs.Common.{◌*◌, take}
-use Rattle.event_literals.specs.Known.{AreKnown, HasGrown}
+use Rattle.edbf_unfold.specs.event_literals.Known.{AreKnown, HasGrown}
 use Rattle.edbf_unfold.specs.Care.{IsCareOf}
 use Rattle.edbf_unfold.proofs.unfolder.EventUnfolder.care_of.Given as goal
 

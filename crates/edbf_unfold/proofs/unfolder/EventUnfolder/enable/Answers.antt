@@ -1,26 +1,26 @@
 -- Both functions of the latch are unfolded under it, and the care is that of what the first one's walk met.
 use Rattle.std.proofs.Common.{◌≡◌, ◌∙◌, ◌+◌, ◌*◌, ℕ, List, [], length, slice_get, Some, refl, sym, ap, subst, arith, ◌<◌}
-use Rattle.event_literals.specs.LatchAt.{LatchAt}
-use Rattle.event_literals.specs.Sound.{IsSound}
-use Rattle.event_literals.specs.View.{NetView}
-use Rattle.event_literals.proofs.Places.{one_at}
+use Rattle.edbf_unfold.specs.event_literals.LatchAt.{LatchAt}
+use Rattle.edbf_unfold.specs.event_literals.Sound.{IsSound}
+use Rattle.edbf_unfold.specs.event_literals.View.{NetView}
+use Rattle.edbf_unfold.proofs.event_literals.Places.{one_at}
 use Rattle.event_nodes.specs.View.{EventCircuitView, IsEventCircuit}
 use Rattle.event_nodes.specs.Visited.{IsWeighed, places_weight}
 use Rattle.event_nodes.proofs.Growing.{grows_trans}
 use Rattle.event_nodes.proofs.Lists.{adds_trans}
-use Rattle.event_literals.specs.declared.event_walk.frames.Put.TheVariants.{Low}
-use Rattle.event_literals.specs.declared.event_walk.frames.Ways.{Ways}
+use Rattle.edbf_unfold.specs.declared.event_literals.event_walk.frames.Put.TheVariants.{Low}
+use Rattle.edbf_unfold.specs.declared.event_literals.event_walk.frames.Ways.{Ways}
 use Rattle.edbf_unfold.specs.Care.{IsCareLit}
-use Rattle.event_literals.specs.Known.{IsEnableLit}
-use Rattle.event_literals.specs.event_walk.Walk.{IsCounting, HasCountedStart, enable_start}
-use Rattle.event_literals.specs.Built.{AreMetOn}
+use Rattle.edbf_unfold.specs.event_literals.Known.{IsEnableLit}
+use Rattle.edbf_unfold.specs.event_literals.event_walk.Walk.{IsCounting, HasCountedStart, enable_start}
+use Rattle.edbf_unfold.specs.event_literals.Built.{AreMetOn}
 use Rattle.edbf_unfold.proofs.Caring.{enable_later}
-use Rattle.event_literals.proofs.event_walk.Exact.{counting_trans}
-use Rattle.event_literals.proofs.event_walk.Stepping.{refused_memory, refused_ok, refused_on}
+use Rattle.edbf_unfold.proofs.event_literals.event_walk.Exact.{counting_trans}
+use Rattle.edbf_unfold.proofs.event_literals.event_walk.Stepping.{refused_memory, refused_ok, refused_on}
 use Rattle.std.proofs.lemmas.Result.{err_from_is_err_and}
 use Rattle.edbf_unfold.proofs.Finishing.{ready_less, ready_next, unfolded_more, unfolded_trans, counting_same, finished_care, finished_count}
-use Rattle.event_literals.proofs.Going.{are_known_later}
-use Rattle.event_literals.proofs.Rooted.{next_within, enable_lit, walked_later, walked_met}
+use Rattle.edbf_unfold.proofs.event_literals.Going.{are_known_later}
+use Rattle.edbf_unfold.proofs.event_literals.Rooted.{next_within, enable_lit, walked_later, walked_met}
 use Rattle.event_nodes.proofs.Growth.{Grows-length}
 use Rattle.edbf_unfold.proofs.unfolder.EventUnfolder.enable.Goals as goal
 

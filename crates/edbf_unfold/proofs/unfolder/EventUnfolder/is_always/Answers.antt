@@ -6,7 +6,7 @@ use Rattle.std.proofs.lemmas.Option.{slice_get_within}
 use Rattle.circuit_theory.proofs.Inputs.{test_same}
 use Rattle.event_nodes.specs.View.{EventCircuitView, side_of}
 use Rattle.event_nodes.proofs.flat_net.Drivers.{driven_latch}
-use Rattle.event_literals.proofs.event_walk.Lent.{sound_of}
+use Rattle.edbf_unfold.proofs.event_literals.event_walk.Lent.{sound_of}
 use Rattle.edbf_unfold.proofs.unfolder.EventUnfolder.is_always.Goals as goal
 
 pub class-requires : goal.class-requires

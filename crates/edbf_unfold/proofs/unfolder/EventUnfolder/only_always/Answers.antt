@@ -3,7 +3,7 @@ use Rattle.std.proofs.Common.{◌≡◌, ◌+◌, ◌<◌, ◌≤◌, ℕ, slice
 use Rattle.std.specs.Prelude.{◌⊎◌}
 use Rattle.std.proofs.lemmas.Bool.{cases_lt}
 use Rattle.std.proofs.lemmas.Option.{slice_get_within}
-use Rattle.event_literals.proofs.Places.{one_at}
+use Rattle.edbf_unfold.proofs.event_literals.Places.{one_at}
 use Rattle.event_nodes.specs.View.{side_of}
 use Rattle.edbf_unfold.specs.Reached.{IsOpenPlace}
 use Rattle.edbf_unfold.proofs.unfolder.EventUnfolder.only_always.Goals as goal

@@ -1,12 +1,12 @@
 -- It is open where it isn't put.
 use Rattle.std.proofs.Common.{subst}
 use Rattle.circuit_theory.specs.Frame.{NotPut}
-use Rattle.event_literals.proofs.Places.{one_at}
+use Rattle.edbf_unfold.proofs.event_literals.Places.{one_at}
 use Rattle.event_nodes.proofs.flat_net.Drivers.{driven_latch, latch_equation_stands}
-use Rattle.event_literals.specs.declared.event_walk.frames.Frame.{Frame}
-use Rattle.event_literals.specs.event_walk.Ready.{put_of}
+use Rattle.edbf_unfold.specs.declared.event_literals.event_walk.frames.Frame.{Frame}
+use Rattle.edbf_unfold.specs.event_literals.event_walk.Ready.{put_of}
 use Rattle.edbf_unfold.proofs.Caring.{put_not_free}
-use Rattle.event_literals.proofs.event_walk.Lent.{sound_of}
+use Rattle.edbf_unfold.proofs.event_literals.event_walk.Lent.{sound_of}
 use Rattle.std.proofs.lemmas.Option.{slice_get_within}
 use Rattle.edbf_unfold.proofs.unfolder.EventUnfolder.open_at.Goals as goal
 

@@ -1,11 +1,11 @@
 -- What drives the signal says whether a latch does.
 use Rattle.std.proofs.Common.{◌≡◌, ◌∙◌, slice_get, Some, ap, subst}
-use Rattle.event_literals.specs.Driver.TheVariants as driver
-use Rattle.event_literals.specs.View.{NetView}
-use Rattle.event_literals.proofs.Places.{one_at}
+use Rattle.edbf_unfold.specs.event_literals.Driver.TheVariants as driver
+use Rattle.edbf_unfold.specs.event_literals.View.{NetView}
+use Rattle.edbf_unfold.proofs.event_literals.Places.{one_at}
 use Rattle.event_nodes.specs.View.{EventCircuitView}
 use Rattle.event_nodes.proofs.flat_net.Drivers.{latch_of_equation}
-use Rattle.event_literals.proofs.event_walk.Lent.{drives_of, sound_of}
+use Rattle.edbf_unfold.proofs.event_literals.event_walk.Lent.{drives_of, sound_of}
 use Rattle.edbf_unfold.proofs.unfolder.EventUnfolder.open_latch.Goals as goal
 
 pub open_at-requires-clause-latch : goal.open_at-requires-clause-latch

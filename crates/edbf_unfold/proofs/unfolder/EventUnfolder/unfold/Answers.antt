@@ -1,17 +1,17 @@
 -- The value and the care of what the walk met.
 use Rattle.std.proofs.Common.{◌≡◌, ◌∙◌, List, length, slice_get, Some, None, refl, sym, ap, subst, arith}
-use Rattle.event_literals.specs.Sound.{IsSound}
+use Rattle.edbf_unfold.specs.event_literals.Sound.{IsSound}
 use Rattle.event_nodes.specs.View.{EventCircuitView, IsEventCircuit}
 use Rattle.event_nodes.proofs.Growing.{grows_trans}
-use Rattle.event_literals.specs.declared.event_walk.frames.Put.TheVariants.{Free}
-use Rattle.event_literals.specs.declared.event_walk.frames.Ways.{Ways}
+use Rattle.edbf_unfold.specs.declared.event_literals.event_walk.frames.Put.TheVariants.{Free}
+use Rattle.edbf_unfold.specs.declared.event_literals.event_walk.frames.Ways.{Ways}
 use Rattle.edbf_unfold.specs.Reached.{AreNodesOf}
-use Rattle.event_literals.specs.Built.{AreMetOn}
+use Rattle.edbf_unfold.specs.event_literals.Built.{AreMetOn}
 use Rattle.edbf_unfold.proofs.Finishing.{root_later, unfolded_more, counting_same, finished_care, finished_count, finished_reach, onward_at, framed_at}
-use Rattle.event_literals.proofs.Going.{are_known_later}
-use Rattle.event_literals.proofs.Rooted.{walked_met}
+use Rattle.edbf_unfold.proofs.event_literals.Going.{are_known_later}
+use Rattle.edbf_unfold.proofs.event_literals.Rooted.{walked_met}
 use Rattle.std.proofs.lemmas.Result.{err_from_is_err_and}
-use Rattle.event_literals.proofs.event_walk.Stepping.{refused_memory, refused_ok}
+use Rattle.edbf_unfold.proofs.event_literals.event_walk.Stepping.{refused_memory, refused_ok}
 use Rattle.edbf_unfold.proofs.unfolder.EventUnfolder.unfold.Goals as goal
 
 pub returns-in_err-unfolding-clause-counting : goal.returns-in_err-unfolding-clause-counting

@@ -1,8 +1,8 @@
 -- The unfolder is its builder.
 use Rattle.std.proofs.Common.{ℕ, sym, subst}
 use Rattle.circuit_theory.specs.EventSizes.{Start}
-use Rattle.event_literals.specs.event_walk.Walk.{IsRootOf, IsCounting}
-use Rattle.event_literals.specs.Known.{EventUnfolderView, AreKnown}
+use Rattle.edbf_unfold.specs.event_literals.event_walk.Walk.{IsRootOf, IsCounting}
+use Rattle.edbf_unfold.specs.event_literals.Known.{EventUnfolderView, AreKnown}
 use Rattle.edbf_unfold.proofs.unfolder.EventUnfolder.unfold_in.Goals as goal
 
 pub unfold_in-requires-clause-known : goal.unfold_in-requires-clause-known

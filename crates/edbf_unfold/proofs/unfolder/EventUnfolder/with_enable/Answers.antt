@@ -1,13 +1,13 @@
 -- A place without a latch changes nothing.
 use Rattle.std.proofs.Common.{◌≡◌, ◌∙◌, slice_get, Some, ap, subst}
-use Rattle.event_literals.specs.Driver.TheVariants as driver
-use Rattle.event_literals.specs.View.{NetView}
-use Rattle.event_literals.proofs.Places.{one_at}
+use Rattle.edbf_unfold.specs.event_literals.Driver.TheVariants as driver
+use Rattle.edbf_unfold.specs.event_literals.View.{NetView}
+use Rattle.edbf_unfold.proofs.event_literals.Places.{one_at}
 use Rattle.event_nodes.specs.View.{EventCircuitView}
 use Rattle.event_nodes.proofs.flat_net.Drivers.{latch_of_equation}
 use Rattle.edbf_unfold.proofs.Caring.{with_none}
-use Rattle.event_literals.proofs.event_walk.Lent.{drives_of, sound_of}
-use Rattle.event_literals.proofs.Lits.{grown_none}
+use Rattle.edbf_unfold.proofs.event_literals.event_walk.Lent.{drives_of, sound_of}
+use Rattle.edbf_unfold.proofs.event_literals.Lits.{grown_none}
 use Rattle.edbf_unfold.proofs.unfolder.EventUnfolder.with_enable.Goals as goal
 
 pub with_latch-requires-clause-latch : goal.with_latch-requires-clause-latch

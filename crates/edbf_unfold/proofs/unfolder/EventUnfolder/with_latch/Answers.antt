@@ -1,16 +1,16 @@
 -- A latch that is put changes nothing, and an enabled one that isn't brings its enable, by its two functions.
 use Rattle.std.proofs.Common.{◌≡◌, ◌∙◌, ◌<◌, length, slice_get, Some, sym, ap, subst, rules}
 use Rattle.std.proofs.lemmas.Option.{slice_get_within}
-use Rattle.event_literals.specs.View.{NetView}
+use Rattle.edbf_unfold.specs.event_literals.View.{NetView}
 use Rattle.event_nodes.specs.View.{EventCircuitView, Enabled}
 use Rattle.event_nodes.proofs.flat_net.Drivers.{driven_latch, latch_out, latch_equation_stands}
 use Rattle.circuit_theory.specs.Frame.{NotPut}
-use Rattle.event_literals.specs.event_walk.Ready.{put_of}
-use Rattle.event_literals.specs.declared.event_walk.frames.Step.{Step}
+use Rattle.edbf_unfold.specs.event_literals.event_walk.Ready.{put_of}
+use Rattle.edbf_unfold.specs.declared.event_literals.event_walk.frames.Step.{Step}
 use Rattle.edbf_unfold.proofs.Caring.{with_none, put_not_held, with_own, low_met, high_met}
-use Rattle.event_literals.proofs.Going.{are_known_later}
-use Rattle.event_literals.proofs.event_walk.Lent.{sound_of, latch_of_lent}
-use Rattle.event_literals.proofs.Lits.{grown_none}
+use Rattle.edbf_unfold.proofs.event_literals.Going.{are_known_later}
+use Rattle.edbf_unfold.proofs.event_literals.event_walk.Lent.{sound_of, latch_of_lent}
+use Rattle.edbf_unfold.proofs.event_literals.Lits.{grown_none}
 use Rattle.edbf_unfold.proofs.unfolder.EventUnfolder.with_latch.Goals as goal
 
 pub is_enabled-requires : goal.is_enabled-requires

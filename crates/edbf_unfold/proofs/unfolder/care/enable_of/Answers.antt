@@ -3,9 +3,9 @@ use Rattle.std.proofs.Common.{◌≡◌, ◌*◌, ◌<◌, ℕ, List, Some, None
 use Rattle.event_nodes.specs.Graph.{flip}
 use Rattle.event_nodes.specs.Node.{Node}
 use Rattle.event_nodes.specs.Rules.{IsAndOf}
-use Rattle.event_literals.specs.ShortOr.{short_or, IsShortOr}
-use Rattle.event_literals.proofs.Lits.{cover_grown, grown_none}
-use Rattle.event_literals.proofs.OrStaying.{short_is, made_is}
+use Rattle.edbf_unfold.specs.event_literals.ShortOr.{short_or, IsShortOr}
+use Rattle.edbf_unfold.proofs.event_literals.Lits.{cover_grown, grown_none}
+use Rattle.edbf_unfold.proofs.event_literals.OrStaying.{short_is, made_is}
 use Rattle.edbf_unfold.proofs.unfolder.care.enable_of.Goals as goal
 
 pub short_or-requires-clause-x : goal.short_or-requires-clause-x

@@ -5,8 +5,8 @@ use Rattle.circuit_theory.proofs.Lists.{Contains-map, of_at, zip_push}
 use Rattle.flat_net.specs.declared.parts.Port.{Port}
 use Rattle.flat_net.specs.View.{ports_of}
 use Rattle.flat_net.proofs.Places.{All-at}
-use Rattle.interface.proofs.Paired.{names_of, item_at, take_next}
-use Rattle.interface.proofs.Shared.{are_matched}
+use Rattle.sec_setup.proofs.ports.Paired.{names_of, item_at, take_next}
+use Rattle.sec_setup.proofs.ports.Shared.{are_matched}
 use Rattle.induct.specs.declared.block_outputs.outputs.OutputPair.{OutputPair}
 use Rattle.induct.specs.block_outputs.Answers.{IsOutputAnswer}
 use Rattle.induct.proofs.block_outputs.outputs.compare_outputs.Goals as goal

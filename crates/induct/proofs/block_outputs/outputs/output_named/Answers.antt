@@ -3,7 +3,7 @@ use Rattle.std.proofs.Common.{◌≡◌, ◌<◌, ◌∙◌, List, ℕ, length, 
 use Rattle.std.proofs.lemmas.Option.{slice_get-get_or}
 use Rattle.flat_net.specs.declared.parts.Port.{Port}
 use Rattle.flat_net.proofs.Places.{All-at}
-use Rattle.interface.proofs.Paired.{names_of, place_named-at, port_within}
+use Rattle.sec_setup.proofs.ports.Paired.{names_of, place_named-at, port_within}
 use Rattle.induct.proofs.block_outputs.outputs.output_named.Goals as goal
 
 pub unreachable-requires : goal.unreachable-requires

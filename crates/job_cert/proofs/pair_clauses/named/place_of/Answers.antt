@@ -1,6 +1,6 @@
 use Rattle.std.proofs.Common.{◌≡◌}
 use Rattle.std.proofs.lemmas.List.Elements.{All-nil}
-use Rattle.interface.specs.declared.pairs.SignalPair.{SignalPair}
+use Rattle.sec_setup.specs.declared.ports.pairs.SignalPair.{SignalPair}
 use Rattle.witness_report.specs.declared.witness.PairName.TheVariants.{Output}
 use Rattle.job_cert.proofs.pair_clauses.Places.{named_at, one_further, all_other}
 use Rattle.job_cert.proofs.pair_clauses.named.place_of.Goals as goal

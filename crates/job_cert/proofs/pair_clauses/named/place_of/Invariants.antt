@@ -1,6 +1,6 @@
 use Rattle.std.proofs.Common.{◌≡◌, take}
 use Rattle.std.specs.List.{All}
-use Rattle.interface.specs.declared.pairs.SignalPair.{SignalPair}
+use Rattle.sec_setup.specs.declared.ports.pairs.SignalPair.{SignalPair}
 use Rattle.witness_report.specs.declared.witness.PairName.TheVariants.{Output}
 use Rattle.job_cert.proofs.pair_clauses.named.place_of.Given as goal
 

@@ -5,7 +5,7 @@ use Rattle.signal_graph.specs.flat_net.View.{NetView, circuit_of}
 use Rattle.circuit_theory.specs.Depth.{HasCycle, IsCycle, BeginsWithLeast}
 use Rattle.signal_graph.specs.declared.nodes.Node.{Node}
 use Rattle.signal_graph.specs.Graph.{IsGraphOf, marked_names, signals_at}
-use Rattle.signal_graph.specs.Cones.{IsMarkedBy}
+use Rattle.signal_graph.specs.inner_cone.latch_cone.Cones.{IsMarkedBy}
 use Rattle.signal_graph.proofs.Lists.{some_weaker, none_weaker}
 use Rattle.latch_graph.proofs.graph.LatchGraph.cycle.Goals as goal
 

@@ -1,7 +1,7 @@
 -- What leads back to the latch.
 use Rattle.std.proofs.Common.{sym, subst}
 use Rattle.flat_net.specs.declared.parts.LatchAt.{LatchAt}
-use Rattle.inner_cone.specs.Inner.{AreRanked, AreInside}
+use Rattle.signal_graph.specs.inner_cone.Inner.{AreRanked, AreInside}
 use Rattle.latch_kinds.specs.unate_enable.Cones.{data_of_latch, out_of_latch}
 use Rattle.latch_kinds.proofs.unate_enable.recovery.recover_by.Goals as goal
 

@@ -1,7 +1,7 @@
 -- The pairs' signals are those of the outputs.
 use Rattle.std.proofs.Common.{◌≡◌, ◌<◌, List, Err, length, sym, subst, rules}
 use Rattle.std.specs.List.{All}
-use Rattle.interface.specs.declared.pairs.SignalPair.{SignalPair}
+use Rattle.sec_setup.specs.declared.ports.pairs.SignalPair.{SignalPair}
 use Rattle.plain_asked.specs.Formed.{Formed}
 use Rattle.plain_asked.specs.Apart.{AreApart, UnfoldsApart}
 use Rattle.plain_asked.specs.Pairs.{AreLight, left_signals, right_signals}

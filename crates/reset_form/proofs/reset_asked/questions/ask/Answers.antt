@@ -4,10 +4,10 @@ use Rattle.std.proofs.lemmas.List.{take_all}
 use Rattle.circuit_theory.proofs.Lists.{zip_push}
 use Rattle.flat_net.proofs.Nets.{some_at}
 use Rattle.obligations.specs.declared.obligation.Obligation.{Obligation}
-use Rattle.interface.specs.declared.pairs.SignalPair.{SignalPair}
+use Rattle.sec_setup.specs.declared.ports.pairs.SignalPair.{SignalPair}
 use Rattle.sec_setup.specs.declared.setup.Setup.{Setup}
-use Rattle.reset_functions.specs.declared.bases.Bases.{Bases}
-use Rattle.reset_functions.specs.declared.functions.Functions.{Functions}
+use Rattle.reset_form.specs.declared.reset_functions.bases.Bases.{Bases}
+use Rattle.reset_form.specs.declared.reset_functions.functions.Functions.{Functions}
 use Rattle.reset_form.specs.reset_asked.Asked.{AskedOf, AreAsked}
 use Rattle.shift_variables.proofs.Assignments.{take_next}
 use Rattle.reset_form.proofs.reset_asked.questions.ask.Goals as goal

@@ -4,13 +4,13 @@ use Rattle.std.specs.List.{All}
 use Rattle.std.proofs.lemmas.Option.{same_Some}
 use Rattle.circuit_theory.proofs.Lists.{of_at}
 use Rattle.unfold_places.specs.declared.signal_function.Unfolded.{Unfolded}
-use Rattle.interface.specs.declared.pairs.SignalPair.{SignalPair}
+use Rattle.sec_setup.specs.declared.ports.pairs.SignalPair.{SignalPair}
 use Rattle.shift_variables.proofs.Reading.{item_at}
 use Rattle.shift_variables.specs.cycle_variables.Cycles.{AreInCycles}
 use Rattle.reset_form.specs.reset_asked.Asked.{AskedOf, AreCycleQueries}
-use Rattle.reset_functions.specs.Pairs.{AreCyclesOf}
-use Rattle.reset_functions.proofs.OwnPairs.{own_pairs}
-use Rattle.reset_form.proofs.reset_asked.PairAt.{output_within, cycles_within, cycles_here, all_in_order}
+use Rattle.reset_form.specs.reset_functions.Pairs.{AreCyclesOf}
+use Rattle.reset_form.proofs.reset_functions.OwnPairs.{own_pairs, output_within}
+use Rattle.reset_form.proofs.reset_asked.PairAt.{cycles_within, cycles_here, all_in_order}
 use Rattle.reset_form.proofs.reset_asked.questions.obligation_of.Goals as goal
 
 pub pair_depth-size-requires-clause-left : goal.pair_depth-size-requires-clause-left

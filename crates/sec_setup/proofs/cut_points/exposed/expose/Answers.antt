@@ -10,7 +10,7 @@ use Rattle.sec_setup.specs.declared.cut_points.expose_pick.error.PickError.{Pick
 use Rattle.sec_setup.specs.declared.cut_points.expose_pick.error.PickError.TheVariants as pick_error
 use Rattle.sec_setup.specs.cut_points.Common.{common_names}
 use Rattle.sec_setup.specs.declared.cut_points.expose_pick.pairs.LatchPair.{LatchPair}
-use Rattle.minimal_cut.specs.Chosen.{at_places}
+use Rattle.latch_graph.specs.minimal_cut.Chosen.{at_places}
 use Rattle.sec_setup.specs.cut_points.expose_pick.Pairs.{lefts, rights}
 use Rattle.sec_setup.specs.cut_points.expose_pick.Refused.{Refuses}
 use Rattle.sec_setup.proofs.cut_points.Exposures.{right_once, left_common, right_common, left_free, exposed}

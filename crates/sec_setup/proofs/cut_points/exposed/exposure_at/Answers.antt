@@ -3,7 +3,7 @@ use Rattle.std.proofs.Math.Seq.{take-length}
 use Rattle.std.proofs.lemmas.List.{take_all}
 use Rattle.std.specs.List.{All}
 use Rattle.latch_graph.specs.flat_net.Cut.{exposed_names}
-use Rattle.minimal_cut.specs.Chosen.{at_places}
+use Rattle.latch_graph.specs.minimal_cut.Chosen.{at_places}
 use Rattle.sec_setup.specs.cut_points.expose_pick.Pairs.{lefts, rights}
 use Rattle.sec_setup.proofs.cut_points.Exposures.{lefts_within}
 use Rattle.sec_setup.proofs.cut_points.exposed.exposure_at.Goals as goal

@@ -1,5 +1,5 @@
 use Rattle.std.proofs.Common.{◌≡◌, take}
-use Rattle.minimal_cut.specs.Chosen.{at_places}
+use Rattle.latch_graph.specs.minimal_cut.Chosen.{at_places}
 use Rattle.sec_setup.specs.cut_points.expose_pick.Pairs.{lefts, rights}
 use Rattle.sec_setup.proofs.cut_points.exposed.exposure_at.Given as goal
 

@@ -2,7 +2,7 @@
 use Rattle.std.proofs.Common.{◌≡◌, ◌∙◌, ◌+◌, Bool, false, List, length, get_or, sym, ap}
 use Rattle.circuit_theory.specs.Cone.{latches_of}
 use Rattle.flat_net.specs.View.{circuit_of}
-use Rattle.reset_laws.proofs.reset_nets.Starts.{nets_have_starts}
+use Rattle.circuit_laws.proofs.reset_laws.reset_nets.Starts.{nets_have_starts}
 use Rattle.shift_variables.specs.Sequences.{bits_at}
 use Rattle.shift_variables.proofs.cycle_variables.CycleWindows.{at_first, part_each, part_within, part_distinct, window}
 use Rattle.shift_variables.proofs.cycle_variables.PowerUps.{powers_ok}

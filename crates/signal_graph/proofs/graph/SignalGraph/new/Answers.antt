@@ -1,8 +1,8 @@
 -- The nodes are those of the net.
 use Rattle.std.proofs.Common.{◌≡◌, ℕ, Bool, List, Some, length, slice_get, subst, sym, ap, ◌∙◌, refl}
-use Rattle.inner_cone.specs.Cones.{MarksEnabled}
-use Rattle.inner_cone.specs.flat_net.LatchAt.{LatchAt}
-use Rattle.inner_cone.specs.flat_net.Driver.{Driver}
+use Rattle.signal_graph.specs.inner_cone.latch_cone.Cones.{MarksEnabled}
+use Rattle.signal_graph.specs.inner_cone.flat_net.LatchAt.{LatchAt}
+use Rattle.signal_graph.specs.inner_cone.flat_net.Driver.{Driver}
 use Rattle.signal_graph.specs.declared.nodes.Node.{Node}
 use Rattle.signal_graph.specs.Graph.{GraphView, IsGraphOf, IsNodeOf, AreNodes}
 use Rattle.signal_graph.proofs.Driving.{kept_nodes}

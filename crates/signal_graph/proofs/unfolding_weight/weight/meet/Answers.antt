@@ -1,6 +1,6 @@
 -- A place that was met counts nothing more.
 use Rattle.std.proofs.Common.{refl, inl}
-use Rattle.inner_cone.proofs.circuit_theory.Lists.{of_at}
+use Rattle.signal_graph.proofs.inner_cone.circuit_theory.Lists.{of_at}
 use Rattle.signal_graph.proofs.unfolding_weight.weight.meet.Goals as goal
 
 pub returns-in-Some : goal.returns-in-Some

@@ -1,5 +1,5 @@
 use Rattle.std.proofs.Common.{◌≡◌, Some, get_or, slice_get, subst, arith}
-use Rattle.inner_cone.specs.flat_net.Signal.{Signal}
+use Rattle.signal_graph.specs.inner_cone.flat_net.Signal.{Signal}
 use Rattle.signal_graph.specs.unfolding_weight.Weight.{Meeting}
 use Rattle.signal_graph.proofs.Lists.{read_at}
 use Rattle.signal_graph.proofs.unfolding_weight.Weights.{met_more, met_stay, met_there, met_longer, there_more, is_over}

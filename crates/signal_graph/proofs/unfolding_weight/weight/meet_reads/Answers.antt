@@ -1,8 +1,8 @@
 use Rattle.std.proofs.Common.{◌≡◌, ℕ, List, Some, slice_get, length, subst, refl, arith}
 use Rattle.std.proofs.lemmas.Option.{slice_get_read}
-use Rattle.inner_cone.specs.flat_net.Signal.{Signal}
-use Rattle.inner_cone.specs.flat_net.View.{circuit_of}
-use Rattle.inner_cone.specs.circuit_theory.Sizes.{IsOver}
+use Rattle.signal_graph.specs.inner_cone.flat_net.Signal.{Signal}
+use Rattle.signal_graph.specs.inner_cone.flat_net.View.{circuit_of}
+use Rattle.signal_graph.specs.inner_cone.circuit_theory.Sizes.{IsOver}
 use Rattle.signal_graph.specs.Graph.{GraphView, AreNodes}
 use Rattle.signal_graph.specs.unfolding_weight.Weight.{AreVisited, IsVisited, AreMet, AreThere, AreReadsThere}
 use Rattle.signal_graph.proofs.Driving.{kept_nodes}

@@ -1,13 +1,13 @@
 use Rattle.std.proofs.Common.{◌≡◌, ◌≢◌, ◌<◌, ◌≤◌, ◌+◌, ℕ, List, Some, map, slice_get, length, subst, sym, arith, inl, inr}
 use Rattle.std.specs.Prelude.{◌⊎◌}
 use Rattle.std.proofs.lemmas.Option.{slice_get_within}
-use Rattle.inner_cone.proofs.flat_net.Nets.{some_at}
-use Rattle.inner_cone.proofs.flat_net.Places.{one_at}
-use Rattle.inner_cone.specs.flat_net.Signal.{Signal}
-use Rattle.inner_cone.specs.flat_net.View.{circuit_of}
-use Rattle.inner_cone.proofs.circuit_theory.Lists.{at_of}
-use Rattle.inner_cone.proofs.circuit_theory.Sums.{same_or_not}
-use Rattle.inner_cone.specs.circuit_theory.Sizes.{IsOver}
+use Rattle.signal_graph.proofs.inner_cone.flat_net.Nets.{some_at}
+use Rattle.signal_graph.proofs.inner_cone.flat_net.Places.{one_at}
+use Rattle.signal_graph.specs.inner_cone.flat_net.Signal.{Signal}
+use Rattle.signal_graph.specs.inner_cone.flat_net.View.{circuit_of}
+use Rattle.signal_graph.proofs.inner_cone.circuit_theory.Lists.{at_of}
+use Rattle.signal_graph.proofs.inner_cone.circuit_theory.Sums.{same_or_not}
+use Rattle.signal_graph.specs.inner_cone.circuit_theory.Sizes.{IsOver}
 use Rattle.signal_graph.specs.Graph.{GraphView}
 use Rattle.signal_graph.specs.unfolding_weight.Weight.{AreVisited, IsVisited, AreMet, AreThere, AreReadsThere}
 use Rattle.signal_graph.proofs.unfolding_weight.Weights.{met_none, few_places, stay_there, is_weight, at_some, at_none, not_some, reads_stay, outputs_visited, outputs_there}

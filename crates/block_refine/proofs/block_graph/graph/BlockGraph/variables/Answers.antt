@@ -1,7 +1,7 @@
 -- The variables of both signals as one list.
 use Rattle.std.proofs.Common.{ℕ, List, subst}
 use Rattle.std.proofs.lemmas.Result.{IfOk-weaker}
-use Rattle.latch_blocks.specs.Signals.{AreMerged}
+use Rattle.block_refine.specs.latch_blocks.Signals.{AreMerged}
 use Rattle.block_refine.specs.block_graph.Graph.{number_of}
 use Rattle.block_refine.specs.block_graph.Comparing.{AreOwn}
 use Rattle.block_refine.proofs.block_graph.Queries.{own_is}

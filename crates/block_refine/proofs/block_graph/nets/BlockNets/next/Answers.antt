@@ -4,8 +4,8 @@ use Rattle.std.proofs.lemmas.Option.{slice_get-get_or}
 use Rattle.circuit_theory.proofs.Lists.{length-map}
 use Rattle.circuit_theory.proofs.Numbers.{slice_get-map}
 use Rattle.flat_net.specs.declared.parts.LatchAt.{LatchAt}
-use Rattle.latch_blocks.specs.Partitions.{nexts_of}
-use Rattle.latch_blocks.proofs.Placing.{left_next, right_next, at_left, at_right}
+use Rattle.block_refine.specs.latch_blocks.Partitions.{nexts_of}
+use Rattle.block_refine.proofs.latch_blocks.Placing.{left_next, right_next, at_left, at_right}
 use Rattle.block_refine.proofs.block_graph.nets.BlockNets.next.Goals as goal
 
 pub returns-then-place-left-clause-signal : goal.returns-then-place-left-clause-signal

@@ -4,7 +4,7 @@ use Rattle.std.specs.List.{All}
 use Rattle.std.proofs.lemmas.List.{length-map}
 use Rattle.std.proofs.lemmas.List.Elements.{All-map}
 use Rattle.base_tables.specs.Table.{AreDistinct}
-use Rattle.minimal_cut.specs.Chosen.{IsFree}
+use Rattle.latch_graph.specs.minimal_cut.Chosen.{IsFree}
 use Rattle.sec_setup.specs.declared.cut_points.expose_pick.pairs.LatchPair.{LatchPair}
 use Rattle.sec_setup.specs.cut_points.expose_pick.Pairs.{lefts, rights}
 use Rattle.sec_setup.proofs.cut_points.expose_pick.Paired.{distinct_by}

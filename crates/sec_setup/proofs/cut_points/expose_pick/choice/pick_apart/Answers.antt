@@ -2,7 +2,7 @@
 use Rattle.std.proofs.Common.{◌<◌, length, subst, sym}
 use Rattle.std.specs.List.{All}
 use Rattle.latch_graph.specs.Graph.{GraphView}
-use Rattle.minimal_cut.specs.Chosen.{IsFree, IsMinimalChoice}
+use Rattle.latch_graph.specs.minimal_cut.Chosen.{IsFree, IsMinimalChoice}
 use Rattle.sec_setup.proofs.cut_points.expose_pick.choice.pick_apart.Goals as goal
 
 pub chosen-requires-clause-left : goal.chosen-requires-clause-left

@@ -1,3 +1,0 @@
-pub mod Functions
-pub mod Laws
-pub mod cbf_unfold

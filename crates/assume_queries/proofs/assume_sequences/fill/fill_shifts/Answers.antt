@@ -1,0 +1,33 @@
+-- Cycle by cycle one row more, which stays or is the meeting row.
+use Rattle.std.proofs.Common.{◌≡◌, ◌∙◌, ◌-◌, ◌<◌, ℕ, suc, false, length, refl, sym, ap, arith}
+use Rattle.std.proofs.lemmas.Option.{get_or_from_slice_get}
+use Rattle.std.specs.List.{list_any}
+use Rattle.circuit_theory.specs.Query.{Variable, same_shift}
+use Rattle.circuit_theory.specs.Sequence.{sequence_rows_from}
+use Rattle.shift_variables.specs.Variables.{variables_of}
+use Rattle.shift_variables.proofs.Reading.{item_at}
+use Rattle.assume_laws.specs.Sequences.{filled}
+use Rattle.assume_queries.specs.assume_sequences.Filled.{bit_of}
+use Rattle.assume_queries.proofs.assume_sequences.FilledRows.{rows_size, shifts_more}
+use Rattle.assume_queries.proofs.assume_sequences.fill.fill_shifts.Goals as goal
+
+pub loop-cycle-init : goal.loop-cycle-init
+loop-cycle-init c = λ last x e. c.new-made.ensures
+
+pub loop-cycle-preserved : goal.loop-cycle-preserved
+loop-cycle-preserved c = λ last x e.
+    let rows = c.args.rows.now in
+    let cycle = c.loop-cycle.cycle in
+    let sides = variables_of c.args.table.now c.args.sides.now in
+    let size : c.len-size.result ≡ length rows = c.len-size.ensures in
+    let inside : cycle < length rows = omega (arith, c.loop-cycle-test.true, size) in
+    let at : ℕ = c.len-size.result - 1 - cycle in
+    let small : at < c.len-size.result = omega (arith, inside, size) in
+    let has = sym (get_or_from_slice_get c.in_ok-met.met.items at c.index.result.now false (item_at c.in_ok-met.met.items c.in_ok-met.met.items at c.index.result.now refl (omega (arith, small, c.in_ok-met.ensures.size)) c.index.ensures)) ∙ c.in_ok-met.ensures.met at small ∙ ap (λ n. list_any (λ (v : Variable ℕ). same_shift v.at (n - 1 - cycle)) sides) size in
+    shifts_more sides c.args.meeting.now rows c.loop-cycle.made c.push.new.self c.in_ok-row.row cycle c.index.result.now inside has c.in_ok-row.ensures c.in_ok-push.ensures.ok last x e (c.loop-cycle.invariant last x e)
+
+pub returns : goal.returns
+returns c = λ last x e.
+    let long = rows_size last x (length c.args.meeting.now) c.args.rows.now e in
+    let all : c.loop-cycle.cycle ≡ suc last = omega (arith, c.loop-cycle-test.false, c.loop-cycle.auto.cycle-end, c.len-size.ensures, long) in
+    c.loop-cycle.invariant last x e ∙ ap (λ n. sequence_rows_from last (filled same_shift (variables_of c.args.table.now c.args.sides.now) (bit_of c.args.meeting.now) x) (length c.args.meeting.now) 0 n) all

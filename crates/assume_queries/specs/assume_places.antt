@@ -1,1 +1,0 @@
-pub use Rattle.assume_places.specs.Gathered

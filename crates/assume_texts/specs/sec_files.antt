@@ -1,1 +1,0 @@
-pub use Rattle.text_circuits.specs.sec_files.Loading

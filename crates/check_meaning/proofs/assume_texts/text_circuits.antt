@@ -1,0 +1,1 @@
+pub use Rattle.design_laws.proofs.text_circuits.Circuits

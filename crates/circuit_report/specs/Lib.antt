@@ -1,0 +1,2 @@
+pub mod sim_report
+pub mod graph_report

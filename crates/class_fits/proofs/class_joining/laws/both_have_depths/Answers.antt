@@ -1,5 +1,0 @@
-use Rattle.class_fits.proofs.class_joining.Bounds.{depths_of_both}
-use Rattle.class_fits.proofs.class_joining.laws.both_have_depths.Goals as goal
-
-pub returns : goal.returns
-returns c = depths_of_both

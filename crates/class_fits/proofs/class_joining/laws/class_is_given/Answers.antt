@@ -1,5 +1,0 @@
-use Rattle.class_fits.proofs.class_joining.Giving.{class_given}
-use Rattle.class_fits.proofs.class_joining.laws.class_is_given.Goals as goal
-
-pub returns : goal.returns
-returns c = class_given

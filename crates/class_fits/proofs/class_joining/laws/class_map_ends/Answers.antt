@@ -1,5 +1,0 @@
-use Rattle.class_fits.proofs.class_joining.Bounds.{map_ends}
-use Rattle.class_fits.proofs.class_joining.laws.class_map_ends.Goals as goal
-
-pub returns : goal.returns
-returns c = map_ends

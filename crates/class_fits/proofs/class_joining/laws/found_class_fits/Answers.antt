@@ -1,5 +1,0 @@
-use Rattle.class_fits.proofs.class_joining.Tables.{found_fits}
-use Rattle.class_fits.proofs.class_joining.laws.found_class_fits.Goals as goal
-
-pub returns : goal.returns
-returns c = found_fits

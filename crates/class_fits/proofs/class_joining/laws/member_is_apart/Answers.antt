@@ -1,5 +1,0 @@
-use Rattle.class_fits.proofs.class_joining.Members.{member_apart}
-use Rattle.class_fits.proofs.class_joining.laws.member_is_apart.Goals as goal
-
-pub returns : goal.returns
-returns c = member_apart

@@ -1,5 +1,0 @@
-use Rattle.class_fits.proofs.class_joining.Members.{members_equal}
-use Rattle.class_fits.proofs.class_joining.laws.members_are_equal.Goals as goal
-
-pub returns : goal.returns
-returns c = members_equal

@@ -1,5 +1,0 @@
-use Rattle.class_fits.proofs.class_joining.Tables.{goes_on}
-use Rattle.class_fits.proofs.class_joining.laws.table_goes_on.Goals as goal
-
-pub returns : goal.returns
-returns c = goes_on

@@ -1,5 +1,0 @@
-use Rattle.class_fits.proofs.class_joining.Tables.{grows_on}
-use Rattle.class_fits.proofs.class_joining.laws.table_grows.Goals as goal
-
-pub returns : goal.returns
-returns c = grows_on

@@ -1,4 +1,0 @@
-pub mod Enables
-pub mod Laws
-pub mod edbf_unfold
-pub use Rattle.edbf_unfold.specs.event_walk

@@ -1,1 +1,0 @@
-pub use Rattle.edbf_unfold.specs.Laws

@@ -1,5 +1,0 @@
-pub mod Nodes
-pub mod Going
-pub mod Over
-pub mod EnableCovering
-pub use Rattle.event_functions.proofs.Covering

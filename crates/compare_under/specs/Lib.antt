@@ -1,2 +1,0 @@
-pub mod Circuits
-pub mod Verdicts

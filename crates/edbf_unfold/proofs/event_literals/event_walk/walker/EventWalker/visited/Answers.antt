@@ -1,0 +1,176 @@
+-- The walk ends where each place in the table was expanded, or where it is refused.
+use Rattle.std.proofs.Common.{◌≡◌, ◌∙◌, ◌+◌, ◌-◌, ◌<◌, ℕ, List, length, refl, sym, ap, subst, arith}
+use Rattle.std.proofs.lemmas.Result.{err_from_is_err_and}
+use Rattle.event_nodes.specs.flat_net.View.{NetView}
+use Rattle.event_nodes.specs.flat_net.Sound.{IsSound}
+use Rattle.event_nodes.proofs.flat_net.Places.{All-at}
+use Rattle.event_nodes.specs.View.{EventCircuitView}
+use Rattle.event_nodes.specs.Visited.{IsWeighed, AreNodesFrom, places_weight}
+use Rattle.event_nodes.specs.flat_net.Weights.{weight_at}
+use Rattle.event_nodes.proofs.flat_net.Drivers.{weight_positive}
+use Rattle.event_nodes.proofs.Growing.{grows_refl, grows_trans}
+use Rattle.event_nodes.proofs.Lists.{adds_none, adds_weaker, only_one}
+use Rattle.edbf_unfold.specs.declared.event_literals.event_walk.frames.Ways.{Ways}
+use Rattle.edbf_unfold.specs.event_literals.event_walk.Walk.{IsSeen, IsVisitedPlace, IsWalk}
+use Rattle.edbf_unfold.proofs.event_literals.event_walk.Exact.{exact_first, exact_more, counting_more, counting_on}
+use Rattle.edbf_unfold.proofs.event_literals.event_walk.Opening.{walk_first, walk_more}
+use Rattle.edbf_unfold.proofs.event_literals.event_walk.Stepping.{refused_memory, refused_ok, nodes_none, refused_on}
+use Rattle.edbf_unfold.proofs.event_literals.event_walk.walker.EventWalker.visited.Goals as goal
+
+pub loop-at-init : goal.loop-at-init
+loop-at-init c =
+    let only = only_one _ _ _ _ c.new-table.ensures c.add.ensures.adds c.in_ok-add.ensures.here c.add.ensures.few in record {
+      walk = subst (λ (o : List Ways). IsWalk c.args.self.now c.args.self.now c.args.events.now c.args.events.now c.args.root c.add.new.table o 0 0 c.args.cap) (sym c.new-ways.ensures.items)
+          (walk_first c.args.self.now c.args.events.now c.args.root c.add.new.table c.args.cap c.requires.seen only);
+      exact = exact_first c.args.self.now c.args.events.now c.args.counter.now c.args.root c.add.new.table only c.requires.weighed c.requires.few;
+    }
+
+pub overflow_sub-cap : goal.overflow_sub-cap
+overflow_sub-cap c = c.loop-at.invariant.walk.small
+
+pub weigh-requires : goal.weigh-requires
+weigh-requires c =
+    let net : c.net.result.now ≡ c.loop-at.self.circuit.net = c.net.ensures ∙ ap (λ (e : EventCircuitView). e.net) (c.circuit-circuit.ensures ∙ sym c.loop-at.invariant.walk.opened.circuit) in
+    let weight = ap (λ (n : NetView). weight_at n c.pair-place.result.1) net in
+    let seen = All-at (IsSeen c.loop-at.self.circuit c.loop-at.self.frames c.loop-at.events.children) _ _ _ c.pair-place.ensures c.loop-at.invariant.walk.seen in
+    subst (λ (n : NetView). c.pair-place.result.1 < length n.drivers) (sym net) seen.3
+
+pub count-requires-clause-framed : goal.count-requires-clause-framed
+count-requires-clause-framed c = let seen = All-at (IsSeen c.loop-at.self.circuit c.loop-at.self.frames c.loop-at.events.children) _ _ _ c.pair-place.ensures c.loop-at.invariant.walk.seen in (seen.0, seen.1)
+
+pub count-requires-clause-signal : goal.count-requires-clause-signal
+count-requires-clause-signal c = let seen = All-at (IsSeen c.loop-at.self.circuit c.loop-at.self.frames c.loop-at.events.children) _ _ _ c.pair-place.ensures c.loop-at.invariant.walk.seen in seen.3
+
+pub count-requires-clause-weighed : goal.count-requires-clause-weighed
+count-requires-clause-weighed c = subst (λ (e : EventCircuitView). IsWeighed e.net c.loop-at.counter) (sym c.loop-at.invariant.walk.opened.circuit) c.loop-at.invariant.exact.weighed
+
+pub expand-requires-clause-seen : goal.expand-requires-clause-seen
+expand-requires-clause-seen c = All-at (IsSeen c.loop-at.self.circuit c.loop-at.self.frames c.loop-at.events.children) _ _ _ c.pair-place.ensures c.loop-at.invariant.walk.seen
+
+pub expand-requires-clause-frames : goal.expand-requires-clause-frames
+expand-requires-clause-frames c = omega (arith, c.loop-at.invariant.walk.opened.few_frames, c.loop-at.invariant.walk.passed, c.loop-at.invariant.walk.small, c.requires.frames)
+
+pub expand-requires-clause-few : goal.expand-requires-clause-few
+expand-requires-clause-few c = c.loop-at.invariant.exact.few
+
+pub expand-requires-clause-table : goal.expand-requires-clause-table
+expand-requires-clause-table c =
+    let net : c.net.result.now ≡ c.loop-at.self.circuit.net = c.net.ensures ∙ ap (λ (e : EventCircuitView). e.net) (c.circuit-circuit.ensures ∙ sym c.loop-at.invariant.walk.opened.circuit) in
+    let weight = ap (λ (n : NetView). weight_at n c.pair-place.result.1) net in
+    omega (arith, weight, c.in-Some.ensures.here, c.in-Some.ensures.room, c.loop-at.invariant.walk.few, c.loop-at.invariant.walk.small, c.requires.cap)
+
+pub loop-at-smaller : goal.loop-at-smaller
+loop-at-smaller c =
+    let some = weight_positive c.net.result.now (subst IsSound (sym c.net.ensures) c.keeps.ensures.sound) c.pair-place.result.1 in
+    let k : c.args.cap - (c.loop-at.at + 1) < c.args.cap - c.loop-at.at = omega (arith, some, c.loop-at.invariant.walk.passed, c.loop-at.invariant.walk.small, c.in-Some.ensures.here, c.in-Some.ensures.room) in
+    k
+
+pub loop-at-preserved : goal.loop-at-preserved
+loop-at-preserved c =
+    let net : c.net.result.now ≡ c.loop-at.self.circuit.net = c.net.ensures ∙ ap (λ (e : EventCircuitView). e.net) (c.circuit-circuit.ensures ∙ sym c.loop-at.invariant.walk.opened.circuit) in
+    let weight = ap (λ (n : NetView). weight_at n c.pair-place.result.1) net in
+    let some = weight_positive c.net.result.now (subst IsSound (sym c.net.ensures) c.keeps.ensures.sound) c.pair-place.result.1 in
+    let seen = All-at (IsSeen c.loop-at.self.circuit c.loop-at.self.frames c.loop-at.events.children) _ _ _ c.pair-place.ensures c.loop-at.invariant.walk.seen in
+    record {
+      walk = subst (λ (o : List Ways). IsWalk c.args.self.now c.expand.new.self c.args.events.now c.expand.new.events c.args.root c.expand.new.table o (c.loop-at.at + 1) (c.loop-at.weight + c.in-Some.more) c.args.cap) (sym {A = List Ways} c.in_ok-push.ensures.items)
+          (walk_more c.args.self.now c.loop-at.self c.expand.new.self c.args.events.now c.loop-at.events c.expand.new.events c.args.root c.loop-at.table c.expand.new.table c.loop-at.ways.items c.loop-at.at c.loop-at.weight c.in-Some.more c.args.cap c.pair-place.result
+          c.in_ok-next.next c.loop-at.invariant.walk c.pair-place.ensures c.expand.ensures.step.opened c.expand.ensures.step.seen c.in_ok-next.ensures.expanded (omega (arith, c.expand.ensures.few, weight, c.in-Some.ensures.here)) (omega (arith, some, c.in-Some.ensures.here)) c.in-Some.ensures.room
+          (c.in-Some.ensures.here ∙ weight));
+      exact = exact_more c.args.self.now c.loop-at.self c.expand.new.self c.args.events.now c.loop-at.events c.expand.new.events c.args.counter.now c.loop-at.counter c.count.new.counter c.args.root c.loop-at.table c.expand.new.table c.loop-at.at c.pair-place.result seen.0
+          c.keeps-in-loop-at.ensures.events.is_tree c.loop-at.invariant.exact c.loop-at.invariant.walk.opened.circuit c.pair-place.ensures seen.3 seen.1 c.expand.ensures.step.opened
+          (adds_weaker (IsSeen c.expand.new.self.circuit c.expand.new.self.frames c.expand.new.events.children) (λ (q : ℕ × ℕ). Unit {0}) c.loop-at.table c.expand.new.table (λ q s. tt) c.expand.ensures.step.seen)
+          (c.count.ensures.adds seen.0 seen.1) (c.in_ok-count.ensures.here seen.0 seen.1) (subst (λ (e : EventCircuitView). IsWeighed e.net c.count.new.counter) c.loop-at.invariant.walk.opened.circuit c.in_ok-count.ensures.weighed) c.in_ok-next.ensures.within c.expand.ensures.step.visits;
+    }
+
+pub returns-clause-walked : goal.returns-clause-walked
+returns-clause-walked c = (c.loop-at.at, c.loop-at.weight, c.loop-at.invariant.walk, c.loop-at.invariant.exact, omega (arith, c.loop-at-test.false, c.len.ensures))
+
+pub returns-clause-counting : goal.returns-clause-counting
+returns-clause-counting c = c.loop-at.invariant.exact.counting
+
+pub returns-in_err-add-clause-counting : goal.returns-in_err-add-clause-counting
+returns-in_err-add-clause-counting c = λ s root. record { more = adds_none (λ (q : ℕ × ℕ). Unit {0}) c.args.events.now.children c.args.events.now.children refl; nodes = nodes_none c.args.self.now.circuit c.args.events.now.children s; counted = λ starts there all. all }
+
+pub returns-in_default-clause-counting : goal.returns-in_default-clause-counting
+returns-in_default-clause-counting c = c.loop-at.invariant.exact.counting
+
+pub returns-in_err-count-clause-counting : goal.returns-in_err-count-clause-counting
+returns-in_err-count-clause-counting c = λ s root. let seen = All-at (IsSeen c.loop-at.self.circuit c.loop-at.self.frames c.loop-at.events.children) _ _ _ c.pair-place.ensures c.loop-at.invariant.walk.seen in
+    (counting_more c.args.self.now.circuit c.loop-at.self.frames s c.args.events.now.children c.loop-at.events.children c.args.counter.now c.loop-at.counter c.count.new.counter c.pair-place.result seen.0 (c.loop-at.invariant.exact.counting s root)
+    (subst (λ (e : EventCircuitView). IsVisitedPlace e c.loop-at.self.frames c.loop-at.events.children s c.pair-place.result) c.loop-at.invariant.walk.opened.circuit (All-at (IsVisitedPlace c.loop-at.self.circuit c.loop-at.self.frames c.loop-at.events.children s) _ _ _ c.pair-place.ensures (c.loop-at.invariant.exact.visits s root)))
+    (subst (λ (e : EventCircuitView). c.pair-place.result.1 < length e.net.drivers) c.loop-at.invariant.walk.opened.circuit seen.3) seen.1 (c.count.ensures.adds seen.0 seen.1))
+
+pub returns-in_err-next-clause-counting : goal.returns-in_err-next-clause-counting
+returns-in_err-next-clause-counting c = λ s root. let seen = All-at (IsSeen c.loop-at.self.circuit c.loop-at.self.frames c.loop-at.events.children) _ _ _ c.pair-place.ensures c.loop-at.invariant.walk.seen in
+    counting_on c.loop-at.events c.expand.new.events c.expand.ensures.step.opened.grows c.args.self.now.circuit s c.args.events.now.children c.args.counter.now c.count.new.counter c.keeps-in-loop-at.ensures.events.is_tree
+    (counting_more c.args.self.now.circuit c.loop-at.self.frames s c.args.events.now.children c.loop-at.events.children c.args.counter.now c.loop-at.counter c.count.new.counter c.pair-place.result seen.0 (c.loop-at.invariant.exact.counting s root)
+    (subst (λ (e : EventCircuitView). IsVisitedPlace e c.loop-at.self.frames c.loop-at.events.children s c.pair-place.result) c.loop-at.invariant.walk.opened.circuit (All-at (IsVisitedPlace c.loop-at.self.circuit c.loop-at.self.frames c.loop-at.events.children s) _ _ _ c.pair-place.ensures (c.loop-at.invariant.exact.visits s root)))
+    (subst (λ (e : EventCircuitView). c.pair-place.result.1 < length e.net.drivers) c.loop-at.invariant.walk.opened.circuit seen.3) seen.1 (c.count.ensures.adds seen.0 seen.1))
+    (subst (λ (e : EventCircuitView). AreNodesFrom e c.expand.new.events.children s (length c.loop-at.events.children)) c.loop-at.invariant.walk.opened.circuit
+    (c.expand.ensures.step.visits s (All-at (IsVisitedPlace c.loop-at.self.circuit c.loop-at.self.frames c.loop-at.events.children s) _ _ _ c.pair-place.ensures (c.loop-at.invariant.exact.visits s root))).1)
+
+pub returns-in_err-push-clause-counting : goal.returns-in_err-push-clause-counting
+returns-in_err-push-clause-counting c = λ s root. let seen = All-at (IsSeen c.loop-at.self.circuit c.loop-at.self.frames c.loop-at.events.children) _ _ _ c.pair-place.ensures c.loop-at.invariant.walk.seen in
+    counting_on c.loop-at.events c.expand.new.events c.expand.ensures.step.opened.grows c.args.self.now.circuit s c.args.events.now.children c.args.counter.now c.count.new.counter c.keeps-in-loop-at.ensures.events.is_tree
+    (counting_more c.args.self.now.circuit c.loop-at.self.frames s c.args.events.now.children c.loop-at.events.children c.args.counter.now c.loop-at.counter c.count.new.counter c.pair-place.result seen.0 (c.loop-at.invariant.exact.counting s root)
+    (subst (λ (e : EventCircuitView). IsVisitedPlace e c.loop-at.self.frames c.loop-at.events.children s c.pair-place.result) c.loop-at.invariant.walk.opened.circuit (All-at (IsVisitedPlace c.loop-at.self.circuit c.loop-at.self.frames c.loop-at.events.children s) _ _ _ c.pair-place.ensures (c.loop-at.invariant.exact.visits s root)))
+    (subst (λ (e : EventCircuitView). c.pair-place.result.1 < length e.net.drivers) c.loop-at.invariant.walk.opened.circuit seen.3) seen.1 (c.count.ensures.adds seen.0 seen.1))
+    (subst (λ (e : EventCircuitView). AreNodesFrom e c.expand.new.events.children s (length c.loop-at.events.children)) c.loop-at.invariant.walk.opened.circuit
+    (c.expand.ensures.step.visits s (All-at (IsVisitedPlace c.loop-at.self.circuit c.loop-at.self.frames c.loop-at.events.children s) _ _ _ c.pair-place.ensures (c.loop-at.invariant.exact.visits s root))).1)
+
+pub returns-clause-grows : goal.returns-clause-grows
+returns-clause-grows c = c.loop-at.invariant.walk.opened.grows
+
+pub returns-in_err-add-clause-grows : goal.returns-in_err-add-clause-grows
+returns-in_err-add-clause-grows c = grows_refl c.args.events.now
+
+pub returns-in_default-clause-grows : goal.returns-in_default-clause-grows
+returns-in_default-clause-grows c = c.loop-at.invariant.walk.opened.grows
+
+pub returns-in_err-count-clause-grows : goal.returns-in_err-count-clause-grows
+returns-in_err-count-clause-grows c = c.loop-at.invariant.walk.opened.grows
+
+pub returns-in_err-next-clause-grows : goal.returns-in_err-next-clause-grows
+returns-in_err-next-clause-grows c = grows_trans c.args.events.now c.loop-at.events c.expand.new.events c.loop-at.invariant.walk.opened.grows c.expand.ensures.step.opened.grows
+
+pub returns-in_err-push-clause-grows : goal.returns-in_err-push-clause-grows
+returns-in_err-push-clause-grows c = grows_trans c.args.events.now c.loop-at.events c.expand.new.events c.loop-at.invariant.walk.opened.grows c.expand.ensures.step.opened.grows
+
+pub returns-clause-refused : goal.returns-clause-refused
+returns-clause-refused c = refused_ok _ _ _ _
+
+pub returns-in_default-clause-refused : goal.returns-in_default-clause-refused
+returns-in_default-clause-refused c = refused_memory _ _ _
+
+pub add-requires : goal.add-requires
+add-requires c = omega (arith, ap length c.new-table.ensures)
+
+pub pair-place-requires : goal.pair-place-requires
+pair-place-requires c = omega (arith, c.loop-at-test.true, c.len.ensures)
+
+pub overflow_add-weight : goal.overflow_add-weight
+overflow_add-weight c = omega (arith, c.in-Some.ensures.room, c.loop-at.invariant.walk.small, c.requires.cap)
+
+pub overflow_add-at : goal.overflow_add-at
+overflow_add-at c = omega (arith, c.loop-at.invariant.walk.passed, c.loop-at.invariant.walk.small, c.requires.cap)
+
+pub returns-in_err-count-clause-refused : goal.returns-in_err-count-clause-refused
+returns-in_err-count-clause-refused c =
+    let p = err_from_is_err_and c.from_residual-in_err-count.result c.from_residual-in_err-count.ensures.1 in
+    rw (p.1, p.2) (refused_on c.args.self.now.circuit.net c.loop-at.events.children c.count.new.counter.places c.in_err-count.field-0.0 (λ is. absurd (c.in_err-count.ensures.many is))
+    (λ is. subst (λ (e : EventCircuitView). 2000000 < places_weight e.net c.count.new.counter.places) c.loop-at.invariant.walk.opened.circuit (c.in_err-count.ensures.large is)))
+
+pub returns-in_err-next-clause-refused : goal.returns-in_err-next-clause-refused
+returns-in_err-next-clause-refused c =
+    let p = err_from_is_err_and c.from_residual-in_err-next.result c.from_residual-in_err-next.ensures.1 in
+    rw (p.1, p.2) (refused_on c.args.self.now.circuit.net c.expand.new.events.children c.count.new.counter.places c.in_err-next.field-0.0 c.in_err-next.ensures.many (λ is. absurd (c.in_err-next.ensures.large is)))
+
+pub returns-in_err-push-clause-refused : goal.returns-in_err-push-clause-refused
+returns-in_err-push-clause-refused c =
+    let p = err_from_is_err_and c.from_residual-in_err-push.result c.from_residual-in_err-push.ensures.1 in
+    rw (p.1, p.2) (refused_memory c.args.self.now.circuit.net c.expand.new.events.children c.count.new.counter.places)
+
+pub returns-in_err-add-clause-refused : goal.returns-in_err-add-clause-refused
+returns-in_err-add-clause-refused c =
+    let p = err_from_is_err_and c.from_residual.result c.from_residual.ensures.1 in
+    rw (p.1, p.2) (refused_memory c.args.self.now.circuit.net c.args.events.now.children c.args.counter.now.places)

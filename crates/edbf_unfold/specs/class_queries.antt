@@ -1,0 +1,3 @@
+pub mod Enables
+pub mod Laws
+pub mod edbf_unfold

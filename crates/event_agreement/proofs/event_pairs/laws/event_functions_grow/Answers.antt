@@ -1,5 +1,0 @@
-use Rattle.event_agreement.proofs.event_pairs.Growing.{functions_later}
-use Rattle.event_agreement.proofs.event_pairs.laws.event_functions_grow.Goals as goal
-
-pub returns : goal.returns
-returns c = functions_later

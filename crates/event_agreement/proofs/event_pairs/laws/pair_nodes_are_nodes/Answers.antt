@@ -1,5 +1,0 @@
-use Rattle.event_agreement.proofs.event_pairs.Unions.{pair_nodes}
-use Rattle.event_agreement.proofs.event_pairs.laws.pair_nodes_are_nodes.Goals as goal
-
-pub returns : goal.returns
-returns c = pair_nodes

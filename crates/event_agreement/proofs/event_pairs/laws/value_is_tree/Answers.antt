@@ -1,5 +1,0 @@
-use Rattle.event_agreement.proofs.event_pairs.Growing.{value_of_tree}
-use Rattle.event_agreement.proofs.event_pairs.laws.value_is_tree.Goals as goal
-
-pub returns : goal.returns
-returns c = value_of_tree

@@ -1,5 +1,0 @@
-use Rattle.event_agreement.proofs.pair_events.Within.{is_within}
-use Rattle.event_agreement.proofs.pair_events.laws.counted_is_within.Goals as goal
-
-pub returns : goal.returns
-returns c = is_within

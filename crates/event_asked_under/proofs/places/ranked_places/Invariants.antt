@@ -1,6 +1,0 @@
-use Rattle.std.proofs.Common.{◌≡◌, take}
-use Rattle.event_variables.specs.ranked_nodes.Named.{ranked_in}
-use Rattle.event_asked_under.proofs.places.ranked_places.Given as goal
-
-abbrev pub invariant-loop-v : goal.invariant-loop-v
-invariant-loop-v l = l.table ≡ ranked_in l.ranks (take l.v l.events.places)

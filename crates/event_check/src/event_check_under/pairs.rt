@@ -1,0 +1,66 @@
+//! What is found under an assumption of the pairs of two circuits with their class map.
+
+ghost use Rattle.std.specs.Prelude.{◌≡◌, ◌≤◌, length};
+ghost use Rattle.event_check.specs.event_answers.class_events.Made.{AreEnablesCounted};
+ghost use Rattle.event_check.specs.event_answers.class_events.Separated.{AreSeparated};
+ghost use Rattle.assume_queries.specs.assume_sequences.Assumed.{CanBeAssumed};
+ghost use Rattle.event_check.specs.event_answers.Askable.{AreAskable};
+ghost use Rattle.event_check.specs.event_check_under.event_answers_under.Pairs.{FindsPairsUnder};
+ghost use Rattle.event_check.specs.event_check_under.Refusals.{refusal_under};
+
+use crate::event_answers::{Asked, EventPairs, Found, Names, Separated, named_findings};
+use crate::event_check_under::event_answers_under::{CompareError, Premise};
+use assume_laws::assume_shape::ShapeFault;
+use event_under_form::{EventUnderError, compare_events_under};
+use sec_base::MAX_CONFLICTS;
+use std::alloc::Global;
+
+/// Compares the pairs of two circuits whose latches have their classes, under the assumption of this premise.
+pub(crate) fn compare_pairs(
+    alloc: Global,
+    separated: &mut Separated,
+    names: &Names,
+    asked: &Asked,
+    premise: &Premise,
+    conflicts: u32,
+) -> Result<Found, CompareError>
+    requires counted { AreEnablesCounted separated.old.events }
+    requires separated { AreSeparated separated.old.events separated.old.aparts.items }
+    requires askable { AreAskable separated.old.events names.now asked.now }
+    requires premise { CanBeAssumed premise.now (length names.now.columns) }
+    requires conflicts { conflicts ≤ MAX_CONFLICTS }
+    ensures { FindsPairsUnder separated.old.events.left separated.old.events.right names.now asked.now premise.now conflicts result }
+{
+    let events = &mut separated.events;
+    let aparts = separated.aparts.as_slice();
+    events.keeps();
+    let compared = EventPairs {
+        pairs: asked.pairs.as_slice(),
+        depths: asked.depths.as_slice(),
+        names: &names.columns,
+        cut: asked.cut,
+    };
+    match compare_events_under(alloc, events, aparts, &compared, premise, conflicts) {
+        Ok(findings) => {
+            events.keeps();
+            let found = named_findings(alloc, names, findings, events.classes())?;
+            Ok(found)
+        }
+        Err(error) => {
+            events.keeps();
+            Err(refusal_under(error))
+        }
+    }
+}
+
+/// Why circuits whose pairs can't be unfolded, or are too many for the assumption, aren't compared.
+fn refusal_under(error: EventUnderError) -> CompareError
+    ensures { result ≡ refusal_under error }
+{
+    match error {
+        EventUnderError::TooManyEvents => CompareError::TooManyEvents,
+        EventUnderError::TooLarge(side) => CompareError::TooLarge(side),
+        EventUnderError::AssumptionTooLarge => CompareError::Assume(ShapeFault::TooLarge),
+        EventUnderError::NoMemory => CompareError::NoMemory,
+    }
+}

@@ -1,0 +1,13 @@
+pub mod Reached
+pub mod Classes
+pub mod Told
+pub mod Telling
+pub mod Separations
+pub mod class_events
+pub use Rattle.event_form.specs.declared.frames.FrameBit
+pub use Rattle.event_form.specs.Stopped
+pub use Rattle.event_form.specs.Counted
+pub use Rattle.event_form.specs.Asked
+pub use Rattle.event_form.specs.Answers
+pub use Rattle.event_classes.specs.Refused
+pub use Rattle.event_form.specs.Decided

@@ -1,9 +1,0 @@
-pub mod Known
-pub mod Built
-pub mod event_walk
-pub use Rattle.graph_copy.specs.aig_or.ShortOr
-pub use Rattle.event_literals.specs.event_walk.Walk
-pub use Rattle.event_nodes.specs.flat_net.Sound
-pub use Rattle.event_nodes.specs.flat_net.View
-pub use Rattle.event_nodes.specs.flat_net.Driver
-pub use Rattle.event_nodes.specs.flat_net.LatchAt

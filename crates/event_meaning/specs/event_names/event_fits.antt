@@ -1,0 +1,17 @@
+pub mod Named
+pub mod Fitting
+pub mod Shown
+pub mod Compared
+pub mod Circuits
+pub mod Totals
+pub use Rattle.event_findings.specs.declared.pairs.EventPairs
+pub use Rattle.event_findings.specs.Findings
+pub use Rattle.event_findings.specs.declared.verdict.UnshownPair
+pub use Rattle.event_findings.specs.declared.verdict.EventVerdict
+pub use Rattle.event_findings.specs.Answers
+pub use Rattle.event_findings.specs.Asked
+pub use Rattle.event_findings.specs.FrameBit
+pub use Rattle.event_findings.specs.unshown_pairs.Told
+pub use Rattle.event_findings.specs.unshown_pairs.Separations
+pub use Rattle.event_findings.specs.declared.unshown_pairs.separations.ToldSeparation
+pub use Rattle.event_form.specs.declared.error.EventFormError

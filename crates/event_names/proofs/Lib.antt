@@ -1,2 +1,0 @@
-pub mod Naming
-pub use Rattle.event_names.proofs.event_fits.Counting

@@ -1,9 +1,0 @@
-pub mod Nameable
-pub mod event_fits
-pub use Rattle.event_names.specs.event_fits.Named
-pub use Rattle.event_names.specs.event_fits.Fitting
-pub use Rattle.event_names.specs.event_fits.Compared
-pub use Rattle.event_names.specs.event_fits.Totals
-pub use Rattle.event_names.specs.event_fits.Asked
-pub use Rattle.event_names.specs.event_fits.Circuits
-pub use Rattle.event_names.specs.event_fits.EventFormError

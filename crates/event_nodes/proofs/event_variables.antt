@@ -1,0 +1,14 @@
+pub mod Cones
+pub mod MergeLists
+pub mod NodePaths
+pub mod Reading
+pub mod Climbing
+pub mod Named
+pub mod PathOrder
+pub mod Sorting
+pub mod Leaves
+pub mod Putting
+pub mod Meaning
+pub mod event_nodes
+pub mod aig
+pub mod flat_net

@@ -1,0 +1,9 @@
+pub mod Variables
+pub mod Order
+pub mod Inputs
+pub mod Laws
+pub mod ranked_nodes
+pub mod frame_sequences
+pub mod event_nodes
+pub mod aig
+pub mod flat_net

@@ -1,0 +1,1 @@
+pub use Rattle.base_tables.specs.Table

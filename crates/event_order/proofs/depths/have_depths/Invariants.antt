@@ -1,5 +1,0 @@
-use Rattle.event_order.proofs.LatchDepths.{HaveDepths}
-use Rattle.event_order.proofs.depths.have_depths.Given as goal
-
-abbrev pub invariant-loop-latch : goal.invariant-loop-latch
-invariant-loop-latch l = HaveDepths l.net l.latch-index

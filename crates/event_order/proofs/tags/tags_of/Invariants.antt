@@ -1,9 +1,0 @@
-use Rattle.std.proofs.Common.{take}
-use Rattle.std.specs.List.{AllZip}
-use Rattle.sec_base.specs.declared.basics.Tag.{Tag}
-use Rattle.event_order.specs.declared.turns.Turn.{Turn}
-use Rattle.event_order.specs.Turns.{IsTagAt}
-use Rattle.event_order.proofs.tags.tags_of.Given as goal
-
-abbrev pub invariant-loop-turn : goal.invariant-loop-turn
-invariant-loop-turn l = AllZip (λ (turn : Turn) (tag : Tag). IsTagAt l.first turn.number tag) (take l.turn-index l.turns) l.tags.items

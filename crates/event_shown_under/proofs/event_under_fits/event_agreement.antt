@@ -1,1 +1,0 @@
-pub use Rattle.event_agreement.proofs.PairQueries

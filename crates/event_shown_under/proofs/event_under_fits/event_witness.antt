@@ -1,1 +1,0 @@
-pub use Rattle.event_witness.proofs.InputLeaves

@@ -1,1 +1,0 @@
-pub use Rattle.assume_sequences.specs.Filled

@@ -1,9 +1,0 @@
-pub use Rattle.event_findings.specs.Compared
-pub use Rattle.event_findings.specs.Findings
-pub use Rattle.event_findings.specs.Reached
-pub use Rattle.event_findings.specs.Separations
-pub use Rattle.event_findings.specs.Told
-pub use Rattle.event_findings.specs.ToldSeparation
-pub use Rattle.event_findings.specs.declared.pairs.EventPairs
-pub use Rattle.event_findings.specs.declared.verdict.EventVerdict
-pub use Rattle.event_findings.specs.declared.findings.EventFindings

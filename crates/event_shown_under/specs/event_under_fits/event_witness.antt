@@ -1,2 +1,0 @@
-pub use Rattle.event_witness.specs.Sequences
-pub use Rattle.event_witness.specs.declared.unshown.UnshownFrame

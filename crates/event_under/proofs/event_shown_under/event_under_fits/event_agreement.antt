@@ -1,0 +1,1 @@
+pub use Rattle.event_form.proofs.event_agreement.PairQueries

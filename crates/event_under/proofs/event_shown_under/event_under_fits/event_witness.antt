@@ -1,0 +1,1 @@
+pub use Rattle.event_findings.proofs.event_witness.InputLeaves

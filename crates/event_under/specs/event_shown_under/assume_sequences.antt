@@ -1,0 +1,1 @@
+pub use Rattle.assume_queries.specs.assume_sequences.Filled

@@ -1,0 +1,9 @@
+pub use Rattle.event_findings.specs.Compared
+pub use Rattle.event_findings.specs.Findings
+pub use Rattle.event_findings.specs.unshown_pairs.Reached
+pub use Rattle.event_findings.specs.unshown_pairs.Separations
+pub use Rattle.event_findings.specs.unshown_pairs.Told
+pub use Rattle.event_findings.specs.declared.unshown_pairs.separations.ToldSeparation
+pub use Rattle.event_findings.specs.declared.pairs.EventPairs
+pub use Rattle.event_findings.specs.declared.verdict.EventVerdict
+pub use Rattle.event_findings.specs.declared.findings.EventFindings

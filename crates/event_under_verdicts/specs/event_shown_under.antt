@@ -1,1 +1,0 @@
-pub use Rattle.event_shown_under.specs.event_under_fits.Findings

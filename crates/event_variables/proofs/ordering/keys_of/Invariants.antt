@@ -1,6 +1,0 @@
-use Rattle.std.proofs.Common.{take}
-use Rattle.event_variables.specs.Order.{AreKeysOf}
-use Rattle.event_variables.proofs.ordering.keys_of.Given as goal
-
-abbrev pub invariant-loop-variable : goal.invariant-loop-variable
-invariant-loop-variable l = AreKeysOf l.events (take l.variable-index l.variables) l.keys.items

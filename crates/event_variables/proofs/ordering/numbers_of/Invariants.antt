@@ -1,5 +1,0 @@
-use Rattle.std.proofs.Common.{◌≡◌, map, take}
-use Rattle.event_variables.proofs.ordering.numbers_of.Given as goal
-
-abbrev pub invariant-loop-key : goal.invariant-loop-key
-invariant-loop-key l = l.numbers.items ≡ map (λ key. key.variable) (take l.key-index l.keys)

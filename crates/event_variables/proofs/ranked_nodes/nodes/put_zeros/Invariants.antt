@@ -1,9 +1,0 @@
-use Rattle.std.proofs.Common.{◌≡◌}
-use Rattle.event_variables.specs.ranked_nodes.Ranks.{HasZeros}
-use Rattle.event_variables.proofs.ranked_nodes.nodes.put_zeros.Given as goal
-
-abbrev pub invariant-loop-n : goal.invariant-loop-n
-invariant-loop-n l = record {
-  children : l.events.children ≡ l.fn.events.children;
-  zeros : HasZeros l.n l.events.places;
-}

@@ -1,7 +1,0 @@
-pub use Rattle.event_nodes.specs.Adds
-pub use Rattle.event_nodes.specs.Nodes
-pub use Rattle.event_nodes.specs.Reach
-pub use Rattle.event_nodes.specs.Table
-pub use Rattle.event_nodes.specs.View
-pub use Rattle.event_nodes.specs.Visited
-pub use Rattle.event_nodes.specs.declared.error.EventUnfoldError

@@ -1,5 +1,0 @@
--- Each step goes down.
-use Rattle.graph_copy.proofs.aig_or.combine.+is_conjunct.Given as goal
-
-abbrev pub decreases-is_conjunct : goal.decreases-is_conjunct
-decreases-is_conjunct l = l.steps

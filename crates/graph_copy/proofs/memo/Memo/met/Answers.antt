@@ -1,6 +1,0 @@
--- A place that was met is found.
-use Rattle.circuit_theory.proofs.Lists.{Contains-map}
-use Rattle.graph_copy.proofs.memo.Memo.met.Goals as goal
-
-pub unreachable-requires : goal.unreachable-requires
-unreachable-requires c = c.in-None.ensures.absent (Contains-map (λ e. e.0) c.args.self.now (c.args.place, c.requires.0) c.requires.1)

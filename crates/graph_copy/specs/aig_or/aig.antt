@@ -1,2 +1,0 @@
-pub use Rattle.aig.specs.Rules
-pub use Rattle.aig.specs.Values

@@ -1,8 +1,0 @@
-use Rattle.std.proofs.Common.{take}
-use Rattle.circuit_theory.specs.declared.Mode.{Mode}
-use Rattle.signal_graph.specs.Graph.{IsGraphIn}
-use Rattle.graph_report.specs.Puts.{PutsOutputs}
-use Rattle.graph_report.proofs.report.put_outputs.Given as goal
-
-abbrev pub invariant-loop-output : goal.invariant-loop-output
-invariant-loop-output l = (mode : Mode) → IsGraphIn mode l.net l.graph → PutsOutputs mode l.net (take l.output-index l.net.outputs) l.initial.text.items l.text.items

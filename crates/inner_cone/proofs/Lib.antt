@@ -1,6 +1,0 @@
-pub mod Inner
-pub mod SideSignals
-pub mod Gates
-pub mod circuit_theory
-pub mod flat_net
-pub use Rattle.inner_cone.proofs.latch_cone.Walks

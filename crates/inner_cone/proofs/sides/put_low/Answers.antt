@@ -1,6 +1,0 @@
--- A signal that is low, or not.
-use Rattle.std.proofs.Common.{inl, arith}
-use Rattle.inner_cone.proofs.sides.put_low.Goals as goal
-
-pub returns : goal.returns
-returns c = inl (c.in_ok-push.ensures.ok, omega (arith, c.number_at.ensures, c.if-number_at-least.false))

@@ -1,7 +1,0 @@
-pub mod Inner
-pub mod Sides
-pub mod Gates
-pub mod latch_cone
-pub mod circuit_theory
-pub mod flat_net
-pub use Rattle.inner_cone.specs.latch_cone.Cones

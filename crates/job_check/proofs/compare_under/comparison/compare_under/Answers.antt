@@ -1,0 +1,11 @@
+-- Interfaces that don't match.
+use Rattle.under_base.specs.compare_base.Compared.{refusal_of}
+use Rattle.under_base.proofs.compare_base.Refusals.{refused_by}
+use Rattle.under_base.specs.Compared.{ComparedUnder}
+use Rattle.under_base.proofs.Refusals.{unmatched_under}
+use Rattle.job_check.proofs.compare_under.comparison.compare_under.Goals as goal
+
+pub returns-in_err-shared : goal.returns-in_err-shared
+returns-in_err-shared c =
+    refused_by (ComparedUnder c.args.a.now c.args.b.now c.args.c.now c.args.settings.now) c.from_residual.result (refusal_of c.in_err-shared.field-0.0) c.from_residual.ensures.1
+    (unmatched_under c.args.a.now c.args.b.now c.args.c.now c.args.settings.now c.in_err-shared.field-0.0 c.in_err-shared.ensures.err)

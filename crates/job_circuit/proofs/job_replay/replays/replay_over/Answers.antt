@@ -1,0 +1,17 @@
+use Rattle.std.proofs.Common.{sym, subst, inl, inr, Result}
+use Rattle.std.specs.Prelude.{IsErrOf}
+use Rattle.job_base.specs.declared.finding.Finding.{Finding}
+use Rattle.job_base.specs.declared.finding.Stop.{Stop}
+use Rattle.job_base.specs.declared.finding.Stop.TheVariants as stop
+use Rattle.job_circuit.proofs.job_replay.TwoCircuits.{no_fault_replayed}
+use Rattle.job_circuit.proofs.job_replay.replays.replay_over.Goals as goal
+
+pub returns-in-Ok-clause-found : goal.returns-in-Ok-clause-found
+returns-in-Ok-clause-found g c = inr (c.in-Ok.stimulus.names, c.in-Ok.stimulus.rows, c.replay_in-replayed.result, c.in-Ok.ensures.ok, c.replay_in-replayed.ensures, c.replay_end.ensures)
+
+pub returns-in-Ok-clause-served : goal.returns-in-Ok-clause-served
+returns-in-Ok-clause-served g c serves =
+    subst (λ (r : Result Finding Stop). IsErrOf r stop.ReadFault → ⊥) (sym c.replay_end.ensures) (no_fault_replayed c.replay_in-replayed.result)
+
+pub returns-in-Err-clause-found : goal.returns-in-Err-clause-found
+returns-in-Err-clause-found g c = inl (c.in-Err.error, c.in-Err.ensures.err, c.stimulus_end.ensures)

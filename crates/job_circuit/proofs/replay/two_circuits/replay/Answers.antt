@@ -1,0 +1,18 @@
+use Rattle.std.proofs.Common.{◌≡◌, ℕ, Bool, List, Result, Ok, Err, sym, subst}
+use Rattle.std.specs.Prelude.{IsErrAnd}
+use Rattle.circuit_theory.specs.declared.Mode.{Mode}
+use Rattle.flat_net.specs.View.{NetView}
+use Rattle.job_circuit.specs.declared.replay.differences.Replayed.{Replayed}
+use Rattle.job_circuit.specs.declared.replay.replay_header.error.ReplayError.{ReplayError}
+use Rattle.job_circuit.specs.declared.replay.replay_header.error.ReplayError.TheVariants as refused
+use Rattle.job_circuit.specs.replay.Replay.{Replays}
+use Rattle.job_circuit.proofs.replay.two_circuits.replay.Goals as goal
+
+-- want of memory
+memory_wanted : (mode : Mode) (a b : NetView) (names : List (List ℕ)) (rows : List (List Bool)) (r : Result Replayed ReplayError) → IsErrAnd r (λ e. e ≡ refused.NoMemory) → Replays mode a b names rows r
+memory_wanted mode a b names rows (Ok replayed) h = absurd h
+memory_wanted mode a b names rows (Err e) h = subst (λ (x : ReplayError). Replays mode a b names rows (Err x)) (sym h) tt
+
+pub returns-in_err-differences : goal.returns-in_err-differences
+returns-in_err-differences c mode marks_a marks_b =
+    memory_wanted mode c.args.a.now c.args.b.now c.args.stimulus.now.names c.args.stimulus.now.rows c.from_residual-in_err-differences.result c.from_residual-in_err-differences.ensures.1

@@ -1,0 +1,148 @@
+-- What is true where a replay of two circuits ends as it does. A text is given where it is told.
+use Rattle.std.specs.Prelude.{◌≡◌, ◌≢◌, ℕ, Bool, List, [], ◌∷◌, Option, Ok, Err, IfSome, IsSomeAnd}
+use Rattle.circuit_theory.specs.declared.Mode.{Mode}
+use Rattle.circuit_theory.specs.declared.Mode.TheVariants.{Event}
+use Rattle.circuit_theory.specs.declared.Side.{Side}
+use Rattle.sec_base.specs.base_shelves.Outside.{Takes}
+use Rattle.flat_net.specs.View.{NetView}
+use Rattle.pair_decide.specs.declared.query.Proof.{Proof}
+use Rattle.sec_setup.specs.Matching.{InterfacesMatch}
+use Rattle.circuit_report.specs.declared.sim_report.refusal.Misfit.TheVariants as misfit
+use Rattle.circuit_report.specs.graph_report.Jobs.{AreLightIn}
+use Rattle.latch_kinds.specs.declared.kinds.KindsError.TheVariants as kinds_error
+use Rattle.cycle_sim.specs.declared.pair_runs.differences.Difference.{Difference}
+use Rattle.job_circuit.specs.replay.replay_header.Header.{FitsBoth}
+use Rattle.cycle_sim.specs.pair_runs.replay_report.Report.{replay_text}
+use Rattle.job_circuit.specs.declared.job_replay.fault.ReplayFault.TheVariants as fault
+use Rattle.job_circuit.specs.job_replay.Modes.{AreUnknown, ShowsReplay, ReplaysIn}
+use Rattle.sec_files.specs.Loading.{IsAccepted, Loads, IsTooLong, HasFault, HasDesignFault, HasRecordFault}
+use Rattle.sec_files.specs.Stimuli.{IsStimulus, HasBadHeader, HasBadRow}
+use Rattle.job_base.specs.Lines.{undecided_text}
+use Rattle.job_base.specs.declared.status.StatusName.{StatusName}
+use Rattle.job_base.specs.declared.status.StatusName.TheVariants as status
+use Rattle.job_base.specs.declared.finding.File.{File}
+use Rattle.job_base.specs.declared.finding.File.TheVariants as file
+use Rattle.job_base.specs.declared.finding.LineFault.TheVariants as line_fault
+use Rattle.job_base.specs.declared.finding.Refusal.{Refusal}
+use Rattle.job_base.specs.declared.finding.Refusal.TheVariants as refusal
+use Rattle.job_base.specs.declared.finding.Finding.{Finding}
+use Rattle.job_base.specs.declared.finding.Finding.TheVariants as finding
+use Rattle.sec_files.specs.job_files.Reading.{IsLoaded}
+
+-- the paths of a replay, in the order of their fetches
+abbrev pub replay_paths : List ℕ → List ℕ → List ℕ → List (List ℕ)
+replay_paths left right stimulus = left ∷ right ∷ stimulus ∷ []
+
+-- both texts load as nets, and the third spells a stimulus, of which this is said
+pub record OfReplay (left right stimulus : Option (List ℕ)) (P : NetView → NetView → List (List ℕ) → List (List Bool) → Type 0) : Type 0 where
+  pub a : NetView
+  pub b : NetView
+  pub names : List (List ℕ)
+  pub rows : List (List Bool)
+  pub left_loads : IfSome left (λ x. Loads x a)
+  pub right_loads : IfSome right (λ y. Loads y b)
+  pub spells : IfSome stimulus (λ z. IsStimulus z names rows)
+  pub said : P a b names rows
+
+-- what is said of the text of a circuit; B's is looked at only where A's loads
+abbrev pub OfCircuit : Option (List ℕ) → Option (List ℕ) → File → (List ℕ → Type 0) → Type 0
+OfCircuit left right file.A P = IfSome left P
+OfCircuit left right file.B P = IsLoaded left × IfSome right P
+OfCircuit left right file.C P = ⊥
+OfCircuit left right file.S P = ⊥
+
+-- what is said of the text of the stimulus, which is looked at only where both circuits load
+abbrev pub OfStimulus : Option (List ℕ) → Option (List ℕ) → Option (List ℕ) → File → (List ℕ → Type 0) → Type 0
+OfStimulus left right stimulus file.S P = IsLoaded left × IsLoaded right × IfSome stimulus P
+OfStimulus left right stimulus other P = ⊥
+
+-- why a replay is refused; the first cause in the order of the work
+abbrev pub IsReplayRefusal : Mode → Option (List ℕ) → Option (List ℕ) → Option (List ℕ) → Refusal → Type 0
+IsReplayRefusal mode left right stimulus (refusal.TooLong file.S) = OfStimulus left right stimulus file.S IsTooLong
+IsReplayRefusal mode left right stimulus (refusal.TooLong f) = OfCircuit left right f IsTooLong
+IsReplayRefusal mode left right stimulus (refusal.Text f line (line_fault.Circuit kind)) = OfCircuit left right f (λ x. HasFault x line kind)
+IsReplayRefusal mode left right stimulus (refusal.Text f line line_fault.BadHeader) = OfStimulus left right stimulus f (λ z. HasBadHeader z line)
+IsReplayRefusal mode left right stimulus (refusal.Text f line (line_fault.Clauses kind)) = ⊥
+IsReplayRefusal mode left right stimulus (refusal.Text f line line_fault.BadRow) = OfStimulus left right stimulus f (λ z. HasBadRow z line)
+IsReplayRefusal mode left right stimulus (refusal.Design f fault) = OfCircuit left right f (λ x. HasDesignFault x fault)
+IsReplayRefusal mode left right stimulus (refusal.Record f place kind) = OfCircuit left right f (λ x. HasRecordFault x place kind)
+IsReplayRefusal mode left right stimulus (refusal.Interface name) = OfReplay left right stimulus (λ a b names rows. ReplaysIn mode a b names rows (Err (fault.Interface name)))
+IsReplayRefusal mode left right stimulus (refusal.TooLarge side) = OfReplay left right stimulus (λ a b names rows. ReplaysIn mode a b names rows (Err (fault.TooLarge side)))
+IsReplayRefusal mode left right stimulus (refusal.Misfit (misfit.Unknown name)) = OfReplay left right stimulus (λ a b names rows. ReplaysIn mode a b names rows (Err (fault.Unknown name)))
+IsReplayRefusal mode left right stimulus (refusal.Misfit (misfit.Missing name)) = OfReplay left right stimulus (λ a b names rows. ReplaysIn mode a b names rows (Err (fault.Missing name)))
+IsReplayRefusal mode left right stimulus (refusal.Misfit misfit.Power) = ⊥
+IsReplayRefusal mode left right stimulus refusal.TooManyEvents = ⊥
+IsReplayRefusal mode left right stimulus (refusal.Assume fault) = ⊥
+IsReplayRefusal mode left right stimulus refusal.Vacuous = ⊥
+IsReplayRefusal mode left right stimulus (refusal.Pair name) = ⊥
+
+-- what is found where a replay is asked for
+abbrev pub IsReplayFound : Mode → Option (List ℕ) → Option (List ℕ) → Option (List ℕ) → Finding → Type 0
+IsReplayFound mode left right stimulus (finding.Replayed differences) = OfReplay left right stimulus (λ a b names rows. ReplaysIn mode a b names rows (Ok differences))
+IsReplayFound mode left right stimulus (finding.Refused r) = IsReplayRefusal mode left right stimulus r
+IsReplayFound mode left right stimulus (finding.Undecided side name proof) = OfReplay left right stimulus (λ a b names rows. ReplaysIn mode a b names rows (Err (fault.Limit side name proof)))
+IsReplayFound mode left right stimulus other = ⊥
+
+-- the interfaces of both nets match, and these are the differences of the replay
+abbrev pub ShowsDifferences : Mode → List Difference → NetView → NetView → List (List ℕ) → List (List Bool) → Type 0
+ShowsDifferences mode differences a b names rows = InterfacesMatch a b × ShowsReplay mode a b names rows differences
+
+-- the whole report of a replay without a difference is taken
+abbrev pub TakesSame : Mode → Option (List ℕ) → Option (List ℕ) → Option (List ℕ) → Option (List ℕ) → Option (List ℕ) → Type 0
+TakesSame mode left right stimulus before now = OfReplay left right stimulus (ShowsDifferences mode []) × Takes before now (replay_text [])
+
+-- the whole report of a replay with differences is taken
+pub record TakesDifferences (mode : Mode) (left right stimulus before now : Option (List ℕ)) : Type 0 where
+  pub differences : List Difference
+  pub some : differences ≢ []
+  pub shown : OfReplay left right stimulus (ShowsDifferences mode differences)
+  pub printed : Takes before now (replay_text differences)
+
+-- the report names a latch of a circuit, and the one proof shows that its query has met the limit, those of the latches before it being
+-- decided
+pub record TakesReplayLimit (mode : Mode) (left right stimulus : Option (List ℕ)) (proofs : List Proof) (before now : Option (List ℕ)) : Type 0 where
+  pub side : Side
+  pub name : List ℕ
+  pub proof : Proof
+  pub kept : proofs ≡ proof ∷ []
+  pub shown : OfReplay left right stimulus (λ a b names rows. InterfacesMatch a b × AreUnknown mode a b side (kinds_error.Limit name proof))
+  pub printed : Takes before now (undecided_text side name)
+
+-- Both circuits' texts are accepted, their interfaces match, and it can be found out what their latches are; the third text spells a
+-- stimulus whose header fits both.
+pub record CanBeReplayed (mode : Mode) (x y z : List ℕ) : Type 0 where
+  pub left : IsAccepted x
+  pub right : IsAccepted y
+  pub names : List (List ℕ)
+  pub rows : List (List Bool)
+  pub stimulus : IsStimulus z names rows
+  pub match : (a b : NetView) → Loads x a → Loads y b → InterfacesMatch a b
+  pub fits : (a b : NetView) → Loads x a → Loads y b → FitsBoth a b names
+  pub left_light : (a : NetView) → Loads x a → AreLightIn mode a
+  pub right_light : (b : NetView) → Loads y b → AreLightIn mode b
+
+-- the three texts are told, and the circuits can be replayed
+abbrev pub CanReplay : Mode → Option (List ℕ) → Option (List ℕ) → Option (List ℕ) → Type 0
+CanReplay mode left right stimulus = IsSomeAnd left (λ x. IsSomeAnd right (λ y. IsSomeAnd stimulus (λ z. CanBeReplayed mode x y z)))
+
+-- a replay is done, with a difference or without, or want of memory; in the event mode also a query has met the limit
+abbrev pub IsReplayed : Mode → StatusName → Type 0
+IsReplayed mode status.Equal = Unit {0}
+IsReplayed mode status.Different = Unit {0}
+IsReplayed mode status.NoMemory = Unit {0}
+IsReplayed mode status.Limit = mode ≡ Event
+IsReplayed mode other = ⊥
+
+-- What the status of a replay says: its report is taken whole, and it has no difference, or some; or the limit of a query is told in its
+-- place.
+abbrev pub ReplayMeans : Mode → Option (List ℕ) → Option (List ℕ) → Option (List ℕ) → Option (List ℕ) → Option (List ℕ) → List Proof → StatusName → Type 0
+ReplayMeans mode left right stimulus before now proofs status.Equal = TakesSame mode left right stimulus before now
+ReplayMeans mode left right stimulus before now proofs status.Different = TakesDifferences mode left right stimulus before now
+ReplayMeans mode left right stimulus before now proofs status.NotShown = ⊥
+ReplayMeans mode left right stimulus before now proofs status.Limit = TakesReplayLimit mode left right stimulus proofs before now
+ReplayMeans mode left right stimulus before now proofs status.Done = ⊥
+ReplayMeans mode left right stimulus before now proofs other = Unit {0}
+
+-- where the circuits can be replayed, they are, if no read and no write fails
+abbrev pub IsReplayComplete : Mode → Option (List ℕ) → Option (List ℕ) → Option (List ℕ) → StatusName → Type 0
+IsReplayComplete mode left right stimulus name = CanReplay mode left right stimulus → IsReplayed mode name

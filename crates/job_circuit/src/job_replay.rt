@@ -1,0 +1,11 @@
+//! The job that runs two circuits on one stimulus.
+//!
+//! The differences of two circuits on one stimulus, in a mode.
+
+mod fault;
+mod modes;
+mod replays;
+
+pub use fault::ReplayFault;
+pub use modes::replay_in;
+pub use replays::{Replay, replay_files};

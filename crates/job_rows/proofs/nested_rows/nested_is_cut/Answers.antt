@@ -1,5 +1,0 @@
-use Rattle.job_rows.proofs.nested_rows.Nested.{nested_is_cut}
-use Rattle.job_rows.proofs.nested_rows.nested_is_cut.Goals as goal
-
-pub returns : goal.returns
-returns c = nested_is_cut

@@ -1,9 +1,0 @@
--- A stimulus and power words that fit a circuit, in the plain mode.
-use Rattle.std.specs.Prelude.{Some, None, codes}
-use Rattle.circuit_theory.specs.declared.Mode.TheVariants.{Plain}
-use Rattle.job_circuit.specs.Reports.{CanBeRun}
-use Rattle.design_rows.specs.Texts.{two, three_cycles}
-
--- two latches in a row, without a power word and with one
-abbrev pub TwoCanBeRun : Type 0
-TwoCanBeRun = CanBeRun Plain two three_cycles None × CanBeRun Plain two three_cycles (Some (codes "10"))

@@ -1,6 +1,0 @@
-use Rattle.std.proofs.Common.{◌≡◌, length}
-use Rattle.latch_blocks.specs.Numbers.{IsNumberedBy, start_key}
-use Rattle.latch_blocks.proofs.partition.initial_blocks.Given as goal
-
-abbrev pub invariant-loop-j : goal.invariant-loop-j
-invariant-loop-j l = record { numbered : IsNumberedBy (start_key l.starts) l.table l.blocks; each : length l.blocks ≡ l.j }

@@ -1,6 +1,0 @@
-use Rattle.std.proofs.Common.{◌≡◌, length}
-use Rattle.latch_blocks.specs.Numbers.{IsNumberedBy, split_key}
-use Rattle.latch_blocks.proofs.partition.split_blocks.Given as goal
-
-abbrev pub invariant-loop-j : goal.invariant-loop-j
-invariant-loop-j l = record { numbered : IsNumberedBy (split_key l.blocks l.bits) l.table l.fine; each : length l.fine ≡ l.j }

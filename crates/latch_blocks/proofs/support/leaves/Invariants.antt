@@ -1,7 +1,0 @@
-use Rattle.std.proofs.Common.{◌≡◌, take}
-use Rattle.std.specs.List.{filter_map}
-use Rattle.latch_blocks.specs.Signals.{variable_at}
-use Rattle.latch_blocks.proofs.support.leaves.Given as goal
-
-abbrev pub invariant-loop-s : goal.invariant-loop-s
-invariant-loop-s l = l.found.items ≡ filter_map (variable_at l.net l.variables) (take l.s-index l.s-items)

@@ -1,5 +1,0 @@
-use Rattle.minimal_cut.proofs.graph_components.Ranks.{AreRankedTo}
-use Rattle.minimal_cut.proofs.graph_components.inner.are_ranked.Given as goal
-
-abbrev pub invariant-loop-s : goal.invariant-loop-s
-invariant-loop-s l = AreRankedTo l.nodes l.labels l.s

@@ -1,5 +1,0 @@
-use Rattle.minimal_cut.specs.Trying.{AreTried}
-use Rattle.minimal_cut.proofs.trial.try_all.Given as goal
-
-abbrev pub invariant-loop-k : goal.invariant-loop-k
-invariant-loop-k l = AreTried l.a.graph.now l.b.graph.now l.a.positions.now l.b.positions.now l.k l.left l.right l.places

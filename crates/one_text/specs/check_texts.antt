@@ -1,1 +1,0 @@
-pub use Rattle.check_texts.specs.Texts

@@ -1,0 +1,1 @@
+pub use Rattle.check_meaning.specs.check_texts.Texts

@@ -1,8 +1,0 @@
-pub mod Grown
-pub mod Assumed
-pub mod PairPlaces
-pub mod Sequences
-pub mod Verdicts
-pub mod Refused
-pub mod PairsUnder
-pub mod Witnesses

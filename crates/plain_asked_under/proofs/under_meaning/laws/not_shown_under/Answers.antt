@@ -1,5 +1,0 @@
-use Rattle.plain_asked_under.proofs.under_meaning.Meaning.{not_shown_under}
-use Rattle.plain_asked_under.proofs.under_meaning.laws.not_shown_under.Goals as goal
-
-pub returns : goal.returns
-returns c = not_shown_under

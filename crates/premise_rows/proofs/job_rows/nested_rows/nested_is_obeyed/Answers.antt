@@ -1,0 +1,5 @@
+use Rattle.premise_rows.proofs.job_rows.nested_rows.Nested.{nested_is_obeyed}
+use Rattle.premise_rows.proofs.job_rows.nested_rows.nested_is_obeyed.Goals as goal
+
+pub returns : goal.returns
+returns c = nested_is_obeyed

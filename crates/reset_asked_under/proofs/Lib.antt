@@ -1,9 +1,0 @@
-pub mod Grown
-pub mod Queries
-pub mod Assumed
-pub mod PairPlaces
-pub mod PairCycles
-pub mod Sequences
-pub mod Verdicts
-pub mod Refused
-pub mod CyclesUnder

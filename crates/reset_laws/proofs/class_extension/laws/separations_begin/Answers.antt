@@ -1,5 +1,0 @@
-use Rattle.reset_laws.proofs.class_extension.Keeping.{separations_begin_in_nets}
-use Rattle.reset_laws.proofs.class_extension.laws.separations_begin.Goals as goal
-
-pub returns : goal.returns
-returns c = separations_begin_in_nets

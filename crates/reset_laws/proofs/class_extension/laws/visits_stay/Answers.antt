@@ -1,5 +1,0 @@
-use Rattle.reset_laws.proofs.class_extension.Visits.{visits_stay_in_nets}
-use Rattle.reset_laws.proofs.class_extension.laws.visits_stay.Goals as goal
-
-pub returns : goal.returns
-returns c = visits_stay_in_nets

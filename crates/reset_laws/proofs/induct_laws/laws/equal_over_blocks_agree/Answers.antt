@@ -1,5 +1,0 @@
-use Rattle.reset_laws.proofs.induct_laws.Runs.{equal_over_blocks_agree}
-use Rattle.reset_laws.proofs.induct_laws.laws.equal_over_blocks_agree.Goals as goal
-
-pub returns : goal.returns
-returns c = equal_over_blocks_agree

@@ -1,5 +1,0 @@
-use Rattle.reset_laws.proofs.induct_laws.Partitions.{split_stays_coarser}
-use Rattle.reset_laws.proofs.induct_laws.laws.split_stays_coarser.Goals as goal
-
-pub returns : goal.returns
-returns c = split_stays_coarser

@@ -1,8 +1,0 @@
-//! Runs that begin with the latches' initial values: the reset form and the laws that hold of it. None of these functions does
-//! anything: each contract is a law.
-#![tactic(auto)]
-
-pub mod class_extension;
-pub mod induct_laws;
-pub mod laws;
-pub mod reset_nets;

@@ -1,1 +1,0 @@
-pub use Rattle.interface.specs.declared.pairs.SignalPair

@@ -1,0 +1,5 @@
+pub mod Inner
+pub mod SideSignals
+pub mod Gates
+pub mod circuit_theory
+pub mod flat_net

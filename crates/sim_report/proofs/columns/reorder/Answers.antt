@@ -1,9 +1,0 @@
-use Rattle.std.proofs.Common.{ℕ, false, get_or, arith}
-use Rattle.std.proofs.lemmas.Option.{slice_get_within}
-use Rattle.cycle_sim.proofs.Lists.{map_is}
-use Rattle.sim_report.proofs.columns.reorder.Goals as goal
-
-pub returns : goal.returns
-returns c =
-    map_is (λ (k : ℕ). get_or c.args.row.now k false) c.args.columns.now c.loop-i.bits (omega (arith, c.loop-i.auto.bits, c.requires.size))
-    (λ k x at. c.loop-i.invariant k x (let w = slice_get_within c.args.columns.now k x at in omega (arith, w, c.loop-i-test.false)) at)

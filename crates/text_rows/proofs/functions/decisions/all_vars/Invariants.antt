@@ -1,5 +1,0 @@
-use Rattle.std.proofs.Common.{◌≡◌, ℕ, ◌<◌, length, slice_get, Some}
-use Rattle.text_rows.proofs.functions.decisions.all_vars.Given as goal
-
-abbrev pub invariant-loop-variable : goal.invariant-loop-variable
-invariant-loop-variable l = record { count : length l.vars ≡ l.variable; each : (k : ℕ) → k < l.variable → slice_get l.vars k ≡ Some k }

@@ -1,9 +1,0 @@
-pub mod Two
-pub mod Occurring
-pub mod Entering
-pub mod Reaching
-pub mod Frames
-pub mod EachTwo
-pub mod Standing
-pub mod Separating
-pub use Rattle.unshown_pairs.proofs.class_events.Telling
