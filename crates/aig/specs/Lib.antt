@@ -9,3 +9,4 @@ pub mod Places
 pub mod sec_base
 pub mod circuit_theory
 pub mod graph_copy
+pub mod lane_eval

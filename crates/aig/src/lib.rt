@@ -7,6 +7,7 @@ mod cone_graph;
 mod covers;
 mod graph;
 pub mod graph_copy;
+pub mod lane_eval;
 mod node;
 mod node_places;
 mod values;

@@ -4,9 +4,9 @@ use Rattle.std.specs.Prelude.{Ok, Err}
 use Rattle.flat_net.specs.View.{NetView}
 use Rattle.aiger_read.specs.aiger_file.aiger_graph.net_assembly.Order.{IsOrder}
 use Rattle.aiger_read.specs.aiger_file.aiger_graph.Literals.{graph_of}
-use Rattle.aiger_records.specs.declared.error.AigerError.{AigerError}
-use Rattle.aiger_records.specs.declared.error.AigerError.TheVariants as aiger
-use Rattle.aiger_records.specs.declared.error.AigerKind.TheVariants as kind
+use Rattle.aiger_read.specs.declared.aiger_records.error.AigerError.{AigerError}
+use Rattle.aiger_read.specs.declared.aiger_records.error.AigerError.TheVariants as aiger
+use Rattle.aiger_read.specs.declared.aiger_records.error.AigerKind.TheVariants as kind
 use Rattle.aiger_read.specs.declared.aiger_file.file.AigerFile.{AigerFile}
 use Rattle.aiger_read.specs.aiger_file.Files.{IsKept, ReadsFile}
 use Rattle.aiger_read.specs.aiger_file.aiger_graph.Loops.{HasLoop, IsOrdered}

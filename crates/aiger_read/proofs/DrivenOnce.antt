@@ -8,9 +8,9 @@ use Rattle.circuit_theory.specs.Circuit.{Equation, IsInput, out_of, Gate as gate
 use Rattle.circuit_theory.proofs.Lists.{Contains-cases, Contains-map_from, Contains-map, only}
 use Rattle.base_tables.specs.Table.{AreDistinct}
 use Rattle.aiger_read.proofs.aiger_file.aiger_graph.net_assembly.DistinctLists.{distinct_nil, distinct_cons, distinct_append}
-use Rattle.aiger_records.specs.declared.record.Record.{Record}
-use Rattle.aiger_records.specs.declared.record.Record.TheVariants.{Input, Latch, Output, Gate, Packed}
-use Rattle.aiger_records.specs.Faults.{defined_by, DefinesOnce}
+use Rattle.aiger_read.specs.declared.aiger_records.record.Record.{Record}
+use Rattle.aiger_read.specs.declared.aiger_records.record.Record.TheVariants.{Input, Latch, Output, Gate, Packed}
+use Rattle.aiger_read.specs.aiger_records.Faults.{defined_by, DefinesOnce}
 use Rattle.aiger_read.specs.declared.aiger_file.symbol.Named.{Named as Symbols}
 use Rattle.aiger_read.specs.declared.aiger_file.file.AigerFile.{AigerFile}
 use Rattle.aiger_read.specs.aiger_file.aiger_graph.Circuit.{LatchLine, circuit_of_file, constants, gate_of, is_used, inverter_of, gates_of, gates_in, latches_from, input_literals, latches_in, and_cover, not_cover, zero_cover, one_cover}

@@ -13,12 +13,12 @@ use Rattle.base_tables.specs.Table.{is_among, AreDistinct}
 use Rattle.base_tables.proofs.TableLemmas.{Contains_not-is_among}
 use Rattle.aiger_read.proofs.aiger_file.aiger_graph.net_assembly.Rows.{slice_get-append}
 use Rattle.aiger_read.proofs.aiger_file.aiger_graph.net_assembly.DistinctLists.{distinct_nil, distinct_cons, distinct_append}
-use Rattle.aiger_records.specs.declared.header.Header.{Header}
-use Rattle.aiger_records.specs.declared.error.AigerKind.{AigerKind}
-use Rattle.aiger_records.specs.declared.error.AigerKind.TheVariants as kind
-use Rattle.aiger_records.specs.Headers.{guard, header_fault}
-use Rattle.aiger_records.specs.Records.{body_length}
-use Rattle.aiger_records.specs.Driven.{all_driven}
+use Rattle.aiger_read.specs.declared.aiger_records.header.Header.{Header}
+use Rattle.aiger_read.specs.declared.aiger_records.error.AigerKind.{AigerKind}
+use Rattle.aiger_read.specs.declared.aiger_records.error.AigerKind.TheVariants as kind
+use Rattle.aiger_read.specs.aiger_records.Headers.{guard, header_fault}
+use Rattle.aiger_read.specs.aiger_records.Records.{body_length}
+use Rattle.aiger_read.specs.aiger_records.Driven.{all_driven}
 use Rattle.aiger_read.specs.declared.aiger_file.symbol.Named.{Named}
 use Rattle.aiger_read.specs.aiger_file.Symbols.{Symbol, symbols_of, symbol_fault, count_of, is_bad_byte, is_bad_name}
 use Rattle.aiger_read.specs.aiger_file.Names.{key_of, name_beside, name_of, names_from, repeats}

@@ -16,8 +16,8 @@ use Rattle.flat_net.specs.declared.signals.Signal.{Signal}
 use Rattle.flat_net.specs.declared.parts.LatchAt.{LatchAt}
 use Rattle.flat_net.specs.View.{equation_of_latch, start_of as net_start}
 use Rattle.aiger_read.specs.aiger_file.aiger_graph.net_assembly.Shown.{with_nexts}
-use Rattle.aiger_records.specs.declared.record.Record.{Record}
-use Rattle.aiger_records.specs.Faults.{defined_by}
+use Rattle.aiger_read.specs.declared.aiger_records.record.Record.{Record}
+use Rattle.aiger_read.specs.aiger_records.Faults.{defined_by}
 use Rattle.aiger_read.specs.declared.aiger_file.symbol.Named.{Named as Symbols}
 use Rattle.aiger_read.specs.aiger_file.Names.{name_of}
 use Rattle.aiger_read.specs.aiger_file.aiger_graph.Circuit.{LatchLine, is_used, ports_from, latches_from, start_of}

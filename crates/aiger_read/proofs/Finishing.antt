@@ -29,7 +29,7 @@ use Rattle.aiger_read.specs.aiger_file.aiger_graph.net_assembly.Assembled.{IsAss
 use Rattle.aiger_read.specs.aiger_file.aiger_graph.net_assembly.Shown.{with_nexts}
 use Rattle.aiger_read.proofs.aiger_file.aiger_graph.net_assembly.AssembledRuns.{assembled_is_flattened}
 use Rattle.aiger_read.proofs.aiger_file.aiger_graph.net_assembly.DistinctLists.{Contains-kept}
-use Rattle.aiger_records.specs.declared.record.Record.TheVariants.{Latch, Output}
+use Rattle.aiger_read.specs.declared.aiger_records.record.Record.TheVariants.{Latch, Output}
 use Rattle.aiger_read.specs.declared.aiger_file.file.AigerFile.{AigerFile}
 use Rattle.aiger_read.specs.aiger_file.aiger_graph.Circuit.{LatchLine, circuit_of_file, constants, gates_in, latches_from, input_literals, output_literals, latches_in, start_of, zero_cover, one_cover}
 use Rattle.aiger_read.specs.aiger_file.aiger_graph.Literals.{reads_in, gate_at, cover_by}

@@ -13,11 +13,11 @@ use Rattle.base_tables.specs.Table.{AreDistinct}
 use Rattle.base_tables.proofs.TableLemmas.{take-push}
 use Rattle.aiger_read.proofs.aiger_file.aiger_graph.net_assembly.DistinctLists.{distinct_nil, distinct_cons, distinct_append, distinct_filter, Contains-kept}
 use Rattle.aiger_read.proofs.aiger_file.aiger_graph.net_assembly.Building.{list_all_place}
-use Rattle.aiger_records.specs.declared.record.Record.{Record}
-use Rattle.aiger_records.specs.declared.record.Record.TheVariants.{Input, Latch, Output, Gate, Packed}
-use Rattle.aiger_records.specs.Faults.{defined_by, is_literal, is_defined, DefinesOnce}
-use Rattle.aiger_records.specs.Driven.{used_by, is_driven, all_driven}
-use Rattle.aiger_records.proofs.DefinedOnce.{defined_there}
+use Rattle.aiger_read.specs.declared.aiger_records.record.Record.{Record}
+use Rattle.aiger_read.specs.declared.aiger_records.record.Record.TheVariants.{Input, Latch, Output, Gate, Packed}
+use Rattle.aiger_read.specs.aiger_records.Faults.{defined_by, is_literal, is_defined, DefinesOnce}
+use Rattle.aiger_read.specs.aiger_records.Driven.{used_by, is_driven, all_driven}
+use Rattle.aiger_read.proofs.aiger_records.DefinedOnce.{defined_there}
 use Rattle.aiger_read.specs.aiger_file.aiger_graph.Circuit.{LatchLine, is_used, input_of, output_of, latch_of, input_literals, output_literals, latches_in}
 use Rattle.aiger_read.specs.aiger_file.aiger_graph.Literals.{operands, reads_in}
 use Rattle.aiger_read.specs.SignalNames.{latch_literals}

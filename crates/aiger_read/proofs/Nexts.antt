@@ -14,9 +14,9 @@ use Rattle.flat_net.specs.Sound.{IsSound}
 use Rattle.flat_net.specs.Makes.{MakerView, next_set, with_next}
 use Rattle.aiger_read.specs.aiger_file.aiger_graph.net_assembly.Shown.{with_nexts}
 use Rattle.aiger_read.proofs.aiger_file.aiger_graph.net_assembly.Nexts.{next_more, set_more, all_set}
-use Rattle.aiger_records.specs.declared.record.Record.{Record}
-use Rattle.aiger_records.specs.declared.record.Record.TheVariants.{Output, Latch}
-use Rattle.aiger_records.specs.Driven.{used_by}
+use Rattle.aiger_read.specs.declared.aiger_records.record.Record.{Record}
+use Rattle.aiger_read.specs.declared.aiger_records.record.Record.TheVariants.{Output, Latch}
+use Rattle.aiger_read.specs.aiger_records.Driven.{used_by}
 use Rattle.aiger_read.specs.declared.aiger_file.symbol.Named.{Named}
 use Rattle.aiger_read.specs.aiger_file.Names.{name_of}
 use Rattle.aiger_read.specs.declared.aiger_file.file.AigerFile.{AigerFile}

@@ -4,17 +4,17 @@ use Rattle.std.specs.Prelude.{option_and_then, option_map}
 use Rattle.std.specs.List.{filter_map, cons_option}
 use Rattle.std.proofs.lemmas.Bool.{ltb-true, ltb-false}
 use Rattle.std.proofs.lemmas.Option.{none-some, same_Some}
-use Rattle.aiger_records.specs.Lines.{Cut, first_line}
-use Rattle.aiger_records.specs.Numbers.{numbers, numbers_behind, words_of}
-use Rattle.aiger_records.specs.Packed.{PackedNumber, packed}
-use Rattle.aiger_records.specs.declared.header.Form.{Form}
-use Rattle.aiger_records.specs.declared.header.Form.TheVariants.{Ascii, Binary}
-use Rattle.aiger_records.specs.declared.header.Header.{Header}
-use Rattle.aiger_records.specs.declared.record.Section.{Section}
-use Rattle.aiger_records.specs.declared.record.Section.TheVariants as section
-use Rattle.aiger_records.specs.declared.record.Record.{Record}
-use Rattle.aiger_records.specs.declared.record.Record.TheVariants.{Input, Latch, Output, Gate, Packed}
-use Rattle.aiger_records.specs.Records.{Taken, listed, input_lines, body_length, section_at, section_of, left_out, line_record, cut_record, second_difference, packed_record, is_packed, record_at, gate_literal, inputs_to, implied, followed_by}
+use Rattle.aiger_read.specs.aiger_records.Lines.{Cut, first_line}
+use Rattle.aiger_read.specs.aiger_records.Numbers.{numbers, numbers_behind, words_of}
+use Rattle.aiger_read.specs.aiger_records.Packed.{PackedNumber, packed}
+use Rattle.aiger_read.specs.declared.aiger_records.header.Form.{Form}
+use Rattle.aiger_read.specs.declared.aiger_records.header.Form.TheVariants.{Ascii, Binary}
+use Rattle.aiger_read.specs.declared.aiger_records.header.Header.{Header}
+use Rattle.aiger_read.specs.declared.aiger_records.record.Section.{Section}
+use Rattle.aiger_read.specs.declared.aiger_records.record.Section.TheVariants as section
+use Rattle.aiger_read.specs.declared.aiger_records.record.Record.{Record}
+use Rattle.aiger_read.specs.declared.aiger_records.record.Record.TheVariants.{Input, Latch, Output, Gate, Packed}
+use Rattle.aiger_read.specs.aiger_records.Records.{Taken, listed, input_lines, body_length, section_at, section_of, left_out, line_record, cut_record, second_difference, packed_record, is_packed, record_at, gate_literal, inputs_to, implied, followed_by}
 use Rattle.aiger_read.specs.declared.aiger_file.file.AigerFile.{AigerFile}
 use Rattle.aiger_read.specs.aiger_file.Reading.{body_with, body_from, body_of, those_there, file_with, Headed, headed, spelled}
 use Rattle.aiger_read.specs.aiger_file.aiger_graph.Circuit.{LatchLine, input_of, output_of, latch_of, input_literals, output_literals, latches_in}

@@ -11,7 +11,7 @@ use Rattle.flat_net.specs.declared.parts.Gate.{Gate as NetGate}
 use Rattle.flat_net.specs.declared.parts.LatchAt.{LatchAt}
 use Rattle.flat_net.specs.View.{NetView, named, equation_of_gate}
 use Rattle.aiger_read.specs.aiger_file.aiger_graph.net_assembly.Order.{IsOrder}
-use Rattle.aiger_records.specs.Driven.{all_driven}
+use Rattle.aiger_read.specs.aiger_records.Driven.{all_driven}
 use Rattle.aiger_read.specs.declared.aiger_file.symbol.Named.{Named}
 use Rattle.aiger_read.specs.aiger_file.Names.{name_of}
 use Rattle.aiger_read.specs.aiger_file.aiger_graph.Circuit.{LatchLine, circuit_of_file, ports_from, input_literals, latches_in}

@@ -11,13 +11,13 @@ use Rattle.flat_net.specs.declared.parts.LatchAt.{LatchAt}
 use Rattle.flat_net.specs.View.{NetView, circuit_of}
 use Rattle.flat_net.specs.Sound.{IsSound}
 use Rattle.flat_net.specs.Comparable.{IsComparable}
-use Rattle.aiger_records.specs.declared.header.Form.TheVariants.{Ascii}
-use Rattle.aiger_records.specs.declared.error.AigerError.{AigerError}
-use Rattle.aiger_records.specs.declared.error.AigerError.TheVariants as aiger
-use Rattle.aiger_records.specs.declared.error.AigerKind.{AigerKind}
-use Rattle.aiger_records.specs.declared.error.AigerKind.TheVariants as kind
-use Rattle.aiger_records.specs.Headers.{header_of}
-use Rattle.aiger_records.specs.Records.{record_at}
+use Rattle.aiger_read.specs.declared.aiger_records.header.Form.TheVariants.{Ascii}
+use Rattle.aiger_read.specs.declared.aiger_records.error.AigerError.{AigerError}
+use Rattle.aiger_read.specs.declared.aiger_records.error.AigerError.TheVariants as aiger
+use Rattle.aiger_read.specs.declared.aiger_records.error.AigerKind.{AigerKind}
+use Rattle.aiger_read.specs.declared.aiger_records.error.AigerKind.TheVariants as kind
+use Rattle.aiger_read.specs.aiger_records.Headers.{header_of}
+use Rattle.aiger_read.specs.aiger_records.Records.{record_at}
 use Rattle.aiger_read.specs.aiger_file.Symbols.{symbol_of}
 use Rattle.aiger_read.specs.declared.aiger_file.file.AigerFile.{AigerFile}
 use Rattle.aiger_read.specs.aiger_file.Reading.{spelled, at, body_of}

@@ -4,7 +4,7 @@ use Rattle.std.specs.Fmt.{decimal, digits}
 use Rattle.circuit_theory.specs.Circuit.{Named as Port}
 use Rattle.sec_base.specs.declared.basics.Init.{Init}
 use Rattle.sec_base.specs.declared.basics.Init.TheVariants as init
-use Rattle.aiger_records.specs.declared.record.Record.{Record}
+use Rattle.aiger_read.specs.declared.aiger_records.record.Record.{Record}
 use Rattle.aiger_read.specs.aiger_file.aiger_graph.Circuit.{LatchLine, ports_from, input_literals, latches_in}
 use Rattle.aiger_read.specs.declared.aiger_file.file.AigerFile.{AigerFile}
 

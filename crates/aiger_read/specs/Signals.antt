@@ -2,7 +2,7 @@
 use Rattle.std.specs.Prelude.{ℕ, ◌==◌, nat_lt, ◌||◌, Bool, if◌then◌else◌, List, [], ◌∷◌, ◌++◌, length, slice_index_or}
 use Rattle.std.specs.List.{filter}
 use Rattle.circuit_theory.specs.Cover.{Cover}
-use Rattle.aiger_records.specs.declared.record.Record.{Record}
+use Rattle.aiger_read.specs.declared.aiger_records.record.Record.{Record}
 use Rattle.aiger_read.specs.aiger_file.aiger_graph.Circuit.{input_literals, and_cover, not_cover, zero_cover, one_cover}
 use Rattle.aiger_read.specs.aiger_file.aiger_graph.Literals.{reads_in}
 use Rattle.aiger_read.specs.SignalNames.{latch_literals}

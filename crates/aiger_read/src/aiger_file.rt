@@ -8,7 +8,7 @@ mod naming;
 mod reader;
 mod symbol;
 
-pub use aiger_records::{AigerError, AigerKind};
+pub use crate::aiger_records::{AigerError, AigerKind};
 pub use file::AigerFile;
 pub use reader::read_file;
 pub use symbol::{Named, Symbol, is_end, symbol_of};

@@ -6,9 +6,9 @@ ghost use Rattle.aiger_read.specs.aiger_file.aiger_graph.Circuit.{latches_in, ou
 ghost use Rattle.aiger_read.specs.Made.{IsPlan, IsMade, HasOutputs, nexts_of};
 ghost use Rattle.aiger_read.specs.Nets.{IsNetOf};
 
+use crate::aiger_records::Record;
 use crate::assembly::Assembly;
 use crate::plan::Plan;
-use aiger_records::Record;
 use flat_net::{Net, NetMaker};
 use sec_base::NoMemory;
 use std::alloc::Global;

@@ -7,10 +7,10 @@ ghost use Rattle.aiger_read.specs.Signals.{is_gate};
 ghost use Rattle.aiger_read.specs.SignalNames.{init_of};
 ghost use Rattle.aiger_read.specs.Made.{IsPlan, IsMade, HasGates, HasOutputs};
 
+use crate::aiger_records::Record;
 use crate::assembly::{Assembly, gate_name};
 use crate::covers::cover_number;
 use crate::plan::Plan;
-use aiger_records::Record;
 use sec_base::{Init, NoMemory};
 use std::alloc::Global;
 

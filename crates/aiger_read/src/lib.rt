@@ -4,6 +4,7 @@
 #![tactic(auto)]
 
 pub mod aiger_file;
+pub mod aiger_records;
 mod assembly;
 mod covers;
 mod finish;

@@ -9,13 +9,13 @@ use Rattle.circuit_laws.proofs.Weights.{one_weight}
 use Rattle.flat_net.specs.View.{NetView, circuit_of}
 use Rattle.aig.specs.declared.node.Node.{Node}
 use Rattle.pair_decide.specs.declared.query.Query.{Query}
-use Rattle.unfold_places.specs.Reach.{Adds}
-use Rattle.unfold_places.specs.declared.signal_function.Unfolded.{Unfolded}
-use Rattle.unfold_places.proofs.Lists.{adds_at, adds_length}
-use Rattle.unfold_places.proofs.Zips.{zip_left}
-use Rattle.shift_variables.specs.Variables.{variable_of}
-use Rattle.shift_variables.specs.query_places.Places.{place_of, AreGrouped, ComesFirst}
-use Rattle.shift_variables.proofs.query_places.Grouped.{variables_are_grouped}
+use Rattle.cbf_unfold.specs.unfold_places.Reach.{Adds}
+use Rattle.cbf_unfold.specs.declared.unfold_places.signal_function.Unfolded.{Unfolded}
+use Rattle.cbf_unfold.proofs.unfold_places.Lists.{adds_at, adds_length}
+use Rattle.cbf_unfold.proofs.unfold_places.Zips.{zip_left}
+use Rattle.cbf_unfold.specs.shift_variables.Variables.{variable_of}
+use Rattle.cbf_unfold.specs.shift_variables.query_places.Places.{place_of, AreGrouped, ComesFirst}
+use Rattle.cbf_unfold.proofs.shift_variables.query_places.Grouped.{variables_are_grouped}
 use Rattle.obligations.specs.declared.obligation.Obligation.{Obligation}
 use Rattle.assume_laws.specs.Assume.{IsAssumption}
 use Rattle.assume_laws.specs.assume_shape.Shape.{assumption_of}

@@ -12,12 +12,12 @@ use Rattle.aig.specs.declared.node.Node.TheVariants.{Input}
 use Rattle.aig.specs.Cone.{IsReached}
 use Rattle.aig.specs.Values.{value}
 use Rattle.pair_decide.specs.declared.query.Query.{Query}
-use Rattle.unfold_places.specs.declared.signal_function.Unfolded.{Unfolded}
-use Rattle.unfold_places.specs.Growing.{IsNumberOf, TakesBits}
-use Rattle.unfold_places.proofs.Zips.{zip_left}
-use Rattle.shift_variables.specs.Variables.{variable_of, variables_of}
-use Rattle.shift_variables.proofs.Reading.{pair_is}
-use Rattle.shift_variables.specs.query_places.Places.{place_of}
+use Rattle.cbf_unfold.specs.declared.unfold_places.signal_function.Unfolded.{Unfolded}
+use Rattle.cbf_unfold.specs.unfold_places.Growing.{IsNumberOf, TakesBits}
+use Rattle.cbf_unfold.proofs.unfold_places.Zips.{zip_left}
+use Rattle.cbf_unfold.specs.shift_variables.Variables.{variable_of, variables_of}
+use Rattle.cbf_unfold.proofs.shift_variables.Reading.{pair_is}
+use Rattle.cbf_unfold.specs.shift_variables.query_places.Places.{place_of}
 use Rattle.assume_laws.specs.Assume.{Assumption, IsAssumption, RowMeets, PlaceUnfolds}
 use Rattle.assume_laws.specs.assume_shape.Shape.{assumption_of}
 use Rattle.assume_queries.proofs.assume_functions.Assumed.{assumed_meets}

@@ -11,13 +11,13 @@ use Rattle.circuit_theory.proofs.Sums.{AllPairs-head, AllPairs-tail}
 use Rattle.flat_net.specs.View.{NetView, circuit_of}
 use Rattle.aig.specs.declared.node.Node.{Node}
 use Rattle.pair_decide.specs.declared.query.Query.{Query}
-use Rattle.unfold_places.specs.declared.signal_function.Unfolded.{Unfolded}
-use Rattle.unfold_places.specs.Growing.{IsNumberOf}
-use Rattle.unfold_places.proofs.Lists.{pairs_at}
+use Rattle.cbf_unfold.specs.declared.unfold_places.signal_function.Unfolded.{Unfolded}
+use Rattle.cbf_unfold.specs.unfold_places.Growing.{IsNumberOf}
+use Rattle.cbf_unfold.proofs.unfold_places.Lists.{pairs_at}
 use Rattle.signal_graph.proofs.Lists.{AllPairs-from_at}
-use Rattle.shift_variables.specs.Variables.{variable_of}
-use Rattle.shift_variables.proofs.Reading.{pair_is}
-use Rattle.shift_variables.specs.query_places.Places.{place_of, ComesFirst}
+use Rattle.cbf_unfold.specs.shift_variables.Variables.{variable_of}
+use Rattle.cbf_unfold.proofs.shift_variables.Reading.{pair_is}
+use Rattle.cbf_unfold.specs.shift_variables.query_places.Places.{place_of, ComesFirst}
 use Rattle.assume_laws.proofs.Meeting.{leaf_at}
 use Rattle.assume_queries.specs.assume_functions.Functions.{IsAssumedAt}
 use Rattle.assume_queries.specs.assume_functions.assume_places.Gathered.{place_at}

@@ -1,7 +1,7 @@
 -- Some of several functions, by their numbers.
 use Rattle.std.specs.Prelude.{ℕ, List, [], ◌∷◌, ◌++◌, map, slice_index_or}
 use Rattle.aig.specs.declared.node.Lit.{Lit}
-use Rattle.unfold_places.specs.declared.signal_function.Unfolded.{Unfolded}
+use Rattle.cbf_unfold.specs.declared.unfold_places.signal_function.Unfolded.{Unfolded}
 
 -- the function with the number, and the constant 0 where there is none
 abbrev pub function_at : List Unfolded → ℕ → Unfolded

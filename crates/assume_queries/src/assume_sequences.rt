@@ -8,6 +8,6 @@ mod fill;
 mod premise;
 
 pub use crate::assume_functions::{OwnFunction, own_function};
+pub use cbf_unfold::shift_variables::rows_of;
 pub use fill::{fill_cycles, fill_shifts};
 pub use premise::Premise;
-pub use shift_variables::rows_of;

@@ -4,7 +4,7 @@ ghost use Rattle.std.specs.Prelude.{◌≡◌, ℕ, List, ◌+◌, ◌*◌, ◌^
 ghost use Rattle.std.specs.List.{AllZip, sum_by};
 ghost use Rattle.flat_net.specs.View.{NetView};
 ghost use Rattle.aig.specs.Graph.{Grows};
-ghost use Rattle.unfold_places.specs.Reach.{Adds};
+ghost use Rattle.cbf_unfold.specs.unfold_places.Reach.{Adds};
 ghost use Rattle.pair_decide.specs.declared.query.Query.{Query};
 ghost use Rattle.obligations.specs.Asked.{queries_of};
 ghost use Rattle.assume_laws.specs.Assume.{IsAssumption};
@@ -23,9 +23,9 @@ use crate::assume_functions::assume_places::{
 use crate::query::query_under;
 use aig::Aig;
 use base_tables::PlaceTable;
+use cbf_unfold::unfold_places::Unfolded;
 use sec_base::{Ids, MAX_WEIGHT, NoMemory};
 use std::alloc::Global;
-use unfold_places::Unfolded;
 
 /// Why nothing is asked under an assumption.
 #[derive(Drop)]

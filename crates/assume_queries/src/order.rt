@@ -5,9 +5,9 @@ ghost use Rattle.assume_queries.specs.assume_answers.Order.{AreOrdered, IsOrdere
 
 use crate::assume_answers::VariableOrder;
 use base_tables::PlaceTable;
+use cbf_unfold::shift_variables::cycle_variables::merge_cycles;
+use cbf_unfold::shift_variables::merge_variables;
 use sec_base::{Ids, NoMemory};
-use shift_variables::cycle_variables::merge_cycles;
-use shift_variables::merge_variables;
 use std::alloc::Global;
 
 /// The variables that one of both lists has, in this order. Each list is in it.

@@ -4,9 +4,9 @@ ghost use Rattle.std.specs.Prelude.{◌≡◌, ◌<◌, length, All, IfOk};
 ghost use Rattle.assume_queries.specs.Parts.{literals_at, variables_at};
 
 use aig::Lit;
+use cbf_unfold::unfold_places::Unfolded;
 use sec_base::NoMemory;
 use std::alloc::Global;
-use unfold_places::Unfolded;
 
 /// The literals of the functions with these numbers.
 pub(crate) fn literals(

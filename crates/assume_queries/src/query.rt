@@ -12,10 +12,10 @@ use crate::order::merged;
 use crate::parts::{literals, variables};
 use aig::Aig;
 use base_tables::PlaceTable;
+use cbf_unfold::unfold_places::Unfolded;
 use pair_decide::Query;
 use sec_base::NoMemory;
 use std::alloc::Global;
-use unfold_places::Unfolded;
 
 /// The query with the functions of these numbers as its care, and their variables among its own. After `NoMemory` the graph may have
 /// grown.

@@ -28,9 +28,14 @@ pub trait Duplicate: Drop {
 }
 
 /// A list that grows at its end. A contract sees it as the list of its items.
-#[derive(Drop)]
 pub struct Seq<T> {
     items: Vec<T>,
+}
+
+impl<T: Drop> Drop for Seq<T> {
+    fn drop(self) {
+        let Seq { items: _ } = self;
+    }
 }
 
 impl<T> Model for Seq<T> {
@@ -83,7 +88,8 @@ impl<T: Drop> Seq<T> {
     pub fn into_vec(self) -> Vec<T>
         ensures { result.items ≡ self }
     {
-        self.items
+        let Seq { items } = self;
+        items
     }
 }
 

@@ -5,7 +5,7 @@ use Rattle.std.specs.List.{Contains}
 use Rattle.std.proofs.lemmas.Option.{slice_get_within}
 use Rattle.circuit_theory.proofs.Lists.{Contains-cases}
 use Rattle.flat_net.proofs.Growth.{length-push}
-use Rattle.unfold_places.proofs.Lists.{append_cases}
+use Rattle.cbf_unfold.proofs.unfold_places.Lists.{append_cases}
 
 pub one_more : (made : List ℕ) (new : List ℕ) (k : ℕ) → new ≡ made ++ k ∷ [] → length made ≡ k → length new ≡ k + 1
 one_more made new k is size = ap length is ∙ (length-push made k ∙ ap (λ n. n + 1) size)

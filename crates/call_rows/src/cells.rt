@@ -1,7 +1,7 @@
 //! Small circuits of the slow programs.
 
+use crate::circuit_samples::cells::{Cell, depth, is_settled, read_earlier};
 use crate::words::size_of;
-use circuit_samples::cells::{Cell, depth, is_settled, read_earlier};
 use std::rt::HostRuntime;
 use text_rows::row_text::{show, show_bit, show_count, split_at};
 

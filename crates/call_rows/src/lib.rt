@@ -25,6 +25,7 @@
 mod calls;
 mod cells;
 mod checks;
+pub mod circuit_samples;
 mod circuits;
 mod formulas;
 mod latches;

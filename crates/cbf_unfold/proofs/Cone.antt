@@ -9,7 +9,7 @@ use Rattle.aig.specs.declared.node.Node.TheVariants.{Input}
 use Rattle.aig.specs.Graph.{IsGraph}
 use Rattle.aig.specs.Cone.{IsReached}
 use Rattle.cbf_unfold.specs.Unfolded.{IsUnfolded}
-pub use Rattle.unfold_places.proofs.Cone.{supports_tree, number_among, numbers_apart, numbers_differ, from_one, reached_one, constant_reaches}
+pub use Rattle.cbf_unfold.proofs.unfold_places.Cone.{supports_tree, number_among, numbers_apart, numbers_differ, from_one, reached_one, constant_reaches}
 
 pub covers_cone : (n : NetView) (order : List ℕ) (g : List Node) (places : List (ℕ × ℕ)) (s x : ℕ) (vars : List ℕ) → IsGraph g → AreDistinct places → IsUnfolded n order g places s x vars →
     AllPairs (λ u v. u ≢ v) vars × ((k v : ℕ) → IsReached g (x ∷ []) k → slice_get g k ≡ Some (Input v) → Contains vars v)

@@ -16,19 +16,19 @@ use Rattle.flat_net.specs.declared.signals.Signal.{Signal}
 use Rattle.aig.specs.declared.node.Lit.{Lit}
 use Rattle.aig.specs.declared.node.Node.{Node}
 use Rattle.aig.specs.Builds.{Builds}
-use Rattle.unfold_places.specs.Places.{Steps}
+use Rattle.cbf_unfold.specs.unfold_places.Places.{Steps}
 use Rattle.flat_net.specs.Weights.{weight_at}
-use Rattle.unfold_places.specs.Reach.{IsThere, AreUnmet, IsReach}
-use Rattle.unfold_places.specs.Walk.{IsWalk, IsTooLong}
+use Rattle.cbf_unfold.specs.unfold_places.Reach.{IsThere, AreUnmet, IsReach}
+use Rattle.cbf_unfold.specs.unfold_places.Walk.{IsWalk, IsTooLong}
 use Rattle.cbf_unfold.specs.View.{UnfolderView}
 use Rattle.cbf_unfold.specs.Unfolded.{IsNumberOf, IsUnfolded, Holds, Fits}
 use Rattle.cbf_unfold.specs.Building.{IsMet, HasRoom, IsLater, AreNumbered}
-use Rattle.unfold_places.proofs.Lists.{adds_contains}
+use Rattle.cbf_unfold.proofs.unfold_places.Lists.{adds_contains}
 use Rattle.cbf_unfold.proofs.PlaceLits.{zip_more_left}
 use Rattle.cbf_unfold.proofs.Going.{places_weigh}
 use Rattle.cbf_unfold.proofs.Walk.{reach_from, over_long}
-use Rattle.unfold_places.proofs.InputLists.{variable_of, inputs_are_variables}
-pub use Rattle.unfold_places.proofs.Growing.{zip_map}
+use Rattle.cbf_unfold.proofs.unfold_places.InputLists.{variable_of, inputs_are_variables}
+pub use Rattle.cbf_unfold.proofs.unfold_places.Growing.{zip_map}
 
 -- more outputs weigh no less
 pub over_more : (c : Circuit ℕ) (done : List ℕ) (s cap limit : ℕ) → cap ≡ limit → IsOver c (s ∷ []) cap → IsOver c (done ++ s ∷ []) limit

@@ -16,18 +16,18 @@ use Rattle.flat_net.proofs.Places.{All-at}
 use Rattle.aig.specs.declared.node.Lit.{Lit}
 use Rattle.aig.specs.declared.node.Node.{Node}
 use Rattle.aig.proofs.Growth.{Grows-refl, Grows-trans}
-use Rattle.unfold_places.specs.Places.{Steps, PlaceBefore, IsVisited}
+use Rattle.cbf_unfold.specs.unfold_places.Places.{Steps, PlaceBefore, IsVisited}
 use Rattle.flat_net.specs.Weights.{weight_at}
-use Rattle.unfold_places.specs.Reach.{IsThere, IsReach}
-use Rattle.unfold_places.specs.Planned.{IsPlanned}
+use Rattle.cbf_unfold.specs.unfold_places.Reach.{IsThere, IsReach}
+use Rattle.cbf_unfold.specs.unfold_places.Planned.{IsPlanned}
 use Rattle.cbf_unfold.specs.View.{UnfolderView}
 use Rattle.cbf_unfold.specs.Unfolded.{IsKnown, Holds}
 use Rattle.cbf_unfold.specs.Building.{IsMet, IsReady, HasRoom, HasGrown, IsLater}
-use Rattle.unfold_places.proofs.Lists.{adds_none, adds_trans, adds_push, adds_contains, append_cases, pairs_at, sum_by-map}
-use Rattle.unfold_places.proofs.Steps.{step_lower, step_within}
-use Rattle.unfold_places.proofs.InputLists.{place_apart, pairs_push}
+use Rattle.cbf_unfold.proofs.unfold_places.Lists.{adds_none, adds_trans, adds_push, adds_contains, append_cases, pairs_at, sum_by-map}
+use Rattle.cbf_unfold.proofs.unfold_places.Steps.{step_lower, step_within}
+use Rattle.cbf_unfold.proofs.unfold_places.InputLists.{place_apart, pairs_push}
 use Rattle.cbf_unfold.proofs.Known.{Any, known_later}
-use Rattle.unfold_places.proofs.Over.{over_from, weight_from}
+use Rattle.cbf_unfold.proofs.unfold_places.Over.{over_from, weight_from}
 
 abbrev Memo : Type 0
 Memo = List ((ℕ × ℕ) × Lit)

@@ -14,11 +14,11 @@ use Rattle.aig.specs.Graph.{Grows, IsLitOf}
 use Rattle.aig.specs.Rules.{IsCoverOf}
 use Rattle.aig.specs.Builds.{BuildsAll}
 use Rattle.aig.proofs.Growth.{Grows-length}
-use Rattle.unfold_places.specs.Reach.{Adds}
+use Rattle.cbf_unfold.specs.unfold_places.Reach.{Adds}
 use Rattle.cbf_unfold.specs.View.{UnfolderView}
 use Rattle.cbf_unfold.specs.Unfolded.{IsKnown, IsNumberOf, IsUnfolded, IsLiteralOf, Fits, Holds}
-use Rattle.unfold_places.proofs.Lists.{adds_at}
-pub use Rattle.unfold_places.proofs.Growing.{Any, builds_later}
+use Rattle.cbf_unfold.proofs.unfold_places.Lists.{adds_at}
+pub use Rattle.cbf_unfold.proofs.unfold_places.Growing.{Any, builds_later}
 
 pub known_later : (n : NetView) (order : List ℕ) (last : ℕ) (g h : List Node) (places more : List (ℕ × ℕ)) (p : ℕ × ℕ) (x : ℕ) → Grows g h → Adds Any places more → IsKnown n order last g places p x →
     IsKnown n order last h more p x

@@ -6,4 +6,3 @@ pub mod Finish
 pub mod Listing
 pub mod Cone
 pub mod signal_graph
-pub mod unfold_places

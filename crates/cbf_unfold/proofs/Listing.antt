@@ -16,18 +16,18 @@ use Rattle.base_tables.proofs.TableLemmas.{slice_get-take}
 use Rattle.latch_graph.proofs.Trails.{slice_get-drop}
 use Rattle.aig.specs.declared.node.Lit.{Lit}
 use Rattle.aig.specs.declared.node.Node.{Node}
-use Rattle.unfold_places.specs.Places.{PlaceBefore}
+use Rattle.cbf_unfold.specs.unfold_places.Places.{PlaceBefore}
 use Rattle.flat_net.specs.Weights.{weight_at}
-use Rattle.unfold_places.specs.Reach.{AreInputsOf}
+use Rattle.cbf_unfold.specs.unfold_places.Reach.{AreInputsOf}
 use Rattle.cbf_unfold.specs.View.{UnfolderView}
 use Rattle.cbf_unfold.specs.Unfolded.{Holds, Fits}
 use Rattle.cbf_unfold.specs.Building.{AreNumbered}
-use Rattle.unfold_places.specs.Visitors.{AreMet, AreVisitors, AreCandidates, ArePlacesAt, has_bit, with_bits}
+use Rattle.cbf_unfold.specs.unfold_places.Visitors.{AreMet, AreVisitors, AreCandidates, ArePlacesAt, has_bit, with_bits}
 use Rattle.cbf_unfold.specs.Found.{IsFound}
-use Rattle.unfold_places.specs.declared.signal_function.Unfolded.{Unfolded}
+use Rattle.cbf_unfold.specs.declared.unfold_places.signal_function.Unfolded.{Unfolded}
 use Rattle.cbf_unfold.proofs.PlaceLits.{zip_more_left}
-use Rattle.unfold_places.proofs.Zips.{zip_back}
-use Rattle.unfold_places.proofs.Candidates.{IsAt, places_differ, inputs_at}
+use Rattle.cbf_unfold.proofs.unfold_places.Zips.{zip_back}
+use Rattle.cbf_unfold.proofs.unfold_places.Candidates.{IsAt, places_differ, inputs_at}
 use Rattle.flat_net.proofs.Drivers.{weight_positive}
 use Rattle.cbf_unfold.proofs.Going.{entries_within}
 use Rattle.cbf_unfold.proofs.Finish.{input_known}

@@ -13,13 +13,13 @@ use Rattle.aig.specs.declared.node.Node.{Node}
 use Rattle.aig.specs.Graph.{Grows}
 use Rattle.cbf_unfold.specs.View.{UnfolderView, IsOrderOf}
 use Rattle.cbf_unfold.specs.Unfolded.{IsKnown}
-use Rattle.unfold_places.specs.Literals.{IsVariableLit, IsGateLit}
+use Rattle.cbf_unfold.specs.unfold_places.Literals.{IsVariableLit, IsGateLit}
 use Rattle.cbf_unfold.specs.Building.{AreKnown, IsMet, IsReady}
-use Rattle.unfold_places.proofs.Lists.{adds_none}
-pub use Rattle.unfold_places.proofs.Zips.{zip_more_left}
-pub use Rattle.unfold_places.proofs.Growing.{zip_all, grown_none, cover_within_weight, input_grown, gate_grown, grown_as}
+use Rattle.cbf_unfold.proofs.unfold_places.Lists.{adds_none}
+pub use Rattle.cbf_unfold.proofs.unfold_places.Zips.{zip_more_left}
+pub use Rattle.cbf_unfold.proofs.unfold_places.Growing.{zip_all, grown_none, cover_within_weight, input_grown, gate_grown, grown_as}
 use Rattle.flat_net.proofs.Drivers.{gate_equation_stands, latch_equation_stands}
-use Rattle.unfold_places.proofs.Steps.{latch_steps_to}
+use Rattle.cbf_unfold.proofs.unfold_places.Steps.{latch_steps_to}
 use Rattle.cbf_unfold.proofs.Known.{Any, known_later, known_input, known_latch, known_gate}
 
 module _ (u : UnfolderView) (sound : IsSound u.net) (order : IsOrderOf u.net u.order) (p : ℕ × ℕ) where

@@ -7,10 +7,10 @@ use Rattle.circuit_theory.proofs.Lists.{Contains-head, All-from_each}
 use Rattle.flat_net.specs.View.{NetView, circuit_of}
 use Rattle.flat_net.specs.Sound.{IsSound}
 use Rattle.aig.specs.declared.node.Lit.{Lit}
-use Rattle.unfold_places.specs.Places.{Steps}
-use Rattle.unfold_places.specs.Reach.{IsReach}
-use Rattle.unfold_places.specs.Walk.{Comes, IsWalk, IsTooLong}
-use Rattle.unfold_places.proofs.Over.{over_from}
+use Rattle.cbf_unfold.specs.unfold_places.Places.{Steps}
+use Rattle.cbf_unfold.specs.unfold_places.Reach.{IsReach}
+use Rattle.cbf_unfold.specs.unfold_places.Walk.{Comes, IsWalk, IsTooLong}
+use Rattle.cbf_unfold.proofs.unfold_places.Over.{over_from}
 
 -- the place is visited
 abbrev IsSeen : Circuit ℕ → ℕ → ℕ → ℕ × ℕ → Type 0

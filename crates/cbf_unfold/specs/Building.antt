@@ -5,10 +5,10 @@ use Rattle.flat_net.specs.View.{circuit_of}
 use Rattle.aig.specs.declared.node.Lit.{Lit}
 use Rattle.aig.specs.declared.node.Node.{Node}
 use Rattle.aig.specs.Graph.{Grows}
-use Rattle.unfold_places.specs.Places.{Steps, PlaceBefore, IsVisited}
-use Rattle.unfold_places.specs.Reach.{Adds, AreInputsAt}
-pub use Rattle.unfold_places.specs.Reach.{IsMet}
-pub use Rattle.unfold_places.specs.Growing.{HasGrown}
+use Rattle.cbf_unfold.specs.unfold_places.Places.{Steps, PlaceBefore, IsVisited}
+use Rattle.cbf_unfold.specs.unfold_places.Reach.{Adds, AreInputsAt}
+pub use Rattle.cbf_unfold.specs.unfold_places.Reach.{IsMet}
+pub use Rattle.cbf_unfold.specs.unfold_places.Growing.{HasGrown}
 use Rattle.cbf_unfold.specs.View.{UnfolderView}
 use Rattle.cbf_unfold.specs.Unfolded.{IsKnown}
 

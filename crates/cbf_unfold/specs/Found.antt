@@ -3,7 +3,7 @@ use Rattle.std.specs.Prelude.{ℕ, List, Contains}
 use Rattle.flat_net.specs.declared.signals.Signal.{Signal}
 use Rattle.cbf_unfold.specs.View.{UnfolderView}
 use Rattle.cbf_unfold.specs.Building.{AreNumbered}
-use Rattle.unfold_places.specs.declared.signal_function.Unfolded.{Unfolded}
+use Rattle.cbf_unfold.specs.declared.unfold_places.signal_function.Unfolded.{Unfolded}
 
 -- the signal's literal, and its variables as the table has them
 abbrev pub IsFound : UnfolderView → List (ℕ × ℕ) → Signal → Unfolded → Type 0

@@ -16,8 +16,8 @@ use Rattle.aig.specs.Graph.{IsGraph, Grows}
 use Rattle.aig.specs.Cone.{IsReached}
 use Rattle.aig.specs.Values.{value}
 use Rattle.aig.specs.Builds.{HasOneLitEach, HasTreeValues}
-use Rattle.unfold_places.specs.Reach.{Adds}
-pub use Rattle.unfold_places.specs.Growing.{TakesBits}
+use Rattle.cbf_unfold.specs.unfold_places.Reach.{Adds}
+pub use Rattle.cbf_unfold.specs.unfold_places.Growing.{TakesBits}
 use Rattle.cbf_unfold.specs.View.{UnfolderView}
 use Rattle.cbf_unfold.specs.Unfolded.{IsUnfolded, Fits}
 

@@ -4,3 +4,4 @@ pub mod Laws
 pub mod Building
 pub mod Found
 pub mod unfold_places
+pub mod shift_variables

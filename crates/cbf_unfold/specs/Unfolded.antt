@@ -10,11 +10,11 @@ use Rattle.flat_net.specs.View.{NetView, circuit_of}
 use Rattle.aig.specs.declared.node.Lit.{Lit}
 use Rattle.aig.specs.declared.node.Node.{Node}
 use Rattle.aig.specs.Builds.{Builds}
-use Rattle.unfold_places.specs.Places.{IsVisited}
+use Rattle.cbf_unfold.specs.unfold_places.Places.{IsVisited}
 use Rattle.flat_net.specs.Weights.{weight_at}
 use Rattle.cbf_unfold.specs.View.{UnfolderView}
-use Rattle.unfold_places.specs.Planned.{IsPlanned}
-pub use Rattle.unfold_places.specs.Growing.{IsNumberOf}
+use Rattle.cbf_unfold.specs.unfold_places.Planned.{IsPlanned}
+pub use Rattle.cbf_unfold.specs.unfold_places.Growing.{IsNumberOf}
 
 -- The literal is that of the signal's tree, and the variables are the tree's leaves, each once: those of a greater shift
 -- first, and of one shift by the inputs' numbers.

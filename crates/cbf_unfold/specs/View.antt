@@ -3,7 +3,7 @@ use Rattle.std.specs.Prelude.{◌≡◌, ℕ, ◌≤◌, List}
 use Rattle.sec_base.specs.declared.limits.TheConstants.{MAX_WEIGHT}
 use Rattle.flat_net.specs.View.{NetView}
 use Rattle.aig.specs.declared.node.Lit.{Lit}
-pub use Rattle.unfold_places.specs.InputOrder.{IsOrderOf}
+pub use Rattle.cbf_unfold.specs.unfold_places.InputOrder.{IsOrderOf}
 
 pub record UnfolderView : Type 0 where
   pub net : NetView

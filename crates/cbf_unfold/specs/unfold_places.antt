@@ -1,3 +1,8 @@
-pub use Rattle.unfold_places.specs.Reach
-pub use Rattle.unfold_places.specs.declared.error.UnfoldError
-pub use Rattle.unfold_places.specs.declared.signal_function.Unfolded
+pub mod Places
+pub mod Reach
+pub mod Walk
+pub mod Literals
+pub mod Planned
+pub mod InputOrder
+pub mod Visitors
+pub mod Growing

@@ -8,13 +8,15 @@ ghost use Rattle.aig.specs.declared.node.Node.{Node};
 ghost use Rattle.cbf_unfold.specs.View.{IsOrderOf, IsUnfolder};
 ghost use Rattle.cbf_unfold.specs.Unfolded.{IsUnfolded, IsLiteralOf, Fits};
 ghost use Rattle.cbf_unfold.specs.Building.{IsMet, IsLater};
-ghost use Rattle.unfold_places.specs.declared.error.UnfoldError.TheVariants as unfold_error;
+ghost use Rattle.cbf_unfold.specs.declared.unfold_places.error.UnfoldError.TheVariants as unfold_error;
 
 mod listing;
 mod literals;
 mod places;
 mod rooting;
 
+use crate::unfold_places::memo::{Memo, Place};
+use crate::unfold_places::{UnfoldError, Unfolded};
 use aig::{Aig, Lit};
 use base_tables::PlaceTable;
 use flat_net::{Net, Signal};
@@ -22,8 +24,6 @@ use latch_graph::LatchGraph;
 use sec_base::{Ids, MAX_WEIGHT, NoMemory};
 use std::alloc::Global;
 use std::marker::Model;
-use unfold_places::memo::{Memo, Place};
-use unfold_places::{UnfoldError, Unfolded};
 
 /// Unfolds signals of one net. Each place, a signal some cycles ago, is unfolded once, whatever reads it.
 pub struct Unfolder<'a> {

@@ -7,23 +7,23 @@ use Rattle.flat_net.specs.View.{NetView}
 use Rattle.sec_setup.specs.declared.ports.pairs.SignalPair.{SignalPair}
 use Rattle.sec_setup.specs.ports.Pairs.{places_of}
 use Rattle.sec_base.specs.declared.settings.Settings.{Settings}
-use Rattle.outcome.specs.declared.verdict.LimitAt.{LimitAt}
-use Rattle.outcome.specs.declared.verdict.Outcome.{Outcome}
+use Rattle.obligations.specs.declared.outcome.verdict.LimitAt.{LimitAt}
+use Rattle.obligations.specs.declared.outcome.verdict.Outcome.{Outcome}
 use Rattle.sec_setup.specs.Matching.{InterfacesMatch, InterfaceFails as NoMatch}
 use Rattle.sec_setup.specs.declared.error.SetupError.{SetupError}
 use Rattle.sec_setup.specs.declared.error.SetupError.TheVariants as unset
-use Rattle.under_base.specs.compare_base.Compared.{refusal_of}
+use Rattle.plain_check.specs.under_base.compare_base.Compared.{refusal_of}
 use Rattle.event_nodes.specs.View.{EventCircuitView}
-use Rattle.event_meaning.specs.event_names.event_fits.Circuits.{AreNets}
-use Rattle.event_meaning.specs.event_names.event_fits.Compared.{ComparedInEvents, IsComparedInEvents}
-use Rattle.event_meaning.specs.event_names.event_fits.Fitting.{EventOutcomeFits, HasCounts, IsComparedByPairs, IsUnclassed, IsUnrecovered}
+use Rattle.event_setup.specs.event_meaning.event_names.event_fits.Circuits.{AreNets}
+use Rattle.event_setup.specs.event_meaning.event_names.event_fits.Compared.{ComparedInEvents, IsComparedInEvents}
+use Rattle.event_setup.specs.event_meaning.event_names.event_fits.Fitting.{EventOutcomeFits, HasCounts, IsComparedByPairs, IsUnclassed, IsUnrecovered}
 use Rattle.event_check.specs.event_answers.Reached.{AreClassed, StopsAtLimit}
-use Rattle.event_meaning.specs.event_names.event_fits.Totals.{IsWithinWith}
+use Rattle.event_setup.specs.event_meaning.event_names.event_fits.Totals.{IsWithinWith}
 use Rattle.event_check.specs.declared.event_answers.outcomes.Found.{Found}
 use Rattle.event_check.specs.declared.event_answers.reaching.Classed.{Classed}
 use Rattle.event_check.proofs.event_answers.Told.{limit_at, named, outcome_by}
-use Rattle.event_meaning.proofs.Saying.{cut_outcomes, different_outcomes, equal_outcomes}
-use Rattle.event_meaning.proofs.Framing.{unshown_outcomes}
+use Rattle.event_setup.proofs.event_meaning.Saying.{cut_outcomes, different_outcomes, equal_outcomes}
+use Rattle.event_setup.proofs.event_meaning.Framing.{unshown_outcomes}
 use Rattle.event_check.specs.Pairs.{ArePairsFound}
 
 -- the interfaces don't match

@@ -5,4 +5,4 @@ pub mod Told
 pub mod Agreeing
 pub mod Comparing
 pub mod Whole
-pub use Rattle.event_meaning.proofs.event_names.Naming
+pub use Rattle.event_setup.proofs.event_meaning.event_names.Naming

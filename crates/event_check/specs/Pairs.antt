@@ -4,10 +4,10 @@ use Rattle.event_nodes.specs.View.{EventCircuitView}
 use Rattle.event_check.specs.event_answers.Findings.{FindingsFit}
 use Rattle.event_check.specs.event_answers.EventFindings.{EventFindings}
 use Rattle.event_check.specs.event_answers.EventPairs.{EventPairs}
-use Rattle.event_meaning.specs.event_meaning_under.CompareError.{CompareError}
+use Rattle.event_setup.specs.event_meaning.event_meaning_under.CompareError.{CompareError}
 use Rattle.event_check.specs.event_answers.Askable.{IsAskedBy}
 use Rattle.event_check.specs.event_answers.Finding.{AreNotUnfolded, AreUnfolded}
-use Rattle.event_meaning.specs.event_names.event_fits.Named.{NamesVerdict}
+use Rattle.event_setup.specs.event_meaning.event_names.event_fits.Named.{NamesVerdict}
 use Rattle.event_check.specs.event_answers.Names.{Names}
 use Rattle.event_check.specs.declared.event_answers.outcomes.Found.{Found}
 use Rattle.event_check.specs.declared.event_answers.reaching.Asked.{Asked}

@@ -2,4 +2,4 @@ pub mod Circuits
 pub mod Refusals
 pub mod event_names_under
 pub mod event_answers_under
-pub use Rattle.event_meaning.specs.event_meaning_under.Answered
+pub use Rattle.event_setup.specs.event_meaning.event_meaning_under.Answered

@@ -5,14 +5,14 @@ ghost use Rattle.circuit_theory.specs.Interface.{shared_inputs};
 ghost use Rattle.flat_net.specs.Comparable.{IsComparable};
 ghost use Rattle.flat_net.specs.View.{ports_of};
 ghost use Rattle.sec_setup.specs.Matching.{InterfacesMatch};
-ghost use Rattle.event_meaning.specs.event_names.event_fits.Compared.{ComparedInEvents};
+ghost use Rattle.event_setup.specs.event_meaning.event_names.event_fits.Compared.{ComparedInEvents};
 ghost use Rattle.event_check.specs.event_answers.Reached.{AreClassed};
 
 use crate::event_answers::{Classed, Reached, limit_found, outcome_of, reach_pairs};
 use crate::pairs::compare_pairs;
-use event_meaning::CompareError;
+use event_setup::event_meaning::CompareError;
 use flat_net::Net;
-use outcome::{Outcome, Settings};
+use obligations::outcome::{Outcome, Settings};
 use sec_base::{MAX_CONFLICTS, Words};
 use sec_setup::shared_names;
 use std::alloc::Global;

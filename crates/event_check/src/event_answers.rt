@@ -8,7 +8,7 @@ mod reaching;
 ghost use Rattle.event_check.specs.event_answers.Laws.{EqualSetupsAgree, SetupsAreCompared, UncutSetupsAreWhole};
 
 pub use event_comparison::{EventFindings, EventFormError, EventPairs, Separated, compare_events};
-pub use event_meaning::event_names::Names;
+pub use event_setup::event_meaning::event_names::Names;
 pub use outcomes::{Found, limit_found, named_findings, outcome_of};
 pub use reaching::{Asked, Classed, Reached, reach_pairs};
 

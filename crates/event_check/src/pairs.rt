@@ -10,7 +10,7 @@ ghost use Rattle.event_check.specs.Pairs.{FindsPairs};
 use crate::event_answers::{
     Asked, EventFormError, EventPairs, Found, Names, Separated, compare_events, named_findings,
 };
-use event_meaning::CompareError;
+use event_setup::event_meaning::CompareError;
 use sec_base::MAX_CONFLICTS;
 use std::alloc::Global;
 

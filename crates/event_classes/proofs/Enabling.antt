@@ -22,12 +22,12 @@ use Rattle.edbf_unfold.specs.event_literals.event_walk.Walk.{IsCounting, HasCoun
 use Rattle.event_nodes.specs.Visited.{CounterView}
 use Rattle.std.proofs.lemmas.Option.{slice_get_within}
 use Rattle.circuit_theory.specs.Joined.{Either, Left, Right}
-use Rattle.event_functions.specs.class_totals.Totals.{HaveCounted}
-use Rattle.event_functions.proofs.class_totals.Going.{totals_go_on}
+use Rattle.event_classes.specs.event_functions.class_totals.Totals.{HaveCounted}
+use Rattle.event_classes.proofs.event_functions.class_totals.Going.{totals_go_on}
 use Rattle.class_search.specs.event_order.Order.{IsTagOf, place_of}
-use Rattle.event_functions.specs.class_totals.EnableFunctions.{IsEnableFunctionOf}
-use Rattle.event_functions.proofs.Covering.{two_roots, care_supports}
-use Rattle.event_functions.proofs.class_totals.EnableCovering.{own_enable_supports}
+use Rattle.event_classes.specs.event_functions.class_totals.EnableFunctions.{IsEnableFunctionOf}
+use Rattle.event_classes.proofs.event_functions.Covering.{two_roots, care_supports}
+use Rattle.event_classes.proofs.event_functions.class_totals.EnableCovering.{own_enable_supports}
 use Rattle.class_search.specs.declared.compare.Enable.{Enable}
 use Rattle.class_search.specs.Comparing.{IsReadyEnable}
 use Rattle.edbf_unfold.specs.class_queries.Enables.{both_of, class_map, IsEnableFunction}

@@ -8,5 +8,4 @@ pub mod Refusing
 pub mod WholeMap
 pub mod Limiting
 pub mod Stopping
-pub use Rattle.event_functions.proofs.class_totals.Nodes
 pub use Rattle.class_search.proofs.class_separations.Variables

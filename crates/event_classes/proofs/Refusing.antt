@@ -14,9 +14,9 @@ use Rattle.event_nodes.specs.Nodes.{EventGraphView, IsEventGraph}
 use Rattle.event_nodes.specs.View.{EventCircuitView, Enabled}
 use Rattle.event_nodes.specs.Visited.{CounterView}
 use Rattle.edbf_unfold.specs.event_literals.event_walk.Walk.{IsCounting, enable_start}
-use Rattle.event_functions.specs.Refused.{IsRefusal}
-use Rattle.event_functions.specs.class_totals.Totals.{HaveCounted, ReachTooMany, ReachFew, WeighTooMuch}
-use Rattle.event_functions.proofs.class_totals.Over.{many_nodes_are_over, heavy_is_over, few_nodes_are_within}
+use Rattle.event_classes.specs.event_functions.Refused.{IsRefusal}
+use Rattle.event_classes.specs.event_functions.class_totals.Totals.{HaveCounted, ReachTooMany, ReachFew, WeighTooMuch}
+use Rattle.event_classes.proofs.event_functions.class_totals.Over.{many_nodes_are_over, heavy_is_over, few_nodes_are_within}
 use Rattle.event_classes.proofs.Enabling.{parents_of}
 use Rattle.event_classes.proofs.Setting.{latch_there}
 

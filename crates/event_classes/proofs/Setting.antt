@@ -25,8 +25,8 @@ use Rattle.class_search.proofs.class_fits.class_joining.Classes.{class_kept}
 use Rattle.class_search.proofs.class_fits.class_joining.Giving.{class_given}
 use Rattle.circuit_laws.specs.reset_laws.class_extension.Laws.{IsNextGiven}
 use Rattle.class_search.specs.class_separations.Apart.{AreToldApart}
-use Rattle.event_functions.specs.class_totals.Totals.{HaveCounted}
-use Rattle.event_functions.proofs.class_totals.Going.{totals_stay}
+use Rattle.event_classes.specs.event_functions.class_totals.Totals.{HaveCounted}
+use Rattle.event_classes.proofs.event_functions.class_totals.Going.{totals_stay}
 use Rattle.flat_net.proofs.Nets.{sound_is_net}
 use Rattle.event_classes.specs.declared.map.ClassMap.{ClassMap}
 use Rattle.event_classes.specs.Named.{AreNamed}

@@ -25,8 +25,8 @@ use Rattle.event_nodes.specs.View.{EventCircuitView, Enabled}
 use Rattle.class_search.specs.event_order.Order.{place_of, IsTagOf, IsTagOrder}
 use Rattle.edbf_unfold.specs.class_queries.Enables.{both_of, class_map}
 use Rattle.class_search.proofs.class_fits.class_joining.Bounds.{depths_of_both}
-use Rattle.event_functions.specs.class_totals.Totals.{AreWithin}
-use Rattle.event_functions.proofs.class_totals.Over.{totals_are_within}
+use Rattle.event_classes.specs.event_functions.class_totals.Totals.{AreWithin}
+use Rattle.event_classes.proofs.event_functions.class_totals.Over.{totals_are_within}
 use Rattle.event_classes.specs.declared.map.ClassMap.{ClassMap}
 use Rattle.event_classes.specs.Limits.{IsLimitQuery}
 use Rattle.event_classes.specs.Map.{IsWithin, IsMade, IsMadeTo, Counts, FitsIn, places_in, taken_of, with_next}

@@ -14,10 +14,10 @@ use Rattle.flat_net.specs.View.{NetView, circuit_of}
 use Rattle.sec_base.specs.declared.basics.Tag.{Tag}
 use Rattle.event_nodes.specs.Nodes.{EventGraphView, IsEventGraph}
 use Rattle.base_tables.specs.Table.{AreDistinct}
-use Rattle.event_functions.specs.class_totals.Totals.{HaveCounted}
-use Rattle.event_functions.specs.class_totals.Laws.{nothing}
-use Rattle.event_functions.proofs.class_totals.Going.{totals_begin}
-use Rattle.event_functions.proofs.class_totals.Over.{totals_are_within}
+use Rattle.event_classes.specs.event_functions.class_totals.Totals.{HaveCounted}
+use Rattle.event_classes.specs.event_functions.class_totals.Laws.{nothing}
+use Rattle.event_classes.proofs.event_functions.class_totals.Going.{totals_begin}
+use Rattle.event_classes.proofs.event_functions.class_totals.Over.{totals_are_within}
 use Rattle.event_nodes.specs.View.{EventCircuitView, IsEventCircuit, Enabled}
 use Rattle.event_nodes.specs.Visited.{CounterView, IsWeighed}
 use Rattle.class_search.specs.event_order.Order.{place_of, IsTagOf, IsTagOrder}

@@ -14,7 +14,7 @@ use Rattle.event_nodes.specs.Nodes.{EventGraphView}
 use Rattle.event_nodes.specs.View.{EventCircuitView}
 use Rattle.event_nodes.specs.Visited.{IsWeighed}
 use Rattle.class_search.specs.event_order.Order.{place_of}
-use Rattle.event_functions.specs.class_totals.EnableFunctions.{IsEnableFunctionOf}
+use Rattle.event_classes.specs.event_functions.class_totals.EnableFunctions.{IsEnableFunctionOf}
 use Rattle.class_search.specs.declared.compare.Enable.{Enable}
 use Rattle.edbf_unfold.specs.class_queries.Enables.{both_of, IsEnableFunction}
 use Rattle.class_search.specs.class_fits.class_joining.Joining.{with_class}
@@ -27,7 +27,7 @@ use Rattle.class_search.specs.declared.told.Difference.{Difference}
 use Rattle.class_search.specs.declared.told.Told.{Told}
 use Rattle.class_search.specs.class_separations.Apart.{AreToldApart, AreToldOf}
 use Rattle.class_search.specs.class_separations.Telling.{AreToldIn}
-use Rattle.event_functions.specs.class_totals.Totals.{HaveCounted, AreWithin}
+use Rattle.event_classes.specs.event_functions.class_totals.Totals.{HaveCounted, AreWithin}
 use Rattle.event_classes.specs.Named.{AreNamed}
 use Rattle.class_search.specs.class_fits.Stand.{IsStand}
 

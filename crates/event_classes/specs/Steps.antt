@@ -9,7 +9,7 @@ use Rattle.sec_base.specs.declared.basics.Tag.{Tag}
 use Rattle.event_nodes.specs.View.{EventCircuitView, Enabled}
 use Rattle.class_search.specs.event_order.Order.{IsTagOf}
 use Rattle.edbf_unfold.specs.class_queries.Enables.{both_of}
-use Rattle.event_functions.specs.class_totals.Totals.{AreWithin, ReachTooMany, ReachFew, WeighTooMuch}
+use Rattle.event_classes.specs.event_functions.class_totals.Totals.{AreWithin, ReachTooMany, ReachFew, WeighTooMuch}
 use Rattle.class_search.specs.pair_decide.Proof.{Proof}
 use Rattle.event_classes.specs.declared.map.ClassMap.{ClassMap}
 use Rattle.event_classes.specs.Limits.{IsLimitQuery}

@@ -8,7 +8,7 @@ ghost use Rattle.edbf_unfold.specs.event_literals.event_walk.Walk.{HasCountedSta
 ghost use Rattle.event_nodes.specs.declared.error.EventUnfoldError.TheVariants as unfold_error;
 ghost use Rattle.event_nodes.specs.Nodes.{GrowsEvents};
 ghost use Rattle.event_nodes.specs.Visited.{IsWeighed};
-ghost use Rattle.event_functions.specs.Refused.{IsRefusal};
+ghost use Rattle.event_classes.specs.event_functions.Refused.{IsRefusal};
 ghost use Rattle.class_search.specs.Comparing.{IsReadyEnable};
 ghost use Rattle.class_search.specs.event_order.Order.{IsTagOf};
 ghost use Rattle.class_search.specs.pair_decide.Proof.{Proof};
@@ -18,9 +18,9 @@ ghost use Rattle.event_classes.specs.Map.{IsWithin, IsEnableOf, IsEnableAt, IsOw
 ghost use Rattle.event_classes.specs.Steps.{AreNodesOver, IsWeightOver};
 
 use crate::error::EventError;
+use crate::event_functions::class_totals::{EnableFunction, unfold_enable};
 use crate::map::ClassMap;
 use class_search::class_fits::Enable;
-use event_functions::class_totals::{EnableFunction, unfold_enable};
 use event_nodes::{Counter, EventCircuit, EventGraph, EventUnfoldError};
 use sec_base::{Side, Tag};
 use std::alloc::Global;

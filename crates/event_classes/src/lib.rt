@@ -4,6 +4,7 @@
 
 mod enables;
 mod error;
+pub mod event_functions;
 mod joining;
 mod making;
 mod map;

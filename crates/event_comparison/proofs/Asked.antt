@@ -12,12 +12,12 @@ use Rattle.event_nodes.specs.View.{EventCircuitView}
 use Rattle.sec_setup.specs.declared.ports.pairs.SignalPair.{SignalPair}
 use Rattle.obligations.specs.declared.obligation.Obligation.{Obligation}
 use Rattle.obligations.specs.Decided.{AnswerIs, IsAnswered}
-use Rattle.outcome.specs.declared.verdict.PairResult.{PairResult}
+use Rattle.obligations.specs.declared.outcome.verdict.PairResult.{PairResult}
 use Rattle.pair_decide.specs.declared.query.Proof.{Proof}
 use Rattle.event_form.specs.Answers.{PairFits}
 use Rattle.event_form.specs.Asked.{AreAsked, IsAskedOf}
 use Rattle.event_form.proofs.Answers.{answers_are_fit}
-use Rattle.event_findings.specs.Compared.{IsEventDepth}
+use Rattle.event_form.specs.event_findings.Compared.{IsEventDepth}
 
 -- each result is that of its pair
 pub results_fit : (s : EventSide (Either ℕ ℕ)) (w : EventGraphView) (cut : Bool) (conflicts : ℕ) → IsEventGraph w → (pairs : List SignalPair) (asked : List Obligation) (results : List PairResult) → AreAsked s w cut pairs asked → AllZip (IsAnswered w.graph conflicts) asked results →

@@ -7,15 +7,15 @@ use Rattle.event_nodes.specs.View.{EventCircuitView}
 use Rattle.sec_setup.specs.declared.ports.pairs.SignalPair.{SignalPair}
 use Rattle.obligations.specs.declared.obligation.Obligation.{Obligation}
 use Rattle.event_form.specs.event_agreement.pair_events.View.{EventsView, IsWithinLimits, side_of_both}
-use Rattle.event_findings.specs.unshown_pairs.class_events.Separated.{AreSeparated}
+use Rattle.event_form.specs.event_findings.unshown_pairs.class_events.Separated.{AreSeparated}
 use Rattle.class_search.specs.declared.class_separations.apart.Apart.{Apart}
 use Rattle.event_form.specs.Asked.{AreAsked, IsLater, IsPairOf}
 use Rattle.event_form.specs.Counted.{CountsOn}
 use Rattle.event_form.proofs.Asking.{pair_on, side_same}
 use Rattle.event_comparison.specs.Agreement.{CircuitsAgree}
 use Rattle.event_comparison.specs.Asked.{AreAskedFrom, StayCounted}
-use Rattle.event_findings.specs.Compared.{AreCompared}
-use Rattle.event_findings.specs.declared.pairs.EventPairs.{EventPairs}
+use Rattle.event_form.specs.event_findings.Compared.{AreCompared}
+use Rattle.event_form.specs.declared.event_findings.pairs.EventPairs.{EventPairs}
 use Rattle.event_comparison.proofs.Asked.{depths_long}
 
 pub compared_later : (old new : EventsView) → IsLater old new → (c : EventPairs) → AreCompared old.left old.right c → AreCompared new.left new.right c

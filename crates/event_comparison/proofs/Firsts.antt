@@ -18,28 +18,28 @@ use Rattle.obligations.specs.declared.verdict.VerdictAt.{VerdictAt}
 use Rattle.obligations.specs.declared.verdict.VerdictAt.TheVariants as at
 use Rattle.obligations.specs.Decided.{HaveDecided, IsAnswered, IsFirst, IsFirstOf, NoneIs}
 use Rattle.obligations.specs.Verdict.{IsVerdictAt}
-use Rattle.outcome.specs.declared.verdict.PairResult.{PairResult}
+use Rattle.obligations.specs.declared.outcome.verdict.PairResult.{PairResult}
 use Rattle.pair_decide.specs.declared.query.Query.{Query}
 use Rattle.event_form.specs.event_agreement.pair_events.View.{EventsView, side_of_both}
 use Rattle.obligations.proofs.swept_queries.Listed.{zip_left}
 use Rattle.witness_report.specs.declared.witness.Witness.{Witness}
 use Rattle.event_form.specs.Answers.{PairFits}
 use Rattle.event_form.specs.Asked.{AreAsked, IsAskedOf, IsDecisive}
-use Rattle.event_findings.specs.declared.event_witness.unshown.UnshownFrame.{UnshownFrame}
-use Rattle.event_findings.specs.event_witness.Sequences.{IsWitnessOf}
-use Rattle.event_findings.specs.event_witness.Shown.{IsQueryAt, IsUnshownAt, IsWitnessAt}
-use Rattle.event_findings.specs.event_witness.Unshown.{IsUnshownOf}
-use Rattle.event_findings.proofs.event_witness.Differing.{only_query}
-use Rattle.event_findings.proofs.event_witness.Growing.{differences_later}
-use Rattle.event_findings.specs.unshown_pairs.Reached.{BothReachAlways}
-use Rattle.event_findings.specs.Compared.{AreCompared, IsEventDepth}
+use Rattle.event_form.specs.declared.event_findings.event_witness.unshown.UnshownFrame.{UnshownFrame}
+use Rattle.event_form.specs.event_findings.event_witness.Sequences.{IsWitnessOf}
+use Rattle.event_form.specs.event_findings.event_witness.Shown.{IsQueryAt, IsUnshownAt, IsWitnessAt}
+use Rattle.event_form.specs.event_findings.event_witness.Unshown.{IsUnshownOf}
+use Rattle.event_form.proofs.event_findings.event_witness.Differing.{only_query}
+use Rattle.event_form.proofs.event_findings.event_witness.Growing.{differences_later}
+use Rattle.event_form.specs.event_findings.unshown_pairs.Reached.{BothReachAlways}
+use Rattle.event_form.specs.event_findings.Compared.{AreCompared, IsEventDepth}
 use Rattle.event_comparison.specs.Decided.{AreFound}
-use Rattle.event_findings.specs.Findings.{IsFirstWith, IsFirstDifference, IsFirstLimit, IsFrameOf, IsSequenceOf, VerdictFits, FindingsFit}
+use Rattle.event_form.specs.event_findings.Findings.{IsFirstWith, IsFirstDifference, IsFirstLimit, IsFrameOf, IsSequenceOf, VerdictFits, FindingsFit}
 use Rattle.event_comparison.specs.Shown.{IsShown, IsShownUnshown}
-use Rattle.event_findings.specs.declared.findings.EventFindings.{EventFindings}
-use Rattle.event_findings.specs.declared.pairs.EventPairs.{EventPairs}
-use Rattle.event_findings.specs.declared.verdict.EventVerdict.{EventVerdict}
-use Rattle.event_findings.specs.declared.verdict.EventVerdict.TheVariants as verdict
+use Rattle.event_form.specs.declared.event_findings.findings.EventFindings.{EventFindings}
+use Rattle.event_form.specs.declared.event_findings.pairs.EventPairs.{EventPairs}
+use Rattle.event_form.specs.declared.event_findings.verdict.EventVerdict.{EventVerdict}
+use Rattle.event_form.specs.declared.event_findings.verdict.EventVerdict.TheVariants as verdict
 use Rattle.event_comparison.proofs.Asked.{is_decisive, isnt_decisive, results_fit}
 use Rattle.event_comparison.proofs.Sequences.{frame_is, sequence_is}
 

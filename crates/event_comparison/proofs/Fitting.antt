@@ -4,18 +4,18 @@ use Rattle.std.specs.List.{All}
 use Rattle.edbf_unfold.specs.class_queries.Laws.{AreKept}
 use Rattle.event_nodes.specs.Nodes.{IsEventGraph}
 use Rattle.obligations.specs.declared.obligation.Obligation.{Obligation}
-use Rattle.outcome.specs.declared.verdict.PairResult.{PairResult}
+use Rattle.obligations.specs.declared.outcome.verdict.PairResult.{PairResult}
 use Rattle.event_form.specs.event_agreement.pair_events.View.{EventsView, IsEvents, side_of_both}
 use Rattle.sec_base.specs.declared.basics.PairAnswer.TheVariants as answer
 use Rattle.event_form.specs.Asked.{AreAsked, IsLater}
 use Rattle.event_form.proofs.Asking.{all_asked_on}
 use Rattle.event_comparison.specs.Agreement.{CircuitsAgree}
-use Rattle.event_findings.specs.Compared.{AreCompared}
+use Rattle.event_form.specs.event_findings.Compared.{AreCompared}
 use Rattle.event_comparison.specs.Decided.{AreFound}
-use Rattle.event_findings.specs.Findings.{FindingsFit, VerdictFits}
-use Rattle.event_findings.specs.declared.findings.EventFindings.{EventFindings}
-use Rattle.event_findings.specs.declared.pairs.EventPairs.{EventPairs}
-use Rattle.event_findings.specs.declared.verdict.EventVerdict.TheVariants as verdict
+use Rattle.event_form.specs.event_findings.Findings.{FindingsFit, VerdictFits}
+use Rattle.event_form.specs.declared.event_findings.findings.EventFindings.{EventFindings}
+use Rattle.event_form.specs.declared.event_findings.pairs.EventPairs.{EventPairs}
+use Rattle.event_form.specs.declared.event_findings.verdict.EventVerdict.TheVariants as verdict
 use Rattle.event_comparison.proofs.Agreeing.{circuits_agree}
 use Rattle.event_comparison.proofs.Comparing.{agree_later, asked_before, compared_later}
 use Rattle.event_comparison.proofs.Firsts.{findings_fit}

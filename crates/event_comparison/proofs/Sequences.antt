@@ -28,15 +28,15 @@ use Rattle.witness_report.specs.declared.witness.Witness.{Witness}
 use Rattle.event_form.specs.Answers as form_answers
 use Rattle.event_form.specs.Asked.{IsAskedOf}
 use Rattle.event_form.proofs.Answers.{frames_of_differences}
-use Rattle.event_findings.specs.declared.event_witness.unshown.UnshownFrame.{UnshownFrame}
-use Rattle.event_findings.specs.event_witness.Sequences.{HasInputsBelow, IsWitnessOf, rows_at}
-use Rattle.event_findings.specs.event_witness.Unshown.{IsUnshownOf}
-use Rattle.event_findings.proofs.event_witness.Differing.{only_query, always_differences}
-use Rattle.event_findings.specs.Compared.{IsEventDepth, AreCompared}
-use Rattle.event_findings.specs.Findings.{IsSequenceOf, IsFrameOf}
-use Rattle.event_findings.specs.declared.pairs.EventPairs.{EventPairs}
-use Rattle.event_findings.specs.unshown_pairs.Reached.{BothReachAlways}
-use Rattle.event_findings.proofs.unshown_pairs.Frames.{bits_told}
+use Rattle.event_form.specs.declared.event_findings.event_witness.unshown.UnshownFrame.{UnshownFrame}
+use Rattle.event_form.specs.event_findings.event_witness.Sequences.{HasInputsBelow, IsWitnessOf, rows_at}
+use Rattle.event_form.specs.event_findings.event_witness.Unshown.{IsUnshownOf}
+use Rattle.event_form.proofs.event_findings.event_witness.Differing.{only_query, always_differences}
+use Rattle.event_form.specs.event_findings.Compared.{IsEventDepth, AreCompared}
+use Rattle.event_form.specs.event_findings.Findings.{IsSequenceOf, IsFrameOf}
+use Rattle.event_form.specs.declared.event_findings.pairs.EventPairs.{EventPairs}
+use Rattle.event_form.specs.event_findings.unshown_pairs.Reached.{BothReachAlways}
+use Rattle.event_form.proofs.event_findings.unshown_pairs.Frames.{bits_told}
 
 -- what makes a pair differ, by other names
 differ_told : (a b : Circuit ℕ) (left right : List ℕ) (p q : ℕ) (rows told : List (List Bool)) (last cycle : ℕ) (l x r y : Bool) → rows ≡ told → last ≡ cycle → l ≡ x → r ≡ y → MakesDiffer a b left right p q rows last l r → MakesDiffer a b left right p q told cycle x y

@@ -17,7 +17,7 @@ use Rattle.obligations.specs.declared.verdict.VerdictAt.{VerdictAt}
 use Rattle.obligations.specs.declared.verdict.VerdictAt.TheVariants as at
 use Rattle.obligations.specs.Decided.{HaveDecided, IsFirst, IsFirstOf}
 use Rattle.obligations.specs.Verdict.{IsVerdictAt}
-use Rattle.outcome.specs.declared.verdict.PairResult.{PairResult}
+use Rattle.obligations.specs.declared.outcome.verdict.PairResult.{PairResult}
 use Rattle.event_form.specs.event_agreement.pair_events.Counted.{HaveCounted}
 use Rattle.event_form.specs.event_agreement.pair_events.View.{EventsView, side_of_both}
 use Rattle.sec_base.specs.declared.basics.PairAnswer.{PairAnswer}
@@ -29,13 +29,13 @@ use Rattle.event_form.specs.declared.error.EventFormError.{EventFormError}
 use Rattle.event_form.proofs.Asking.{all_asked_on, later_refl}
 use Rattle.event_form.proofs.Counted.{none_counted}
 use Rattle.event_form.proofs.Refusing.{all_within, nothing_within, one_within, refused_later}
-use Rattle.event_findings.specs.event_witness.Shown.{IsShowable}
-use Rattle.event_findings.proofs.event_witness.Growing.{differences_later}
-use Rattle.event_findings.proofs.event_witness.Showing.{differences_shown}
-use Rattle.event_findings.specs.unshown_pairs.Reached.{StaysCounted}
+use Rattle.event_form.specs.event_findings.event_witness.Shown.{IsShowable}
+use Rattle.event_form.proofs.event_findings.event_witness.Growing.{differences_later}
+use Rattle.event_form.proofs.event_findings.event_witness.Showing.{differences_shown}
+use Rattle.event_form.specs.event_findings.unshown_pairs.Reached.{StaysCounted}
 use Rattle.event_comparison.specs.Asked.{AreAskedFrom, DiffersFirst, IsFoundAt, StayCounted}
 use Rattle.event_comparison.specs.Shown.{OfPair}
-use Rattle.event_findings.specs.declared.pairs.EventPairs.{EventPairs}
+use Rattle.event_form.specs.declared.event_findings.pairs.EventPairs.{EventPairs}
 use Rattle.class_search.specs.declared.class_separations.apart.Apart.{Apart}
 
 -- the obligation of a pair stands at the pair's place

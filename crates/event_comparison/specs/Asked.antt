@@ -1,7 +1,7 @@
 -- What is asked of pairs, and what was decided of it.
 use Rattle.std.specs.Prelude.{◌≡◌, ℕ, ◌<◌, List, ◌++◌, length, All}
 use Rattle.circuit_theory.specs.EventSizes.{Start}
-use Rattle.event_findings.specs.unshown_pairs.class_events.Separated.{AreSeparated}
+use Rattle.event_form.specs.event_findings.unshown_pairs.class_events.Separated.{AreSeparated}
 use Rattle.class_search.specs.declared.class_separations.apart.Apart.{Apart}
 use Rattle.event_nodes.specs.Nodes.{EventGraphView}
 use Rattle.sec_setup.specs.declared.ports.pairs.SignalPair.{SignalPair}
@@ -10,14 +10,14 @@ use Rattle.obligations.specs.declared.obligation.Obligation.{Obligation}
 use Rattle.obligations.specs.declared.verdict.VerdictAt.{VerdictAt}
 use Rattle.obligations.specs.declared.verdict.VerdictAt.TheVariants as at
 use Rattle.obligations.specs.Decided.{IsFirstOf}
-use Rattle.outcome.specs.declared.verdict.PairResult.{PairResult}
+use Rattle.obligations.specs.declared.outcome.verdict.PairResult.{PairResult}
 use Rattle.event_form.specs.event_agreement.pair_events.Counted.{HaveCounted}
 use Rattle.event_form.specs.event_agreement.pair_events.View.{EventsView, IsWithinLimits, side_of_both}
 use Rattle.base_tables.specs.Table.{AreDistinct}
 use Rattle.sec_base.specs.declared.basics.PairAnswer.TheVariants as answer
 use Rattle.event_form.specs.Asked.{AreAsked, IsPairOf}
 use Rattle.event_form.specs.Counted.{left_starts, right_starts}
-use Rattle.event_findings.specs.declared.pairs.EventPairs.{EventPairs}
+use Rattle.event_form.specs.declared.event_findings.pairs.EventPairs.{EventPairs}
 
 -- what is asked of the pairs of the circuits, and what tells their classes apart
 pub record AreAskedFrom (e : EventsView) (aparts : List Apart) (c : EventPairs) (obligations : List Obligation) : Type 0 where

@@ -8,8 +8,8 @@ use Rattle.obligations.specs.Decided.{HaveDecided}
 use Rattle.obligations.specs.Verdict.{IsVerdictAt}
 use Rattle.event_form.specs.event_agreement.pair_events.View.{EventsView}
 use Rattle.event_comparison.specs.Shown.{IsShown}
-use Rattle.event_findings.specs.declared.findings.EventFindings.{EventFindings}
-use Rattle.event_findings.specs.declared.pairs.EventPairs.{EventPairs}
+use Rattle.event_form.specs.declared.event_findings.findings.EventFindings.{EventFindings}
+use Rattle.event_form.specs.declared.event_findings.pairs.EventPairs.{EventPairs}
 
 -- the results are those of the obligations over the event graph, and the verdict is shown at the one that gives it, while the graph grows
 pub record AreFound (w : EventGraphView) (e : EventsView) (c : EventPairs) (conflicts : ℕ) (asked : List Obligation) (f : EventFindings) : Type 0 where

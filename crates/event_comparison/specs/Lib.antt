@@ -3,8 +3,8 @@ pub mod Shown
 pub mod Agreement
 pub mod Decided
 pub mod Counted
-pub use Rattle.event_findings.specs.Compared
-pub use Rattle.event_findings.specs.declared.pairs.EventPairs
-pub use Rattle.event_findings.specs.Findings
-pub use Rattle.event_findings.specs.declared.findings.EventFindings
-pub use Rattle.event_findings.specs.unshown_pairs.class_events
+pub use Rattle.event_form.specs.event_findings.Compared
+pub use Rattle.event_form.specs.declared.event_findings.pairs.EventPairs
+pub use Rattle.event_form.specs.event_findings.Findings
+pub use Rattle.event_form.specs.declared.event_findings.findings.EventFindings
+pub use Rattle.event_form.specs.event_findings.unshown_pairs.class_events

@@ -5,15 +5,15 @@ use Rattle.obligations.specs.declared.obligation.Difference.{Difference}
 use Rattle.obligations.specs.declared.obligation.Obligation.{Obligation}
 use Rattle.obligations.specs.declared.verdict.VerdictAt.{VerdictAt}
 use Rattle.obligations.specs.declared.verdict.VerdictAt.TheVariants as at
-use Rattle.outcome.specs.declared.verdict.PairResult.{PairResult}
+use Rattle.obligations.specs.declared.outcome.verdict.PairResult.{PairResult}
 use Rattle.event_form.specs.event_agreement.pair_events.View.{EventsView, side_of_both}
 use Rattle.witness_report.specs.declared.witness.Witness.{Witness}
-use Rattle.event_findings.specs.event_witness.Shown.{IsWitnessAt, IsUnshownAt}
-use Rattle.event_findings.specs.unshown_pairs.Reached.{BothReachAlways}
-use Rattle.event_findings.specs.unshown_pairs.Separations.{AreToldApart}
-use Rattle.event_findings.specs.declared.pairs.EventPairs.{EventPairs}
-use Rattle.event_findings.specs.declared.verdict.EventVerdict.{EventVerdict}
-use Rattle.event_findings.specs.declared.verdict.EventVerdict.TheVariants as verdict
+use Rattle.event_form.specs.event_findings.event_witness.Shown.{IsWitnessAt, IsUnshownAt}
+use Rattle.event_form.specs.event_findings.unshown_pairs.Reached.{BothReachAlways}
+use Rattle.event_form.specs.event_findings.unshown_pairs.Separations.{AreToldApart}
+use Rattle.event_form.specs.declared.event_findings.pairs.EventPairs.{EventPairs}
+use Rattle.event_form.specs.declared.event_findings.verdict.EventVerdict.{EventVerdict}
+use Rattle.event_form.specs.declared.event_findings.verdict.EventVerdict.TheVariants as verdict
 
 -- what holds of the pair of a difference
 abbrev pub OfPair : EventPairs → Difference → (SignalPair → Type 0) → Type 0

@@ -1,22 +1,24 @@
 //! Comparing the pairs of two circuits in the event form.
 
 ghost use Rattle.std.specs.Prelude.{◌≡◌, ◌≤◌, All, IfOk, OnOk};
-ghost use Rattle.event_findings.specs.unshown_pairs.class_events.Separated.{AreSeparated};
+ghost use Rattle.event_form.specs.event_findings.unshown_pairs.class_events.Separated.{AreSeparated};
 ghost use Rattle.event_form.specs.Asked.{IsLater, IsPairOf};
 ghost use Rattle.event_form.specs.Counted.{left_starts, right_starts};
 ghost use Rattle.event_form.specs.Refused.{IsRefusedFor};
-ghost use Rattle.event_findings.specs.declared.verdict.EventVerdict.TheVariants as event_verdict;
+ghost use Rattle.event_form.specs.declared.event_findings.verdict.EventVerdict.TheVariants as event_verdict;
 ghost use Rattle.obligations.specs.Asked.{AreAsked as AreQueries};
 ghost use Rattle.event_form.specs.event_agreement.pair_events.View.{IsWithinLimits};
 ghost use Rattle.event_comparison.specs.Agreement.{CircuitsAgree};
 ghost use Rattle.event_comparison.specs.Asked.{AreAskedFrom, StayCounted};
 ghost use Rattle.event_comparison.specs.Counted.{AreRefused, ArePairsCounted};
 ghost use Rattle.event_comparison.specs.Decided.{AreFound};
-ghost use Rattle.event_findings.specs.Compared.{AreCompared};
-ghost use Rattle.event_findings.specs.Findings.{FindingsFit};
+ghost use Rattle.event_form.specs.event_findings.Compared.{AreCompared};
+ghost use Rattle.event_form.specs.event_findings.Findings.{FindingsFit};
 
 use crate::verdict::show;
-use event_findings::{Apart, EventFindings, EventFormError, EventPairs, Events, ask_pairs};
+use event_form::event_findings::{
+    Apart, EventFindings, EventFormError, EventPairs, Events, ask_pairs,
+};
 use obligations::{Decided, Obligation, decide_all, verdict_at};
 use sec_base::MAX_CONFLICTS;
 use std::alloc::Global;

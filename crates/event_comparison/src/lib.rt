@@ -5,7 +5,7 @@ mod comparison;
 mod verdict;
 
 pub use comparison::compare_events;
-pub use event_findings::{
+pub use event_form::event_findings::{
     EventError, EventFindings, EventFormError, EventPairs, EventVerdict, FrameBit, Separated,
     ToldSeparation, ToldSeparations, UnshownFrame, UnshownPair, events_of,
 };

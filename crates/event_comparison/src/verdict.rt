@@ -8,12 +8,12 @@ ghost use Rattle.event_form.specs.event_agreement.pair_events.View.{IsWithinLimi
 ghost use Rattle.event_comparison.specs.Asked.{AreAskedFrom, DiffersFirst, IsFoundAt, StayCounted};
 ghost use Rattle.event_comparison.specs.Shown.{IsShown, IsShownUnshown};
 
-use event_findings::{
+use event_form::event_findings::{
     Apart, EventFormError, EventPairs, EventVerdict, Events, UnshownPair, tell_apart, unshown_at,
     witness_at,
 };
+use obligations::outcome::PairResult;
 use obligations::{Difference, Obligation, VerdictAt, copy_name};
-use outcome::PairResult;
 use std::alloc::Global;
 
 /// The verdict at an obligation. A sequence ends in the cycle of its pair's depth. A pair that isn't shown is unfolded once more.

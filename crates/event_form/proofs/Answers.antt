@@ -26,7 +26,7 @@ use Rattle.sec_setup.specs.declared.ports.pairs.SignalPair.{SignalPair}
 use Rattle.obligations.specs.declared.obligation.Obligation.{Obligation}
 use Rattle.obligations.specs.Decided.{AnswerIs, IsAnswered}
 use Rattle.obligations.specs.Found.{Differ, IsDifferenceOf}
-use Rattle.obligations.specs.PairResult.{PairResult}
+use Rattle.obligations.specs.declared.outcome.verdict.PairResult.{PairResult}
 use Rattle.obligations.specs.pair_decide.Decision.TheVariants as decision
 use Rattle.obligations.specs.pair_decide.Proof.{Proof}
 use Rattle.obligations.specs.pair_decide.Query.{Query}

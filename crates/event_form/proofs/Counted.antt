@@ -3,7 +3,7 @@ use Rattle.std.proofs.Common.{◌≡◌, ◌∙◌, ◌+◌, ◌<◌, ℕ, List,
 use Rattle.std.proofs.lemmas.List.{map-append, take_more}
 use Rattle.circuit_theory.specs.declared.Side.TheVariants.{A, B}
 use Rattle.circuit_theory.specs.EventSizes.{Start}
-use Rattle.event_functions.specs.Functions.{signal_start}
+use Rattle.event_classes.specs.event_functions.Functions.{signal_start}
 use Rattle.sec_setup.specs.declared.ports.pairs.SignalPair.{SignalPair}
 use Rattle.event_form.specs.event_agreement.pair_events.Counted.{HaveCounted, GoOnCounting}
 use Rattle.event_form.specs.event_agreement.pair_events.View.{EventsView, IsWithinLimits}

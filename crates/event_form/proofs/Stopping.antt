@@ -6,7 +6,7 @@ use Rattle.circuit_theory.specs.declared.Side.{Side}
 use Rattle.circuit_theory.specs.declared.Side.TheVariants.{A, B}
 use Rattle.circuit_theory.specs.EventSizes.{Start}
 use Rattle.event_nodes.specs.declared.error.EventUnfoldError.{EventUnfoldError}
-use Rattle.event_functions.specs.Functions.{signal_start}
+use Rattle.event_classes.specs.event_functions.Functions.{signal_start}
 use Rattle.event_form.specs.event_agreement.pair_events.Laws.{AreKept}
 use Rattle.sec_setup.specs.declared.ports.pairs.SignalPair.{SignalPair}
 use Rattle.event_form.specs.event_agreement.pair_events.Counted.{GoOnCounting, HaveCounted, IsRefusedBy, IsTooLarge}

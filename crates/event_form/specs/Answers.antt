@@ -21,7 +21,7 @@ use Rattle.obligations.specs.sat_search.Found.{IsFruitless}
 use Rattle.event_nodes.specs.Nodes.{EventGraphView}
 use Rattle.class_search.specs.event_variables.Variables.{variables_of}
 use Rattle.sec_setup.specs.declared.ports.pairs.SignalPair.{SignalPair}
-use Rattle.obligations.specs.PairResult.{PairResult}
+use Rattle.obligations.specs.declared.outcome.verdict.PairResult.{PairResult}
 use Rattle.obligations.specs.pair_decide.Proof.{Proof}
 use Rattle.obligations.specs.pair_decide.Query.{Query}
 use Rattle.obligations.specs.pair_decide.Queries.{assigned_to}

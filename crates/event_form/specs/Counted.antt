@@ -1,7 +1,7 @@
 -- What was counted goes on with the signals of pairs.
 use Rattle.std.specs.Prelude.{ℕ, List, [], ◌∷◌, ◌++◌, map}
 use Rattle.circuit_theory.specs.EventSizes.{Start}
-use Rattle.event_functions.specs.Functions.{signal_start}
+use Rattle.event_classes.specs.event_functions.Functions.{signal_start}
 use Rattle.sec_setup.specs.declared.ports.pairs.SignalPair.{SignalPair}
 use Rattle.event_form.specs.event_agreement.pair_events.Counted.{HaveCounted}
 use Rattle.event_form.specs.event_agreement.pair_events.View.{EventsView}

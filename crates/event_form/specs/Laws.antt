@@ -19,7 +19,7 @@ use Rattle.sec_setup.specs.declared.ports.pairs.SignalPair.{SignalPair}
 use Rattle.obligations.specs.declared.obligation.Obligation.{Obligation}
 use Rattle.obligations.specs.Decided.{IsAnswered}
 use Rattle.obligations.specs.Found.{IsDifferenceOf}
-use Rattle.obligations.specs.PairResult.{PairResult}
+use Rattle.obligations.specs.declared.outcome.verdict.PairResult.{PairResult}
 use Rattle.event_form.specs.Asked.{IsAskedOf, AreAsked}
 use Rattle.event_form.specs.Answers.{PairFits, IsFrameOf}
 

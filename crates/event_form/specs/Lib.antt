@@ -6,9 +6,10 @@ pub mod Refused
 pub mod Stopped
 pub mod Laws
 pub mod event_agreement
+pub mod event_findings
 pub use Rattle.obligations.specs.Found
 pub use Rattle.obligations.specs.Decided
 pub use Rattle.obligations.specs.declared.obligation.Obligation
 pub use Rattle.obligations.specs.declared.obligation.Difference
-pub use Rattle.event_functions.specs.declared.signals.SignalFunction
-pub use Rattle.event_functions.specs.Functions
+pub use Rattle.event_classes.specs.declared.event_functions.signals.SignalFunction
+pub use Rattle.event_classes.specs.event_functions.Functions

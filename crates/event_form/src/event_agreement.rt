@@ -8,4 +8,4 @@ pub use class_search::{
     Aig, Counter, EventCircuit, EventGraph, EventUnfoldError, Ids, Lit, NoMemory, Query, Side,
     Signal, merge_variables, node_path,
 };
-pub use event_functions::{SignalFunction, unfold_signal};
+pub use event_classes::event_functions::{SignalFunction, unfold_signal};

@@ -5,6 +5,7 @@
 
 mod error;
 pub mod event_agreement;
+pub mod event_findings;
 mod frames;
 pub mod laws;
 mod nodes;

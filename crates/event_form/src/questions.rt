@@ -8,7 +8,7 @@ ghost use Rattle.obligations.specs.Asked.{AreAsked as AreQueries};
 ghost use Rattle.event_form.specs.Counted.{CountsOn, CountPairOn, left_starts, right_starts};
 ghost use Rattle.event_form.specs.Refused.{IsRefusedFor, IsToldAs};
 ghost use Rattle.event_form.specs.Stopped.{IsPairStopped, IsSignalStopped, IsStoppedFor};
-ghost use Rattle.event_functions.specs.Functions.{signal_start};
+ghost use Rattle.event_classes.specs.event_functions.Functions.{signal_start};
 ghost use Rattle.event_form.specs.event_agreement.pair_events.Counted.{GoOnCounting, left_with, right_with};
 ghost use Rattle.event_form.specs.event_agreement.pair_events.View.{IsWithinLimits, circuit_at, side_of_both, signal_at};
 

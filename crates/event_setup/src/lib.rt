@@ -8,6 +8,7 @@ mod cutting;
 mod depths;
 mod enables;
 mod error;
+pub mod event_meaning;
 mod numbering;
 pub mod read_inputs;
 mod setup;

@@ -24,8 +24,8 @@ use Rattle.event_form.proofs.event_agreement.CutCircuits.{left_same, right_same,
 use Rattle.event_form.proofs.event_agreement.SameCircuits.{AreSame, same_part, same_classes, same_depths}
 use Rattle.event_form.proofs.event_agreement.event_pairs.Parts.{cone_up, care_tree_up}
 use Rattle.sec_setup.specs.declared.ports.pairs.SignalPair.{SignalPair}
-use Rattle.outcome.specs.declared.verdict.PairResult.{PairResult}
-use Rattle.outcome.specs.pair_decide.Proof.{Proof}
+use Rattle.obligations.specs.declared.outcome.verdict.PairResult.{PairResult}
+use Rattle.obligations.specs.outcome.pair_decide.Proof.{Proof}
 use Rattle.assume_laws.specs.Assume.{Assumption, ReadsInputs, HasVariableAtNode, HaveEqualEventsUnder}
 use Rattle.assume_laws.proofs.EventLaws.{event_functions_agree_under, exposed_event_functions_agree_under}
 use Rattle.event_under.specs.Answers.{AnswerFitsUnder, PairFitsUnder}

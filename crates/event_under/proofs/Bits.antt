@@ -10,7 +10,7 @@ use Rattle.circuit_theory.proofs.Inputs.{test_same, test_refl, same_name-sound}
 use Rattle.circuit_theory.proofs.Numbers.{same_name-refl}
 use Rattle.circuit_theory.specs.EventFrames.{frame_of}
 use Rattle.base_tables.specs.Table.{AreDistinct}
-use Rattle.outcome.specs.pair_decide.Queries.{assigned_to}
+use Rattle.obligations.specs.outcome.pair_decide.Queries.{assigned_to}
 use Rattle.event_form.specs.Answers.{TakesBits}
 use Rattle.event_under.specs.Asked.{variable_in, variables_in}
 

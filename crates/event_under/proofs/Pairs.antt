@@ -16,11 +16,11 @@ use Rattle.sec_base.specs.declared.basics.PairAnswer.{PairAnswer}
 use Rattle.sec_base.specs.declared.basics.PairAnswer.TheVariants as answer
 use Rattle.aig.specs.declared.node.Node.{Node}
 use Rattle.aig.specs.Values.{value}
-use Rattle.outcome.specs.pair_decide.Decision.TheVariants as decision
-use Rattle.outcome.specs.pair_decide.Proof.{Proof}
-use Rattle.outcome.specs.pair_decide.Query.{Query}
-use Rattle.outcome.specs.pair_decide.Answers.{IsDifference, IsAtLimit}
-use Rattle.outcome.specs.pair_decide.Queries.{IsSame, IsLeast, Distinguishes, assigned_to, roots_of}
+use Rattle.obligations.specs.outcome.pair_decide.Decision.TheVariants as decision
+use Rattle.obligations.specs.outcome.pair_decide.Proof.{Proof}
+use Rattle.obligations.specs.outcome.pair_decide.Query.{Query}
+use Rattle.obligations.specs.outcome.pair_decide.Answers.{IsDifference, IsAtLimit}
+use Rattle.obligations.specs.outcome.pair_decide.Queries.{IsSame, IsLeast, Distinguishes, assigned_to, roots_of}
 use Rattle.swept_queries.specs.InStead.{IsInStead, DecidesInStead}
 use Rattle.event_nodes.specs.Nodes.{EventGraphView}
 use Rattle.event_nodes.specs.event_variables.Variables.{variables_of}
@@ -28,7 +28,7 @@ use Rattle.sec_setup.specs.declared.ports.pairs.SignalPair.{SignalPair}
 use Rattle.obligations.specs.declared.obligation.Obligation.{Obligation}
 use Rattle.obligations.specs.Decided.{AnswerIs, IsAnswered}
 use Rattle.obligations.specs.Found.{Differ}
-use Rattle.outcome.specs.declared.verdict.PairResult.{PairResult}
+use Rattle.obligations.specs.declared.outcome.verdict.PairResult.{PairResult}
 use Rattle.event_form.specs.Answers.{ReadOnly}
 use Rattle.assume_laws.specs.Assume.{Assumption, HaveEqualEventsUnder}
 use Rattle.assume_laws.specs.Sequences.{IsEventPairQueryUnder, IsEventDifferenceUnder, IsUnshownFrameUnder, HaveDifferentEventsUnder}

@@ -12,11 +12,11 @@ use Rattle.sec_base.specs.declared.basics.PairAnswer.TheVariants as answer
 use Rattle.aig.specs.declared.node.Node.{Node}
 use Rattle.aig.specs.Graph.{IsGraph}
 use Rattle.aig.specs.Values.{value}
-use Rattle.outcome.specs.cnf_encode.Encoding.{IsEncoding}
+use Rattle.obligations.specs.outcome.cnf_encode.Encoding.{IsEncoding}
 use Rattle.sat_search.specs.Found.{IsFruitless}
 use Rattle.sec_setup.specs.declared.ports.pairs.SignalPair.{SignalPair}
-use Rattle.outcome.specs.declared.verdict.PairResult.{PairResult}
-use Rattle.outcome.specs.pair_decide.Proof.{Proof}
+use Rattle.obligations.specs.declared.outcome.verdict.PairResult.{PairResult}
+use Rattle.obligations.specs.outcome.pair_decide.Proof.{Proof}
 use Rattle.event_form.specs.Answers.{TakesBits, ReadOnly}
 use Rattle.event_form.specs.Asked.{IsDecisive}
 use Rattle.assume_laws.specs.Assume.{Assumption, HasCareUnder, HaveEqualEventsUnder}

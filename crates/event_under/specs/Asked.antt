@@ -9,8 +9,8 @@ use Rattle.circuit_theory.specs.EventFrames.{AreNodeVariables}
 use Rattle.circuit_theory.specs.Frame.{EventSide, EventUnfolds}
 use Rattle.aig.specs.declared.node.Node.{Node}
 use Rattle.aig.specs.Values.{value}
-use Rattle.outcome.specs.pair_decide.Query.{Query}
-use Rattle.outcome.specs.pair_decide.Queries.{IsQuery}
+use Rattle.obligations.specs.outcome.pair_decide.Query.{Query}
+use Rattle.obligations.specs.outcome.pair_decide.Queries.{IsQuery}
 use Rattle.event_nodes.specs.Nodes.{EventGraphView}
 use Rattle.event_nodes.specs.event_variables.Variables.{variables_of}
 use Rattle.sec_setup.specs.declared.ports.pairs.SignalPair.{SignalPair}

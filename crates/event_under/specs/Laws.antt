@@ -23,9 +23,9 @@ use Rattle.base_tables.specs.Table.{AreDistinct}
 use Rattle.sec_base.specs.declared.basics.PairAnswer.TheVariants as answer
 use Rattle.aig.specs.declared.node.Node.{Node}
 use Rattle.aig.specs.Values.{value}
-use Rattle.outcome.specs.pair_decide.Query.{Query}
-use Rattle.outcome.specs.pair_decide.Answers.{IsDifference}
-use Rattle.outcome.specs.pair_decide.Queries.{assigned_to}
+use Rattle.obligations.specs.outcome.pair_decide.Query.{Query}
+use Rattle.obligations.specs.outcome.pair_decide.Answers.{IsDifference}
+use Rattle.obligations.specs.outcome.pair_decide.Queries.{assigned_to}
 use Rattle.event_nodes.specs.Nodes.{EventGraphView}
 use Rattle.event_nodes.specs.View.{EventCircuitView, Enabled}
 use Rattle.edbf_unfold.specs.class_queries.Enables.{both_of}
@@ -33,7 +33,7 @@ use Rattle.edbf_unfold.specs.class_queries.Laws.{AreKept}
 use Rattle.sec_setup.specs.declared.ports.pairs.SignalPair.{SignalPair}
 use Rattle.obligations.specs.declared.obligation.Obligation.{Obligation}
 use Rattle.obligations.specs.Decided.{IsAnswered}
-use Rattle.outcome.specs.declared.verdict.PairResult.{PairResult}
+use Rattle.obligations.specs.declared.outcome.verdict.PairResult.{PairResult}
 use Rattle.assume_laws.specs.Assume.{Assumption, ReadsInputs, AgreeUnder, AgreeOnwardUnder}
 use Rattle.assume_laws.specs.Sequences.{IsSideTree, IsEventDifferenceUnder, IsUnshownFrameUnder, IsMeetingRow, RowsMeet, filled_frame}
 use Rattle.event_under.specs.Asked.{variables_in, AsksUnder, IsAskedUnder}

@@ -3,11 +3,11 @@ use Rattle.std.proofs.Common.{◌≡◌, ◌∙◌, ℕ, Bool, List, length, sym
 use Rattle.event_nodes.specs.View.{EventCircuitView}
 use Rattle.event_form.specs.event_agreement.pair_events.Laws.{AreKept}
 use Rattle.event_form.specs.event_agreement.pair_events.View.{EventsView, IsEvents}
-use Rattle.outcome.specs.declared.verdict.PairResult.{PairResult}
+use Rattle.obligations.specs.declared.outcome.verdict.PairResult.{PairResult}
 use Rattle.event_form.specs.Asked.{IsLater}
-use Rattle.event_findings.specs.Compared.{AreCompared}
-use Rattle.event_findings.specs.declared.findings.EventFindings.{EventFindings}
-use Rattle.event_findings.specs.declared.pairs.EventPairs.{EventPairs}
+use Rattle.event_form.specs.event_findings.Compared.{AreCompared}
+use Rattle.event_form.specs.declared.event_findings.findings.EventFindings.{EventFindings}
+use Rattle.event_form.specs.declared.event_findings.pairs.EventPairs.{EventPairs}
 use Rattle.event_comparison.specs.Asked.{AreAskedFrom}
 use Rattle.assume_queries.specs.assume_sequences.Assumed.{CanBeAssumed}
 use Rattle.assume_queries.specs.declared.assume_sequences.premise.Premise.{Premise}

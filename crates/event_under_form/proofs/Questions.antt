@@ -28,7 +28,7 @@ use Rattle.event_form.specs.event_agreement.pair_events.Laws.{AreKept}
 use Rattle.event_form.specs.event_agreement.pair_events.View.{EventsView, side_of_both}
 use Rattle.event_nodes.specs.event_variables.ranked_nodes.Ranks.{AreRanked}
 use Rattle.event_form.specs.Asked.{AreAsked, IsAskedOf}
-use Rattle.event_findings.specs.declared.pairs.EventPairs.{EventPairs}
+use Rattle.event_form.specs.declared.event_findings.pairs.EventPairs.{EventPairs}
 use Rattle.assume_queries.specs.assume_sequences.Assumed.{IsAssumedBy}
 use Rattle.assume_queries.specs.declared.assume_sequences.premise.Premise.{Premise}
 use Rattle.assume_laws.specs.assume_shape.Shape.{assumption_of}

@@ -25,11 +25,11 @@ use Rattle.event_form.proofs.event_agreement.event_pairs.Growing.{variables_stay
 use Rattle.event_nodes.specs.event_variables.ranked_nodes.Named.{path_at}
 use Rattle.event_form.specs.Asked.{IsPairOf}
 use Rattle.event_comparison.specs.Shown.{OfPair}
-use Rattle.event_findings.specs.declared.event_witness.unshown.UnshownFrame.{UnshownFrame}
-use Rattle.event_findings.specs.declared.pairs.EventPairs.{EventPairs}
-use Rattle.event_findings.specs.unshown_pairs.Told.{TellsBits}
-use Rattle.event_findings.proofs.event_witness.Differing.{only_query}
-use Rattle.event_findings.proofs.unshown_pairs.Frames.{bits_told}
+use Rattle.event_form.specs.declared.event_findings.event_witness.unshown.UnshownFrame.{UnshownFrame}
+use Rattle.event_form.specs.declared.event_findings.pairs.EventPairs.{EventPairs}
+use Rattle.event_form.specs.event_findings.unshown_pairs.Told.{TellsBits}
+use Rattle.event_form.proofs.event_findings.event_witness.Differing.{only_query}
+use Rattle.event_form.proofs.event_findings.unshown_pairs.Frames.{bits_told}
 use Rattle.assume_laws.specs.Sequences.{filled_frame}
 use Rattle.assume_queries.specs.assume_sequences.Filled.{bit_of}
 use Rattle.event_under.specs.Asked.{IsAskedUnder}

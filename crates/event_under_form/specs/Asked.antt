@@ -7,10 +7,10 @@ use Rattle.event_form.specs.event_agreement.pair_events.View.{EventsView, side_o
 use Rattle.obligations.specs.Decided.{IsFirstOf}
 use Rattle.obligations.specs.declared.obligation.Difference.{Difference}
 use Rattle.obligations.specs.declared.obligation.Obligation.{Obligation}
-use Rattle.outcome.specs.declared.verdict.PairResult.{PairResult}
+use Rattle.obligations.specs.declared.outcome.verdict.PairResult.{PairResult}
 use Rattle.event_nodes.specs.event_variables.ranked_nodes.Ranks.{AreRanked}
 use Rattle.event_comparison.specs.Asked.{AreAskedFrom}
-use Rattle.event_findings.specs.declared.pairs.EventPairs.{EventPairs}
+use Rattle.event_form.specs.declared.event_findings.pairs.EventPairs.{EventPairs}
 use Rattle.assume_queries.specs.assume_sequences.Assumed.{IsAssumedBy}
 use Rattle.assume_queries.specs.declared.assume_sequences.premise.Premise.{Premise}
 use Rattle.assume_laws.specs.assume_shape.Shape.{assumption_of}

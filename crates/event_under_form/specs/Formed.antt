@@ -10,8 +10,8 @@ use Rattle.obligations.specs.declared.verdict.VerdictAt.{VerdictAt}
 use Rattle.obligations.specs.Decided.{HaveDecided}
 use Rattle.obligations.specs.Verdict.{IsVerdictAt}
 use Rattle.event_form.specs.declared.error.EventFormError.{EventFormError}
-use Rattle.event_findings.specs.declared.findings.EventFindings.{EventFindings}
-use Rattle.event_findings.specs.declared.pairs.EventPairs.{EventPairs}
+use Rattle.event_form.specs.declared.event_findings.findings.EventFindings.{EventFindings}
+use Rattle.event_form.specs.declared.event_findings.pairs.EventPairs.{EventPairs}
 use Rattle.event_comparison.specs.Counted.{AreRefused, ArePairsCounted}
 use Rattle.assume_queries.specs.assume_sequences.Assumed.{IsAssumedBy}
 use Rattle.assume_queries.specs.declared.assume_sequences.premise.Premise.{Premise}

@@ -10,8 +10,8 @@ ghost use Rattle.event_under_form.specs.Asked.{AreAskedAssumed};
 
 use crate::event_witness_under::{EventQuestions, UnderError, ask_under};
 use assume_queries::assume_sequences::Premise;
-use event_findings::EventPairs;
 use event_form::event_agreement::pair_events::Events;
+use event_form::event_findings::EventPairs;
 use obligations::Obligation;
 use std::alloc::Global;
 

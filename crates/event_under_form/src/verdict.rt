@@ -11,11 +11,11 @@ ghost use Rattle.event_under_form.specs.event_under_verdicts.Shown.{DiffersFirst
 ghost use Rattle.event_under_form.specs.Asked.{CanShow, DiffersAt};
 
 use crate::event_witness_under::{EventQuestions, frame_of, ready_at, sequence_of};
-use event_findings::{Apart, EventPairs, EventVerdict, UnshownPair, tell_apart};
 use event_form::EventFormError;
 use event_form::event_agreement::pair_events::Events;
+use event_form::event_findings::{Apart, EventPairs, EventVerdict, UnshownPair, tell_apart};
+use obligations::outcome::{PairResult, Witness};
 use obligations::{Difference, Obligation, VerdictAt, copy_name};
-use outcome::{PairResult, Witness};
 use sec_base::{Bits, NoMemory};
 use std::alloc::Global;
 

@@ -7,8 +7,8 @@ use Rattle.elaborate.specs.declared.error.FlatError.{FlatError}
 use Rattle.elaborate.specs.declared.error.FlatError.TheVariants as fault
 use Rattle.elaborate.specs.Flat.{FlatDesign, named, name_at, view_of, flat_design_of}
 use Rattle.elaborate.specs.Walked.{IsWalked}
-use Rattle.connectivity.specs.Faults.{IsWireFault}
-use Rattle.connectivity.specs.Wired.{IsTold, IsFaultless}
+use Rattle.flatten.specs.connectivity.Faults.{IsWireFault}
+use Rattle.flatten.specs.connectivity.Wired.{IsTold, IsFaultless}
 use Rattle.flatten.specs.Loops.{IsLoop}
 use Rattle.flatten.specs.DesignFaults.{IsLoopFault, DesignFault, IsSoundDesign}
 

@@ -3,7 +3,7 @@ use Rattle.std.proofs.Common.{◌≡◌, ◌+◌, ◌∙◌, ℕ, List, [], ◌�
 use Rattle.std.proofs.lemmas.List.{map-append}
 use Rattle.base_tables.proofs.TableLemmas.{take-push}
 use Rattle.elaborate.specs.declared.flat.FlatStatement.{FlatStatement}
-use Rattle.connectivity.specs.declared.source.Source.{Source}
+use Rattle.flatten.specs.declared.connectivity.source.Source.{Source}
 use Rattle.flatten.specs.Graph.{source_reads}
 
 pub graph_step : (statements : List FlatStatement) (sources : List Source) (n : ℕ) (source : Source) (graph after : List (List ℕ)) (reads : List ℕ) → slice_get sources n ≡ Some source →

@@ -23,8 +23,8 @@ use Rattle.elaborate.specs.declared.flat.FlatKind.TheVariants as kind
 use Rattle.elaborate.specs.Flat.{FlatDesign, FlatOf, Kind, gate, latch, port, named_kind, named_statement, flat_port, flat_of, name_at, kind_of, statement_of, start_from, start_by}
 use Rattle.elaborate.specs.Walked.{IsWalked}
 use Rattle.elaborate.proofs.Numbered.{origin_in}
-use Rattle.connectivity.specs.Wiring.{joined, wires_of}
-use Rattle.connectivity.specs.Wired.{WiredView, IsWired}
+use Rattle.flatten.specs.connectivity.Wiring.{joined, wires_of}
+use Rattle.flatten.specs.connectivity.Wired.{WiredView, IsWired}
 use Rattle.flatten.specs.Clocked.{numbered_circuit, number_at}
 use Rattle.flatten.specs.Gated.{made_by, spot}
 use Rattle.flatten.specs.Graph.{graph_of}

@@ -5,8 +5,8 @@ use Rattle.sec_base.specs.declared.basics.Init.{Init}
 use Rattle.elaborate.specs.declared.flat.FlatKind.{FlatKind}
 use Rattle.elaborate.specs.declared.flat.FlatKind.TheVariants as kind
 use Rattle.elaborate.specs.declared.flat.FlatStatement.{FlatStatement}
-use Rattle.connectivity.specs.declared.source.Source.{Source}
-use Rattle.connectivity.specs.declared.source.Source.TheVariants.{Statement}
+use Rattle.flatten.specs.declared.connectivity.source.Source.{Source}
+use Rattle.flatten.specs.declared.connectivity.source.Source.TheVariants.{Statement}
 use Rattle.flatten.specs.Graph.{quick_reads, reads_in, source_reads}
 
 -- what a signal that a statement drives reads

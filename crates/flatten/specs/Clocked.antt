@@ -5,7 +5,7 @@ use Rattle.circuit_theory.specs.Flattened.{Follows}
 use Rattle.blif_read.specs.declared.design.BlifModel.{BlifModel}
 use Rattle.elaborate.specs.declared.flat.Flat.{Flat}
 use Rattle.elaborate.specs.Flat.{view_of, circuit_of_flat}
-use Rattle.connectivity.specs.Wired.{WiredView}
+use Rattle.flatten.specs.connectivity.Wired.{WiredView}
 use Rattle.flatten.specs.Gated.{made_by}
 
 -- the circuit of the numbered statements, without the clock among its inputs

@@ -13,9 +13,9 @@ use Rattle.elaborate.specs.declared.flat.Flat.{Flat}
 use Rattle.elaborate.specs.declared.flat.FlatStatement.{FlatStatement}
 use Rattle.elaborate.specs.declared.flat.FlatKind.TheVariants as kind
 use Rattle.elaborate.specs.Flat.{name_at, statement_of, equation_in}
-use Rattle.connectivity.specs.declared.source.Source.{Source}
-use Rattle.connectivity.specs.declared.source.Source.TheVariants as source
-use Rattle.connectivity.specs.Wired.{WiredView}
+use Rattle.flatten.specs.declared.connectivity.source.Source.{Source}
+use Rattle.flatten.specs.declared.connectivity.source.Source.TheVariants as source
+use Rattle.flatten.specs.connectivity.Wired.{WiredView}
 use Rattle.net_assembly.specs.Built.{IsBuilt, AreCovers, unclocked, latch_outs}
 use Rattle.flatten.specs.Graph.{IsSourceWithin, graph_of, is_gate_out}
 use Rattle.net_assembly.specs.Order.{IsOrder}

@@ -3,8 +3,8 @@ use Rattle.std.specs.Prelude.{ℕ, ◌<◌, Bool, true, false, List, [], map, Op
 use Rattle.elaborate.specs.declared.flat.FlatStatement.{FlatStatement}
 use Rattle.elaborate.specs.declared.flat.FlatKind.{FlatKind}
 use Rattle.elaborate.specs.declared.flat.FlatKind.TheVariants as kind
-use Rattle.connectivity.specs.declared.source.Source.{Source}
-use Rattle.connectivity.specs.declared.source.Source.TheVariants as source
+use Rattle.flatten.specs.declared.connectivity.source.Source.{Source}
+use Rattle.flatten.specs.declared.connectivity.source.Source.TheVariants as source
 
 -- the source is an input, nothing, or one of so many statements
 abbrev pub IsSourceWithin : ℕ → Source → Type 0

@@ -10,8 +10,8 @@ use Rattle.elaborate.specs.declared.flat.FlatStatement.{FlatStatement}
 use Rattle.elaborate.specs.declared.flat.FlatKind.{FlatKind}
 use Rattle.elaborate.specs.declared.flat.FlatKind.TheVariants as kind
 use Rattle.elaborate.specs.Flat.{name_at, first_of}
-use Rattle.connectivity.specs.Wiring.{joined}
-use Rattle.connectivity.specs.Wired.{WiredView}
+use Rattle.flatten.specs.connectivity.Wiring.{joined}
+use Rattle.flatten.specs.connectivity.Wired.{WiredView}
 use Rattle.net_assembly.specs.Built.{unclocked}
 use Rattle.net_assembly.specs.Shown.{latch_data}
 use Rattle.flatten.specs.Gated.{spot, HasSpot, gates_in, made_by, driver_of, net_equation}

@@ -7,8 +7,8 @@ ghost use Rattle.flatten.specs.Gated.{IsLaid, HasGates, IsRest, IsGrown, first_m
 ghost use Rattle.net_assembly.specs.Shown.{with_outputs, latch_signals, latch_nexts, with_nexts};
 
 use crate::assemble::{Assembly, cover_copy};
+use crate::connectivity::{Source, Wired};
 use blif_read::BlifModel;
-use connectivity::{Source, Wired};
 use elaborate::{Flat, FlatKind, FlatStatement};
 use flat_net::{Signal, Signals};
 use sec_base::NoMemory;

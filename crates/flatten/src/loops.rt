@@ -6,13 +6,13 @@ ghost use Rattle.circuit_theory.specs.Names.{ListBefore};
 ghost use Rattle.elaborate.specs.Flat.{name_at, named, view_of};
 ghost use Rattle.flatten.specs.Graph.{IsSourceWithin, source_reads, is_gate_source, is_gate_out, graph_of};
 ghost use Rattle.elaborate.specs.declared.error.FlatError.TheVariants as fault;
-ghost use Rattle.connectivity.specs.Wired.{IsWired};
-ghost use Rattle.connectivity.specs.Wiring.{wires_of};
+ghost use Rattle.flatten.specs.connectivity.Wired.{IsWired};
+ghost use Rattle.flatten.specs.connectivity.Wiring.{wires_of};
 ghost use Rattle.flatten.specs.DesignFaults.{IsLoopFault};
 ghost use Rattle.flatten.specs.Loops.{IsLoop, IsNamedTurn, AreLoopNames};
 ghost use Rattle.net_assembly.specs.Order.{IsOrder};
 
-use connectivity::{Source, Wired};
+use crate::connectivity::{Source, Wired};
 use elaborate::{Flat, FlatError, FlatKind};
 use net_assembly::{Found, order_of};
 use sec_base::{Ids, NoMemory, Seq, Words};

@@ -8,8 +8,8 @@ ghost use Rattle.flatten.specs.Gated.{IsLaid, first_made};
 ghost use Rattle.flatten.specs.Made.{IsSpotted, IsMade};
 
 use crate::assemble::Assembly;
+use crate::connectivity::Wired;
 use blif_read::BlifModel;
-use connectivity::Wired;
 use elaborate::Flat;
 use flat_net::Net;
 use sec_base::NoMemory;

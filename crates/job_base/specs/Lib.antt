@@ -4,3 +4,5 @@ pub mod Meaning
 pub mod Reading
 pub mod Status
 pub mod Written
+pub mod sec_files
+pub mod design_laws

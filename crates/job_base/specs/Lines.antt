@@ -6,17 +6,17 @@ use Rattle.circuit_theory.specs.declared.Side.TheVariants.{A, B}
 use Rattle.sec_base.specs.Texts.{names_text}
 use Rattle.blif_read.specs.declared.error.ReadKind.{ReadKind}
 use Rattle.blif_read.specs.declared.error.ReadKind.TheVariants as kind
-use Rattle.text_numbers.specs.declared.kinds.TextKind.{TextKind}
-use Rattle.text_numbers.specs.declared.kinds.TextKind.TheVariants as text_kind
+use Rattle.sec_base.specs.declared.text_numbers.kinds.TextKind.{TextKind}
+use Rattle.sec_base.specs.declared.text_numbers.kinds.TextKind.TheVariants as text_kind
 use Rattle.circuit_report.specs.declared.sim_report.refusal.Misfit.{Misfit}
 use Rattle.circuit_report.specs.declared.sim_report.refusal.Misfit.TheVariants as misfit
-use Rattle.aiger_records.specs.declared.error.AigerKind.{AigerKind}
-use Rattle.aiger_records.specs.declared.error.AigerKind.TheVariants as aiger
+use Rattle.aiger_read.specs.declared.aiger_records.error.AigerKind.{AigerKind}
+use Rattle.aiger_read.specs.declared.aiger_records.error.AigerKind.TheVariants as aiger
 use Rattle.assume_laws.specs.declared.assume_shape.shape.ShapeFault.{ShapeFault}
 use Rattle.assume_laws.specs.declared.assume_shape.shape.ShapeFault.TheVariants as shape
 use Rattle.elaborate.specs.declared.error.FlatError.{FlatError}
 use Rattle.elaborate.specs.declared.error.FlatError.TheVariants as flat
-use Rattle.outcome.specs.Report.{report_text}
+use Rattle.obligations.specs.outcome.Report.{report_text}
 use Rattle.cycle_sim.specs.pair_runs.replay_report.Report.{replay_text}
 use Rattle.job_base.specs.declared.finding.File.{File}
 use Rattle.job_base.specs.declared.finding.File.TheVariants as file

@@ -3,7 +3,7 @@
 ghost use Rattle.std.specs.Prelude.{◌≡◌, ◌≢◌, ◌≤◌, [], ◌∷◌, Ok, IfOk, OnOk, option_to_list, ◌++◌};
 ghost use Rattle.std.specs.List.{filter_map};
 ghost use Rattle.sec_base.specs.base_shelves.Outside.{Rose};
-ghost use Rattle.outcome.specs.Report.{report_text};
+ghost use Rattle.obligations.specs.outcome.Report.{report_text};
 ghost use Rattle.job_base.specs.Lines.{finding_text, undecided_text, unrefuted_text, unsettled_text};
 ghost use Rattle.job_base.specs.Written.{status_of, generated_status, unrefuted_status, judgement_status, outcome_proofs, proofs_of, unrefuted_proofs, IsWritten};
 
@@ -15,7 +15,7 @@ use crate::text::{
 };
 use cycle_sim::pair_runs::Differences;
 use cycle_sim::pair_runs::replay_report::replay_report;
-use outcome::{Outcome, PairResult, PairResults, Proof, Settings, Verdict, report};
+use obligations::outcome::{Outcome, PairResult, PairResults, Proof, Settings, Verdict, report};
 use sec_base::{NoMemory, Side, Sink, Text, Word};
 use std::alloc::Global;
 

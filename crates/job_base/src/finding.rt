@@ -1,15 +1,15 @@
 //! What a run finds and reports.
 
 use crate::status::Proofs;
-use aiger_records::AigerKind;
+use aiger_read::aiger_records::AigerKind;
 use assume_laws::assume_shape::ShapeFault;
 use blif_read::ReadKind;
 use circuit_report::sim_report::Misfit;
 use cycle_sim::pair_runs::Differences;
 use elaborate::FlatError;
-use outcome::{Outcome, Proof, Settings};
+use obligations::outcome::{Outcome, Proof, Settings};
+use sec_base::text_numbers::TextKind;
 use sec_base::{Side, Text, Word, Words};
-use text_numbers::TextKind;
 
 /// A file of a job, by what it is.
 #[derive(Clone, Copy)]

@@ -1,8 +1,10 @@
 //! What a job finds, how it ends, and the report that is written of it.
 #![tactic(auto)]
 
+pub mod design_laws;
 mod end;
 mod finding;
+pub mod sec_files;
 mod status;
 mod text;
 

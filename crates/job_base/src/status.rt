@@ -3,7 +3,7 @@
 ghost use Rattle.std.specs.Prelude.{◌≡◌, []};
 ghost use Rattle.job_base.specs.Status.{code_of};
 
-use outcome::Proof;
+use obligations::outcome::Proof;
 use sec_base::Seq;
 use std::alloc::Global;
 

@@ -6,14 +6,14 @@ ghost use Rattle.sec_base.specs.Texts.{names_text};
 ghost use Rattle.job_base.specs.Lines.{side_word, file_word, kind_text, text_kind_word, line_fault_text, design_fault_text, record_fault_text, misfit_text, shape_text, refusal_text, words_text, cycle_text, undecided_text, unpaired_text, satisfiable_text, unsettled_text};
 
 use crate::finding::{File, LineFault, Refusal};
-use aiger_records::AigerKind;
+use aiger_read::aiger_records::AigerKind;
 use assume_laws::assume_shape::ShapeFault;
 use blif_read::ReadKind;
 use circuit_report::sim_report::Misfit;
 use elaborate::FlatError;
+use sec_base::text_numbers::TextKind;
 use sec_base::{NoMemory, Seq, Side, Text, Word, Words, put, put_names, put_number};
 use std::alloc::Global;
-use text_numbers::TextKind;
 
 /// Puts the word behind what stands before it in the line.
 fn put_behind(text: &mut Vec<u8>, front: &[u8], word: &[u8]) -> Result<(), NoMemory>

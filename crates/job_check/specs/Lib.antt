@@ -1,3 +1,2 @@
 pub mod compare_under
-pub use Rattle.check_meaning.specs.check_found.Found
-pub use Rattle.check_meaning.specs.check_found.Check
+pub mod check_meaning

@@ -5,11 +5,11 @@ ghost use Rattle.std.specs.List.{All};
 ghost use Rattle.circuit_theory.specs.declared.Mode.TheVariants.{Plain};
 ghost use Rattle.sec_base.specs.base_shelves.Outside.{SameHeld, NoneFell};
 ghost use Rattle.flat_net.specs.Comparable.{IsComparable};
-ghost use Rattle.check_meaning.specs.check_found.Check.{Check, all_paths, assumed_paths};
-ghost use Rattle.check_meaning.specs.check_found.Ends.{compare_end, EndsBeside, EndsBoth, FoundOf};
+ghost use Rattle.job_check.specs.check_meaning.check_found.Check.{Check, all_paths, assumed_paths};
+ghost use Rattle.job_check.specs.check_meaning.check_found.Ends.{compare_end, EndsBeside, EndsBoth, FoundOf};
 
+use crate::check_meaning::check_found::{File, Finding, Refusal, Stop, load, load_end};
 use crate::sec_check::{CompareError, Outcome, Settings, compare, compare_under};
-use check_meaning::check_found::{File, Finding, Refusal, Stop, load, load_end};
 use flat_net::Net;
 use sec_base::{MAX_CONFLICTS, Shelf};
 use std::alloc::Global;

@@ -6,7 +6,7 @@ mod interfaces;
 pub use circuit_theory::Mode;
 pub use comparison::{compare, compare_under};
 pub use interfaces::interface;
-pub use outcome::{
+pub use obligations::outcome::{
     Frame, LimitAt, Outcome, PairName, PairResult, PairResults, Proof, ResetWitness, Separation,
     Separations, Settings, Spot, Spots, Stimulus, Unshown, Verdict, Why, Witness, report,
 };

@@ -20,11 +20,11 @@ use Rattle.job_base.specs.Written.{status_of}
 use Rattle.latch_kinds.specs.declared.kinds.KindsError.TheVariants as kinds_error
 use Rattle.circuit_report.specs.graph_report.Jobs.{IsUnknown}
 use Rattle.circuit_report.proofs.graph_report.Ended.{large_or_light}
-use Rattle.sec_files.specs.Loading.{IsAccepted, Loads, IsTooLong}
-use Rattle.sec_files.specs.Stimuli.{IsStimulus, HasBadHeader, HasBadRow}
-use Rattle.sec_files.proofs.Texts.{text_sound}
-use Rattle.sec_files.proofs.job_files.Accepted.{has_header, no_bad_row, same_names, not_long, not_faulty, not_unsound, not_misread}
-use Rattle.sec_files.proofs.job_files.Reading.{some_and, if_told}
+use Rattle.job_base.specs.sec_files.Loading.{IsAccepted, Loads, IsTooLong}
+use Rattle.job_base.specs.sec_files.Stimuli.{IsStimulus, HasBadHeader, HasBadRow}
+use Rattle.job_base.proofs.sec_files.Texts.{text_sound}
+use Rattle.job_base.proofs.sec_files.job_files.Accepted.{has_header, no_bad_row, same_names, not_long, not_faulty, not_unsound, not_misread}
+use Rattle.job_base.proofs.sec_files.job_files.Reading.{some_and, if_told}
 use Rattle.job_circuit.specs.Reports.{IsCircuitRefusal, IsGraphRefusal, IsGraphFound, IsSimRefusal, IsSimFound, CanBeTold, CanBeRun, IsReported, IsGraphComplete, IsSimComplete}
 
 -- an accepted circuit is not refused

@@ -8,7 +8,7 @@ use Rattle.sec_base.specs.base_shelves.Outside.{Rose}
 use Rattle.witness_report.specs.declared.error.StimError.TheVariants as stim_error
 use Rattle.flat_net.specs.View.{NetView}
 use Rattle.blif_read.specs.declared.error.ReadError.TheVariants as read_error
-use Rattle.aiger_records.specs.declared.error.AigerError.TheVariants as aiger_error
+use Rattle.aiger_read.specs.declared.aiger_records.error.AigerError.TheVariants as aiger_error
 use Rattle.elaborate.specs.declared.error.FlatError.TheVariants as flat_error
 use Rattle.job_base.specs.declared.finding.File.TheVariants as file
 use Rattle.job_base.specs.declared.finding.LineFault.TheVariants as line_fault
@@ -22,15 +22,15 @@ use Rattle.latch_kinds.specs.declared.kinds.KindsError.TheVariants as kinds_erro
 use Rattle.circuit_report.specs.declared.graph_report.runs.SimulateError.{SimulateError}
 use Rattle.circuit_report.specs.declared.graph_report.runs.SimulateError.TheVariants as simulate_error
 use Rattle.circuit_report.specs.graph_report.Jobs.{Tells, Simulates}
-use Rattle.sec_files.specs.declared.loader.LoadError.{LoadError}
-use Rattle.sec_files.specs.declared.loader.LoadError.TheVariants as load_error
-use Rattle.sec_files.specs.declared.stimuli.StimulusError.{StimulusError}
-use Rattle.sec_files.specs.declared.stimuli.StimulusError.TheVariants as stimulus_error
-use Rattle.sec_files.specs.Loading.{Loads, LoadFails, IsTooLong}
-use Rattle.sec_files.specs.Stimuli.{IsStimulus, HasBadHeader, HasBadRow, StimulusFails}
-use Rattle.sec_files.specs.job_files.Reading.{IsLoaded, Held}
-use Rattle.sec_files.specs.job_files.Ends.{load_end, stimulus_end}
-use Rattle.sec_files.proofs.job_files.Reading.{second_failed, rose_before}
+use Rattle.job_base.specs.declared.sec_files.loader.LoadError.{LoadError}
+use Rattle.job_base.specs.declared.sec_files.loader.LoadError.TheVariants as load_error
+use Rattle.job_base.specs.declared.sec_files.stimuli.StimulusError.{StimulusError}
+use Rattle.job_base.specs.declared.sec_files.stimuli.StimulusError.TheVariants as stimulus_error
+use Rattle.job_base.specs.sec_files.Loading.{Loads, LoadFails, IsTooLong}
+use Rattle.job_base.specs.sec_files.Stimuli.{IsStimulus, HasBadHeader, HasBadRow, StimulusFails}
+use Rattle.job_base.specs.sec_files.job_files.Reading.{IsLoaded, Held}
+use Rattle.job_base.specs.sec_files.job_files.Ends.{load_end, stimulus_end}
+use Rattle.job_base.proofs.sec_files.job_files.Reading.{second_failed, rose_before}
 use Rattle.job_circuit.specs.Reports.{IsCircuitRefusal, IsGraphFound, IsGraphRefusal, IsSimFound, IsSimRefusal}
 use Rattle.job_circuit.specs.Ends.{graph_end, sim_end, SimFound}
 

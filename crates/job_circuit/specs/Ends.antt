@@ -12,7 +12,7 @@ use Rattle.latch_kinds.specs.declared.kinds.KindsError.{KindsError}
 use Rattle.latch_kinds.specs.declared.kinds.KindsError.TheVariants as kinds_error
 use Rattle.circuit_report.specs.declared.graph_report.runs.SimulateError.{SimulateError}
 use Rattle.circuit_report.specs.declared.graph_report.runs.SimulateError.TheVariants as simulate_error
-use Rattle.sec_files.specs.job_files.Reading.{Held, ReadFailed}
+use Rattle.job_base.specs.sec_files.job_files.Reading.{Held, ReadFailed}
 use Rattle.job_circuit.specs.Reports.{graph_paths, sim_paths, IsGraphFound, IsSimFound}
 
 -- what is found where it isn't found out what a latch is

@@ -23,9 +23,9 @@ use Rattle.job_base.specs.declared.finding.Finding.TheVariants as finding
 use Rattle.latch_kinds.specs.declared.kinds.KindsError.{KindsError}
 use Rattle.latch_kinds.specs.declared.kinds.KindsError.TheVariants as kinds_error
 use Rattle.circuit_report.specs.graph_report.Jobs.{AreLightIn, IsUnknown}
-use Rattle.sec_files.specs.Loading.{IsAccepted, Loads, IsTooLong, HasFault, HasDesignFault, HasRecordFault}
-use Rattle.sec_files.specs.Stimuli.{IsStimulus, HasBadHeader, HasBadRow}
-use Rattle.sec_files.specs.job_files.Reading.{IsLoaded}
+use Rattle.job_base.specs.sec_files.Loading.{IsAccepted, Loads, IsTooLong, HasFault, HasDesignFault, HasRecordFault}
+use Rattle.job_base.specs.sec_files.Stimuli.{IsStimulus, HasBadHeader, HasBadRow}
+use Rattle.job_base.specs.sec_files.job_files.Reading.{IsLoaded}
 
 -- the paths that the report of a latch graph reads
 abbrev pub graph_paths : List ℕ → List (List ℕ)

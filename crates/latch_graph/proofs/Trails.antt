@@ -1,5 +1,5 @@
 -- How a trail of latches goes on, and the round at its end.
-use Rattle.std.proofs.Common.{◌≡◌, ◌≢◌, ℕ, zero, suc, ◌+◌, ◌-◌, ◌<◌, ◌≤◌, Bool, true, false, List, [], ◌∷◌, ◌++◌, length, drop, Option, Some, refl, sym, ◌∙◌, ap, subst, arith, inl, inr, ◌==◌}
+use Rattle.std.proofs.Common.{◌≡◌, ◌≢◌, ℕ, zero, suc, ◌+◌, ◌-◌, ◌<◌, ◌≤◌, Bool, true, false, List, [], ◌∷◌, ◌++◌, length, drop, Option, Some, refl, sym, ◌∙◌, ap, subst, arith, inl, inr, ◌==◌, true≢false}
 use Rattle.std.specs.Prelude.{◌⊎◌, slice_get, if◌then◌else◌}
 use Rattle.std.proofs.Math.ListN.{set}
 use Rattle.std.proofs.lemmas.List.{length-set, length-drop}
@@ -62,6 +62,23 @@ trail_more nodes latches states passed trail at next t new ends takes = record {
     last : (i j : ℕ) → i + 1 ≡ length (trail ++ at ∷ []) → (slice_get trail i ≡ Some j) ⊎ ((i ≡ length trail) × (at ≡ j)) → TakesOver nodes latches j next
     last i j e (inl h) = absurd (let m = slice_get_within trail i j h in omega (arith, m, e, length-push trail at))
     last i j e (inr h) = subst (λ z. TakesOver nodes latches z next) h.1 takes
+
+none_in : {X : Type 0} (i : ℕ) (x : X) → slice_get [] i ≡ Some x → ⊥
+none_in {X} i x h = let l = slice_get_within [] i x h in omega arith
+
+-- a trail begins with no latch
+pub trail_begins : (nodes : List Node) (latches : List LatchAt) (states : List State) (passed : List Bool) (trail : List ℕ) (at : ℕ) → trail ≡ [] → length passed ≡ length latches → IsEndless latches states at →
+    ((j : ℕ) (bit : Bool) → slice_get passed j ≡ Some bit → bit ≡ false) → IsTrail nodes latches states passed trail at
+trail_begins nodes latches states passed trail at empty size ends none =
+    subst (λ z. IsTrail nodes latches states passed z at) (sym empty) (record {
+      size = size;
+      ends = ends;
+      on = λ i j h. absurd (none_in i j h);
+      off = λ j h. absurd (true≢false (none j true h));
+      distinct = λ i j x h k. absurd (none_in i x h);
+      edges = λ i j k h e. absurd (none_in i j h);
+      last = λ i j e h. absurd (none_in i j h);
+    })
 
 -- a trail is no longer than the list of latches
 pub trail_short : (nodes : List Node) (latches : List LatchAt) (states : List State) (passed : List Bool) (trail : List ℕ) (at : ℕ) → IsTrail nodes latches states passed trail at → length trail ≤ length latches

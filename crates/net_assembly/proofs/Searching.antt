@@ -1,9 +1,9 @@
 -- The turns of a search through what numbers read.
-use Rattle.std.proofs.Common.{◌≡◌, ◌≢◌, ◌+◌, ◌-◌, ◌<◌, ◌≤◌, ◌∙◌, ℕ, zero, suc, List, [], ◌∷◌, ◌++◌, length, take, drop, reverse, set, slice_get, get_or, unwrap_or, cond, ltb, Bool, true, false, Option, Some, None, refl, sym, ap, subst, arith, inl, inr}
+use Rattle.std.proofs.Common.{◌≡◌, ◌≢◌, ◌+◌, ◌-◌, ◌<◌, ◌≤◌, ◌∙◌, ℕ, zero, suc, List, [], ◌∷◌, ◌++◌, length, take, drop, reverse, set, replicate, slice_get, get_or, unwrap_or, cond, ltb, Bool, true, false, Option, Some, None, refl, sym, ap, subst, arith, inl, inr}
 use Rattle.std.specs.Prelude.{◌⊎◌, IfSome, ◌==◌}
 use Rattle.std.specs.List.{All, Contains, position, position_or_len}
 use Rattle.std.proofs.lemmas.Bool.{cases_lt}
-use Rattle.std.proofs.lemmas.List.{get_or-reverse, get_or-drop, length-reverse, length-drop, take_all}
+use Rattle.std.proofs.lemmas.List.{get_or-reverse, get_or-drop, length-reverse, length-drop, length-replicate, get_or-replicate, take_all}
 use Rattle.std.proofs.lemmas.List.Quantifiers.{position-Some}
 use Rattle.std.proofs.lemmas.Bool.Decides.{Decides-eqb, Decides-ltb}
 use Rattle.std.proofs.lemmas.Option.{none-some, same_Some, slice_get_within, slice_get_read, slice_get-get_or, get_or_from_slice_get}
@@ -50,6 +50,34 @@ met_stays marks n old new h differ m met = go (same_or_not m n)
     go : (m ≡ n) ⊎ (m ≢ n) → IsMet (set marks n new) m
     go (inl e) = (new, subst (λ k. slice_get (set marks n new) k ≡ Some new) (sym e) (slice_get-set_same marks n new old h), differ)
     go (inr other) = (met.0, slice_get-set_other marks n m new other ∙ met.1, met.2)
+
+none_in : {X : Type 0} (i : ℕ) (x : X) → slice_get [] i ≡ Some x → ⊥
+none_in {X} i x h = let l = slice_get_within [] i x h in omega arith
+
+-- the marks of a search that begins
+pub all_new : (count i : ℕ) (mark : Mark) → slice_get (replicate count New) i ≡ Some mark → mark ≡ New
+all_new count i mark h =
+    let l = slice_get_within (replicate count New) i mark h in
+    sym (get_or_from_slice_get (replicate count New) i mark New h) ∙ get_or-replicate count i New New (omega (arith, l, length-replicate count New))
+
+-- a search begins with nothing on the way and nothing done
+pub search_begins : (graph : List (List ℕ)) (marks : List Mark) (way order : List ℕ) → marks ≡ replicate (length graph) New → way ≡ [] → order ≡ [] → IsSearch graph marks way order
+search_begins graph marks way order em ew eo =
+    subst (λ (ms : List Mark). IsSearch graph ms way order) (sym em)
+    (subst (λ (w : List ℕ). IsSearch graph (replicate (length graph) New) w order) (sym ew)
+    (subst (λ (o : List ℕ). IsSearch graph (replicate (length graph) New) [] o) (sym eo) (record {
+      size = length-replicate (length graph) New;
+      entered = λ i n h. absurd (none_in i n h);
+      on_way = λ n k h. absurd (entered-new k (all_new (length graph) n (Entered k) h));
+      distinct = λ i j x h k. absurd (none_in i x h);
+      next = λ i n m h k. absurd (none_in i n h);
+      few = λ n k h. absurd (entered-new k (all_new (length graph) n (Entered k) h));
+      looked = λ n k j r h l e. absurd (entered-new k (all_new (length graph) n (Entered k) h));
+      done = λ n h. absurd (done-new (all_new (length graph) n Done h));
+      only = λ i n h. absurd (none_in i n h);
+      once = λ i j x h k. absurd (none_in i x h);
+      behind = λ i n r h k. absurd (none_in i n h);
+    })))
 
 -- fewer steps are left where the number of a mark's steps falls
 fewer_steps : (graph : List (List ℕ)) (marks : List Mark) (n : ℕ) (old new : Mark) → slice_get marks n ≡ Some old → n < length graph →
@@ -372,6 +400,10 @@ turn_facts graph marks way order s last looked item reads there h is e =
     let same : looked ≡ entered.0 = looked_same marks last entered.0 looked entered.1 h in
     let l : last < length graph = (let w = slice_get_within marks last (Entered entered.0) entered.1 in omega (arith, w, s.size)) in
     record { at = entered.1 ∙ ap (λ k. Some (Entered k)) (sym same); within = l; reads_are = reads_same graph last item reads l is e }
+
+-- a number on the way has a mark
+pub way_within : (graph : List (List ℕ)) (marks : List Mark) (way order : List ℕ) → IsSearch graph marks way order → (i n : ℕ) → slice_get way i ≡ Some n → n < length marks
+way_within graph marks way order s i n h = let e = s.entered i n h in slice_get_within marks n (Entered e.0) e.1
 
 -- the read at a place
 pub read_there : (graph : List (List ℕ)) (last looked : ℕ) (reads : List ℕ) → reads ≡ reads_of graph last → looked < length reads → slice_get (reads_of graph last) looked ≡ Some (get_or reads looked 0)

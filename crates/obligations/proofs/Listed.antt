@@ -4,10 +4,10 @@ use Rattle.std.specs.List.{All, AllZip}
 use Rattle.std.proofs.lemmas.List.{append-nil, take_more}
 use Rattle.std.proofs.lemmas.List.Elements.{All-nil, All-cons, All-head, All-tail}
 use Rattle.std.proofs.lemmas.Option.{none-some, same_Some, slice_get_within, slice_get-get_or, get_or_from_slice_get}
-use Rattle.outcome.specs.aig.Node.{Node}
-use Rattle.outcome.proofs.aig.Growth.{slice_get-append}
-use Rattle.outcome.specs.Query.{Query}
-use Rattle.outcome.specs.Queries.{IsQuery}
+use Rattle.obligations.specs.outcome.aig.Node.{Node}
+use Rattle.obligations.proofs.outcome.aig.Growth.{slice_get-append}
+use Rattle.obligations.specs.outcome.Query.{Query}
+use Rattle.obligations.specs.outcome.Queries.{IsQuery}
 use Rattle.obligations.specs.declared.obligation.Obligation.{Obligation}
 use Rattle.obligations.specs.Asked.{AreAsked, queries_of}
 

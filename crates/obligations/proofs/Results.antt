@@ -5,13 +5,13 @@ use Rattle.std.specs.List.{All, AllZip}
 use Rattle.std.proofs.lemmas.List.Elements.{All-nil, All-push}
 use Rattle.std.proofs.lemmas.Option.{slice_get_within}
 use Rattle.circuit_theory.proofs.Lists.{zip_push, zip_length}
-use Rattle.outcome.specs.sec_base.PairAnswer.{PairAnswer}
-use Rattle.outcome.specs.sec_base.PairAnswer.TheVariants as answer
-use Rattle.outcome.specs.aig.Node.{Node}
-use Rattle.outcome.proofs.aig.Growth.{slice_get-append}
-use Rattle.outcome.proofs.aig.Insert.{push-cases}
+use Rattle.obligations.specs.outcome.sec_base.PairAnswer.{PairAnswer}
+use Rattle.obligations.specs.outcome.sec_base.PairAnswer.TheVariants as answer
+use Rattle.obligations.specs.outcome.aig.Node.{Node}
+use Rattle.obligations.proofs.outcome.aig.Growth.{slice_get-append}
+use Rattle.obligations.proofs.outcome.aig.Insert.{push-cases}
 use Rattle.swept_queries.proofs.Listed.{All-at}
-use Rattle.outcome.specs.declared.verdict.PairResult.{PairResult}
+use Rattle.obligations.specs.declared.outcome.verdict.PairResult.{PairResult}
 use Rattle.obligations.specs.declared.obligation.Obligation.{Obligation}
 use Rattle.obligations.specs.declared.obligation.Difference.{Difference}
 use Rattle.obligations.specs.declared.decision.Decided.{Decided}

@@ -4,11 +4,11 @@ use Rattle.std.specs.Prelude.{◌⊎◌}
 use Rattle.std.specs.List.{All}
 use Rattle.std.proofs.lemmas.Option.{same_Some, slice_get_within}
 use Rattle.circuit_theory.proofs.Lists.{All-from_each, at_of}
-use Rattle.outcome.specs.aig.Node.{Node}
-use Rattle.outcome.specs.Query.{Query}
-use Rattle.outcome.specs.Decision.{Decision}
-use Rattle.outcome.specs.Decision.TheVariants as decision
-use Rattle.outcome.specs.Queries.{IsSame}
+use Rattle.obligations.specs.outcome.aig.Node.{Node}
+use Rattle.obligations.specs.outcome.Query.{Query}
+use Rattle.obligations.specs.outcome.Decision.{Decision}
+use Rattle.obligations.specs.outcome.Decision.TheVariants as decision
+use Rattle.obligations.specs.outcome.Queries.{IsSame}
 use Rattle.swept_queries.specs.InStead.{DecidesInStead}
 use Rattle.swept_queries.proofs.Stand.{is_same, is_difference}
 use Rattle.obligations.specs.declared.found.Found.{Found}

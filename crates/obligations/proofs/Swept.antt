@@ -5,9 +5,9 @@ use Rattle.std.specs.List.{All, AllZip}
 use Rattle.std.proofs.lemmas.List.Elements.{All-nil, All-cons, All-head, All-tail}
 use Rattle.std.proofs.lemmas.Option.{same_Some}
 use Rattle.circuit_theory.proofs.Lists.{zip_length}
-use Rattle.outcome.specs.aig.Node.{Node}
-use Rattle.outcome.specs.Query.{Query}
-use Rattle.outcome.specs.Queries.{IsQuery}
+use Rattle.obligations.specs.outcome.aig.Node.{Node}
+use Rattle.obligations.specs.outcome.Query.{Query}
+use Rattle.obligations.specs.outcome.Queries.{IsQuery}
 use Rattle.swept_queries.specs.declared.sides.Sides.{Sides}
 use Rattle.swept_queries.specs.declared.sides.Known.{Known}
 use Rattle.swept_queries.specs.declared.sides.Known.TheVariants as what

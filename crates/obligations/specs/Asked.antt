@@ -1,9 +1,9 @@
 -- What is asked, as queries over one graph.
 use Rattle.std.specs.Prelude.{◌≡◌, ℕ, List, [], ◌∷◌, ◌++◌, slice_get, Option, Some, None}
 use Rattle.std.specs.List.{All, AllZip}
-use Rattle.outcome.specs.aig.Node.{Node}
-use Rattle.outcome.specs.Query.{Query}
-use Rattle.outcome.specs.Queries.{IsQuery}
+use Rattle.obligations.specs.outcome.aig.Node.{Node}
+use Rattle.obligations.specs.outcome.Query.{Query}
+use Rattle.obligations.specs.outcome.Queries.{IsQuery}
 use Rattle.swept_queries.specs.declared.sides.Sides.{Sides}
 use Rattle.swept_queries.specs.declared.queries.SweptQueries.{SweptQueries}
 use Rattle.swept_queries.specs.InStead.{sides_of, IsKnown}

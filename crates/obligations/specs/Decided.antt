@@ -1,13 +1,13 @@
 -- What is found of all obligations.
 use Rattle.std.specs.Prelude.{◌≡◌, ◌≢◌, ℕ, ◌<◌, Bool, true, false, List, slice_get, Option, Some, None}
 use Rattle.std.specs.List.{All, AllZip}
-use Rattle.outcome.specs.aig.Node.{Node}
-use Rattle.outcome.specs.sec_base.PairAnswer.{PairAnswer}
-use Rattle.outcome.specs.sec_base.PairAnswer.TheVariants as answer
-use Rattle.outcome.specs.witness_report.PairName.{PairName}
-use Rattle.outcome.specs.Proof.{Proof}
-use Rattle.outcome.specs.Queries.{IsSame}
-use Rattle.outcome.specs.declared.verdict.PairResult.{PairResult}
+use Rattle.obligations.specs.outcome.aig.Node.{Node}
+use Rattle.obligations.specs.outcome.sec_base.PairAnswer.{PairAnswer}
+use Rattle.obligations.specs.outcome.sec_base.PairAnswer.TheVariants as answer
+use Rattle.obligations.specs.outcome.witness_report.PairName.{PairName}
+use Rattle.obligations.specs.outcome.Proof.{Proof}
+use Rattle.obligations.specs.outcome.Queries.{IsSame}
+use Rattle.obligations.specs.declared.outcome.verdict.PairResult.{PairResult}
 use Rattle.obligations.specs.declared.obligation.Obligation.{Obligation}
 use Rattle.obligations.specs.declared.obligation.Difference.{Difference}
 use Rattle.obligations.specs.declared.decision.Decided.{Decided}

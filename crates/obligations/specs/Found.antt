@@ -1,15 +1,15 @@
 -- What is found of the queries of one obligation.
 use Rattle.std.specs.Prelude.{◌≡◌, ℕ, ◌<◌, Bool, true, false, List, slice_get, Option, Some, None}
 use Rattle.std.specs.List.{All}
-use Rattle.outcome.specs.aig.Node.{Node}
-use Rattle.outcome.specs.sec_base.PairAnswer.{PairAnswer}
-use Rattle.outcome.specs.sec_base.PairAnswer.TheVariants as answer
-use Rattle.outcome.specs.Query.{Query}
-use Rattle.outcome.specs.Proof.{Proof}
-use Rattle.outcome.specs.Decision.{Decision}
-use Rattle.outcome.specs.Decision.TheVariants as decision
-use Rattle.outcome.specs.Queries.{IsSame}
-use Rattle.outcome.specs.Answers.{IsDifference}
+use Rattle.obligations.specs.outcome.aig.Node.{Node}
+use Rattle.obligations.specs.outcome.sec_base.PairAnswer.{PairAnswer}
+use Rattle.obligations.specs.outcome.sec_base.PairAnswer.TheVariants as answer
+use Rattle.obligations.specs.outcome.Query.{Query}
+use Rattle.obligations.specs.outcome.Proof.{Proof}
+use Rattle.obligations.specs.outcome.Decision.{Decision}
+use Rattle.obligations.specs.outcome.Decision.TheVariants as decision
+use Rattle.obligations.specs.outcome.Queries.{IsSame}
+use Rattle.obligations.specs.outcome.Answers.{IsDifference}
 use Rattle.swept_queries.specs.InStead.{DecidesInStead}
 use Rattle.obligations.specs.declared.found.Found.{Found}
 use Rattle.obligations.specs.declared.found.Found.TheVariants as found

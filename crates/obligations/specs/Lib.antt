@@ -9,4 +9,3 @@ pub mod pair_decide
 pub mod sat_search
 pub mod swept_queries
 pub use Rattle.swept_queries.specs.InStead
-pub use Rattle.outcome.specs.declared.verdict.PairResult

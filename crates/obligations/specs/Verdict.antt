@@ -1,7 +1,7 @@
 -- Which obligation gives the verdict.
 use Rattle.std.specs.Prelude.{◌≡◌, ◌≢◌, ℕ, ◌<◌, max, List, fold, slice_get, Option, Some, None}
-use Rattle.outcome.specs.sec_base.PairAnswer.TheVariants as answer
-use Rattle.outcome.specs.declared.verdict.PairResult.{PairResult}
+use Rattle.obligations.specs.outcome.sec_base.PairAnswer.TheVariants as answer
+use Rattle.obligations.specs.declared.outcome.verdict.PairResult.{PairResult}
 use Rattle.obligations.specs.declared.obligation.Difference.{Difference}
 use Rattle.obligations.specs.declared.verdict.VerdictAt.{VerdictAt}
 use Rattle.obligations.specs.declared.verdict.VerdictAt.TheVariants as verdict

@@ -1,1 +1,1 @@
-pub use Rattle.outcome.specs.cnf_encode.Encoding
+pub use Rattle.pair_decide.specs.cnf_encode.Encoding

@@ -1,5 +1,5 @@
-pub use Rattle.outcome.specs.pair_decide.Answers
-pub use Rattle.outcome.specs.pair_decide.Queries
-pub use Rattle.outcome.specs.pair_decide.Decision
-pub use Rattle.outcome.specs.pair_decide.Proof
-pub use Rattle.outcome.specs.pair_decide.Query
+pub use Rattle.pair_decide.specs.Answers
+pub use Rattle.pair_decide.specs.Queries
+pub use Rattle.pair_decide.specs.declared.query.Decision
+pub use Rattle.pair_decide.specs.declared.query.Proof
+pub use Rattle.pair_decide.specs.declared.query.Query

@@ -1,1 +1,1 @@
-pub use Rattle.outcome.specs.sat_search.Found
+pub use Rattle.sat_search.specs.Found

@@ -8,8 +8,8 @@ ghost use Rattle.obligations.specs.Decided.{HaveDecided, IsAnswerOf, IsPut};
 use crate::found::{Found, decide_queries};
 use crate::names::copy_name;
 use crate::obligation::{Difference, Obligation};
+use crate::outcome::{Aig, MAX_CONFLICTS, NoMemory, PairAnswer, PairName, PairResult, PairResults};
 use crate::sides::sweep_asked;
-use outcome::{Aig, MAX_CONFLICTS, NoMemory, PairAnswer, PairName, PairResult, PairResults};
 use std::alloc::Global;
 use swept_queries::SweptQueries;
 

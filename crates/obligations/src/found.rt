@@ -2,13 +2,13 @@
 
 ghost use Rattle.std.specs.Prelude.{◌≡◌, ℕ, ◌+◌, ◌<◌, ◌≤◌, ◌^◌, length, slice_get, Some, IfOk, IfSome, MatchOption};
 ghost use Rattle.std.specs.List.{All};
-ghost use Rattle.outcome.specs.aig.Node.{Node};
-ghost use Rattle.outcome.specs.Query.{Query};
-ghost use Rattle.outcome.specs.Queries.{IsQuery};
+ghost use Rattle.obligations.specs.outcome.aig.Node.{Node};
+ghost use Rattle.obligations.specs.outcome.Query.{Query};
+ghost use Rattle.obligations.specs.outcome.Queries.{IsQuery};
 ghost use Rattle.swept_queries.specs.InStead.{IsKnown};
 ghost use Rattle.obligations.specs.Found.{IsFound, EndsAt};
 
-use outcome::{Aig, Bits, Decision, MAX_CONFLICTS, NoMemory, Proof, Query};
+use crate::outcome::{Aig, Bits, Decision, MAX_CONFLICTS, NoMemory, Proof, Query};
 use std::alloc::Global;
 use swept_queries::SweptQueries;
 

@@ -5,11 +5,12 @@ mod decision;
 mod found;
 mod names;
 mod obligation;
+pub mod outcome;
 mod sides;
 mod verdict;
 
+pub use crate::outcome::{PairName, PairResults, Query, Stimulus, Verdict, Witness};
 pub use decision::{Decided, decide_all};
 pub use names::copy_name;
 pub use obligation::{Difference, Obligation, Queries};
-pub use outcome::{PairName, PairResults, Query, Stimulus, Verdict, Witness};
 pub use verdict::{VerdictAt, greatest_size, verdict_at};

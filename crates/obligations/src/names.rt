@@ -2,7 +2,7 @@
 
 ghost use Rattle.std.specs.Prelude.{◌≡◌, IfOk};
 
-use outcome::{NoMemory, PairName};
+use crate::outcome::{NoMemory, PairName};
 
 /// A copy of a pair's name.
 pub fn copy_name(name: &PairName) -> Result<PairName, NoMemory>

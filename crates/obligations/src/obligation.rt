@@ -1,6 +1,6 @@
 //! What is asked, and where it is found to differ.
 
-use outcome::{Bits, PairName, Query, Seq};
+use crate::outcome::{Bits, PairName, Query, Seq};
 
 /// Queries over one graph, in order.
 pub type Queries = Seq<Query>;

@@ -5,7 +5,7 @@ ghost use Rattle.std.specs.List.{AllZip};
 ghost use Rattle.obligations.specs.Asked.{AreAsked, AreKnown, MaySweep, queries_of, HaveMore};
 
 use crate::obligation::Obligation;
-use outcome::{Aig, NoMemory, Query};
+use crate::outcome::{Aig, NoMemory, Query};
 use std::alloc::Global;
 use swept_queries::{Sides, SweptQueries, sweep_queries};
 

@@ -1,11 +1,11 @@
 //! Which obligation gives the verdict.
 
 ghost use Rattle.std.specs.Prelude.{◌≡◌, List, IfOk};
-ghost use Rattle.outcome.specs.declared.verdict.PairResult.{PairResult};
+ghost use Rattle.obligations.specs.declared.outcome.verdict.PairResult.{PairResult};
 ghost use Rattle.obligations.specs.Verdict.{IsVerdictAt, IsFirstLimit, greatest_size};
 
 use crate::obligation::Difference;
-use outcome::{PairAnswer, PairResult};
+use crate::outcome::{PairAnswer, PairResult};
 
 /// The verdict, and the obligation that gives it.
 #[derive(Drop)]

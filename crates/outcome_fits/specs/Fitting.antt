@@ -6,7 +6,7 @@ use Rattle.circuit_theory.specs.Interface.{shared_inputs, AreNumbersOf}
 use Rattle.circuit_theory.specs.Sizes.{IsWeight, IsOver}
 use Rattle.sec_setup.specs.sec_base.TheConstants.{MAX_WEIGHT}
 use Rattle.sec_setup.specs.flat_net.View.{NetView, circuit_of, ports_of}
-use Rattle.obligations.specs.outcome.Outcome.{Outcome}
+use Rattle.obligations.specs.declared.outcome.verdict.Outcome.{Outcome}
 use Rattle.sec_setup.specs.Cuts.{IsChoice, AreCutAt, columns_of, is_cut}
 use Rattle.sec_setup.specs.ports.Pairs.{outputs_of, named_pairs}
 use Rattle.outcome_fits.specs.Outcome.{PairsFit, VerdictFits, greatest_size}

@@ -9,12 +9,12 @@ use Rattle.sec_setup.specs.sec_base.PairAnswer.{PairAnswer}
 use Rattle.sec_setup.specs.sec_base.PairAnswer.TheVariants as answer
 use Rattle.obligations.specs.outcome.Proof.{Proof}
 use Rattle.sec_setup.specs.witness_report.Witness.{Witness}
-use Rattle.obligations.specs.outcome.PairResult.{PairResult}
-use Rattle.obligations.specs.outcome.Verdict.{Verdict}
-use Rattle.obligations.specs.outcome.Verdict.TheVariants as verdict
-use Rattle.obligations.specs.outcome.Why.TheVariants as why
-use Rattle.obligations.specs.outcome.LimitAt.{LimitAt}
-use Rattle.obligations.specs.outcome.LimitAt.TheVariants as limit_at
+use Rattle.obligations.specs.declared.outcome.verdict.PairResult.{PairResult}
+use Rattle.obligations.specs.declared.outcome.verdict.Verdict.{Verdict}
+use Rattle.obligations.specs.declared.outcome.verdict.Verdict.TheVariants as verdict
+use Rattle.obligations.specs.declared.outcome.verdict.Why.TheVariants as why
+use Rattle.obligations.specs.declared.outcome.verdict.LimitAt.{LimitAt}
+use Rattle.obligations.specs.declared.outcome.verdict.LimitAt.TheVariants as limit_at
 use Rattle.sec_setup.specs.ports.Pairs.{NamedPair}
 pub use Rattle.obligations.specs.Decided.{NoneIs}
 pub use Rattle.obligations.specs.Verdict.{greatest_size}

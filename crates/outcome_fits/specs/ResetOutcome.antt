@@ -8,13 +8,13 @@ use Rattle.circuit_laws.specs.reset_laws.Reset.{ResetUnfolds, HaveEqualResets, I
 use Rattle.sec_setup.specs.sec_base.PairAnswer.{PairAnswer}
 use Rattle.sec_setup.specs.sec_base.PairAnswer.TheVariants as answer
 use Rattle.obligations.specs.outcome.Proof.{Proof}
-use Rattle.obligations.specs.outcome.PairResult.{PairResult}
+use Rattle.obligations.specs.declared.outcome.verdict.PairResult.{PairResult}
 use Rattle.sec_setup.specs.witness_report.PairName.{PairName}
 use Rattle.sec_setup.specs.ports.Pairs.{NamedPair}
 pub use Rattle.obligations.specs.Decided.{NoneIs}
 pub use Rattle.obligations.specs.Verdict.{greatest_size}
 use Rattle.outcome_fits.specs.ResetLimits.{IsUndecidedAt}
-use Rattle.obligations.specs.outcome.ResetWitness.{ResetWitness}
+use Rattle.obligations.specs.declared.outcome.verdict.ResetWitness.{ResetWitness}
 
 -- Two circuits with the numbers of their inputs' and their latches' variables, and the names of the inputs' numbers.
 pub record Numbered : Type 0 where

@@ -2,13 +2,13 @@
 use Rattle.std.proofs.Common.{◌≡◌, ℕ, zero, suc, ◌+◌, ◌*◌, ◌/◌, ◌%◌, ◌<◌, ◌⊎◌, inl, inr, Bool, List, length, get_or, slice_get, Some, Contains, refl, sym, ◌∙◌, ap, arith}
 use Rattle.std.specs.Prelude.{not, ◌&&◌}
 use Rattle.std.proofs.lemmas.Option.{slice_get_within, slice_get-get_or}
-use Rattle.lane_eval.specs.aig.Node.{Node}
-use Rattle.lane_eval.specs.aig.Node.TheVariants.{Constant, Input, And}
-use Rattle.lane_eval.specs.aig.Graph.{IsOrdered, IsAbove, flip}
-use Rattle.lane_eval.specs.aig.Values.{value, node_value}
-use Rattle.lane_eval.specs.aig.Cone.{Reads, IsReached}
-use Rattle.lane_eval.proofs.aig.Literals.{parity, flip-even}
-use Rattle.lane_eval.proofs.aig.Meaning.{value-node, value-flip}
+use Rattle.aig.specs.declared.node.Node.{Node}
+use Rattle.aig.specs.declared.node.Node.TheVariants.{Constant, Input, And}
+use Rattle.aig.specs.Graph.{IsOrdered, IsAbove, flip}
+use Rattle.aig.specs.Values.{value, node_value}
+use Rattle.aig.specs.Cone.{Reads, IsReached}
+use Rattle.aig.proofs.Literals.{parity, flip-even}
+use Rattle.aig.proofs.Meaning.{value-node, value-flip}
 
 module _ (g : List Node) (ordered : IsOrdered g) (roots : List ℕ) (within : (x : ℕ) → Contains roots x → x < 2 * length g) where
   reads-below : (n x : ℕ) (node : Node) → IsAbove n node → Reads node x → x < 2 * n

@@ -5,10 +5,10 @@ use Rattle.std.specs.List.Sorted.{IsStrictlyIncreasing}
 use Rattle.std.proofs.lemmas.Bool.Decides.{Decides-eqb}
 use Rattle.std.proofs.lemmas.List.{length-map}
 use Rattle.std.proofs.lemmas.Option.{same_Some, slice_get_within, slice_get-get_or, slice_get-map}
-use Rattle.lane_eval.specs.aig.Node.{Node}
-use Rattle.lane_eval.specs.aig.Node.TheVariants.{Input}
-use Rattle.lane_eval.specs.aig.Graph.{IsGraph}
-use Rattle.lane_eval.proofs.aig.Parts.{stands_once}
+use Rattle.aig.specs.declared.node.Node.{Node}
+use Rattle.aig.specs.declared.node.Node.TheVariants.{Input}
+use Rattle.aig.specs.Graph.{IsGraph}
+use Rattle.aig.proofs.Parts.{stands_once}
 use Rattle.pair_decide.specs.Reading.{HasInputBits, AreInputBits}
 
 same_input : (s t : ℕ) → Input s ≡ Input t → s ≡ t

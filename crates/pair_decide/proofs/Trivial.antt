@@ -1,10 +1,10 @@
 -- Sides that are one literal, and a care that never holds.
 use Rattle.std.proofs.Common.{◌≡◌, ℕ, inl, inr, Bool, false, List, sym, ◌∙◌, ap, true≢false}
-use Rattle.lane_eval.specs.aig.Node.{Node}
-use Rattle.lane_eval.specs.aig.Node.TheVariants.{Constant}
-use Rattle.lane_eval.specs.aig.Graph.{IsGraph}
-use Rattle.lane_eval.specs.aig.Values.{value}
-use Rattle.lane_eval.proofs.aig.Meaning.{value-node}
+use Rattle.aig.specs.declared.node.Node.{Node}
+use Rattle.aig.specs.declared.node.Node.TheVariants.{Constant}
+use Rattle.aig.specs.Graph.{IsGraph}
+use Rattle.aig.specs.Values.{value}
+use Rattle.aig.proofs.Meaning.{value-node}
 use Rattle.pair_decide.specs.declared.query.Query.{Query}
 use Rattle.pair_decide.specs.Queries.{IsTrivial, IsSame}
 

@@ -1,2 +1,2 @@
-pub use Rattle.lane_eval.proofs.aig.Growth
-pub use Rattle.lane_eval.proofs.aig.Insert
+pub use Rattle.aig.proofs.Growth
+pub use Rattle.aig.proofs.Insert

@@ -1,10 +1,10 @@
 -- The answers to a query, and what stands behind each.
 use Rattle.std.specs.Prelude.{◌≡◌, ℕ, ◌≤◌, ◌<◌, Bool, List, length, Some, None, Option}
-use Rattle.lane_eval.specs.circuit_theory.Query.{bits_of}
-use Rattle.lane_eval.specs.aig.Node.{Node}
-use Rattle.cnf_encode.specs.proof_check.Chains.{IsRefutation}
+use Rattle.aig.specs.lane_eval.circuit_theory.Query.{bits_of}
+use Rattle.aig.specs.declared.node.Node.{Node}
+use Rattle.pair_decide.specs.cnf_encode.proof_check.Chains.{IsRefutation}
 use Rattle.sat_search.specs.Found.{IsFruitless}
-use Rattle.cnf_encode.specs.Encoding.{IsEncoding}
+use Rattle.pair_decide.specs.cnf_encode.Encoding.{IsEncoding}
 use Rattle.pair_decide.specs.declared.query.Query.{Query}
 use Rattle.pair_decide.specs.declared.query.Proof.{Proof}
 use Rattle.pair_decide.specs.declared.query.SameBy.TheVariants as same

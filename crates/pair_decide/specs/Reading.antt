@@ -1,7 +1,7 @@
 -- The bits of variables by values of their nodes.
 use Rattle.std.specs.Prelude.{◌≡◌, ℕ, ◌<◌, Bool, List, length, slice_get, Some, Option}
-use Rattle.lane_eval.specs.aig.Node.{Node}
-use Rattle.lane_eval.specs.aig.Node.TheVariants.{Input}
+use Rattle.aig.specs.declared.node.Node.{Node}
+use Rattle.aig.specs.declared.node.Node.TheVariants.{Input}
 
 -- of the first so many nodes each that is a variable's has its value under the variable
 abbrev pub HasInputBits : List Node → List ℕ → List Bool → (ℕ → Option Bool) → ℕ → Type 0

@@ -1,4 +1,4 @@
-pub use Rattle.lane_eval.specs.aig.Cone
-pub use Rattle.lane_eval.specs.aig.Graph
-pub use Rattle.lane_eval.specs.aig.Values
-pub use Rattle.lane_eval.specs.aig.Node
+pub use Rattle.aig.specs.Cone
+pub use Rattle.aig.specs.Graph
+pub use Rattle.aig.specs.Values
+pub use Rattle.aig.specs.declared.node.Node

@@ -1,1 +1,2 @@
-pub use Rattle.cnf_encode.specs.Encoding
+pub mod Encoding
+pub mod proof_check

@@ -5,9 +5,9 @@ ghost use Rattle.std.specs.List.Sorted.{IsStrictlyIncreasing};
 ghost use Rattle.indexmap.specs.IndexMap.{get};
 ghost use Rattle.pair_decide.specs.Reading.{HasInputBits, AreInputBits};
 
-use cnf_encode::{Bits, NoMemory};
+use crate::cnf_encode::{Bits, NoMemory};
+use aig::lane_eval::{Aig, Node};
 use indexmap::IndexMap;
-use lane_eval::{Aig, Node};
 use std::alloc::Global;
 
 /// A bit for each variable: its node's value, or 0 where none of the nodes is its.

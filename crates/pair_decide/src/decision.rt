@@ -4,11 +4,11 @@ ghost use Rattle.std.specs.Prelude.{◌≤◌, ◌↔◌, IfOk, IsTrue};
 ghost use Rattle.pair_decide.specs.Queries.{IsQuery, IsTrivial};
 ghost use Rattle.pair_decide.specs.Answers.{Decides};
 
+use crate::cnf_encode::{MAX_CONFLICTS, NoMemory};
 use crate::query::{Decision, Query, SameBy};
 use crate::search::decide_by_search;
 use crate::table::decide_by_table;
-use cnf_encode::{MAX_CONFLICTS, NoMemory};
-use lane_eval::{Aig, Lit};
+use aig::lane_eval::{Aig, Lit};
 use std::alloc::Global;
 
 /// The most variables of a query that is decided by trying all assignments.

@@ -1,7 +1,7 @@
 //! Queries and their answers.
 
-use cnf_encode::{Bits, Cnf, Ids, Log};
-use lane_eval::Lit;
+use crate::cnf_encode::{Bits, Cnf, Ids, Log};
+use aig::lane_eval::Lit;
 
 /// Whether `left` and `right` agree wherever `care` holds.
 #[derive(Drop)]

@@ -1,15 +1,15 @@
 //! Queries of more than 16 variables: clauses, a search, and a checked refutation.
 
 ghost use Rattle.std.specs.Prelude.{◌≤◌, ◌<◌, ◌+◌, ◌^◌, length, IfOk, OnOk};
-ghost use Rattle.cnf_encode.specs.proof_check.Clauses.{Unsatisfiable};
-ghost use Rattle.cnf_encode.specs.proof_check.Chains.{IsRefutation};
+ghost use Rattle.pair_decide.specs.cnf_encode.proof_check.Clauses.{Unsatisfiable};
+ghost use Rattle.pair_decide.specs.cnf_encode.proof_check.Chains.{IsRefutation};
 ghost use Rattle.pair_decide.specs.Queries.{IsQuery};
 ghost use Rattle.pair_decide.specs.Answers.{Decides, IsWide};
 
 use crate::bits::bits_of_vars;
+use crate::cnf_encode::{Clauses, Log, MAX_CONFLICTS, NoMemory, ProofError, check_log, encode};
 use crate::query::{Decision, Proof, Query, SameBy};
-use cnf_encode::{Clauses, Log, MAX_CONFLICTS, NoMemory, ProofError, check_log, encode};
-use lane_eval::Aig;
+use aig::lane_eval::Aig;
 use sat_search::{Found, search};
 use std::alloc::Global;
 

@@ -4,13 +4,13 @@ use Rattle.std.specs.Prelude.{IfSome}
 use Rattle.std.proofs.lemmas.Option.{same_Some, slice_get_within}
 use Rattle.sec_setup.specs.declared.ports.pairs.SignalPair.{SignalPair}
 use Rattle.sec_setup.specs.declared.setup.Setup.{Setup}
-use Rattle.unfold_places.specs.declared.signal_function.Unfolded.{Unfolded}
+use Rattle.cbf_unfold.specs.declared.unfold_places.signal_function.Unfolded.{Unfolded}
 use Rattle.pair_decide.specs.declared.query.Query.{Query}
 use Rattle.outcome_fits.specs.Obligation.{Obligation}
 use Rattle.plain_asked.specs.declared.functions.Functions.{Functions}
 use Rattle.plain_asked.specs.Apart.{IsPairAt}
 use Rattle.plain_asked.specs.Asked.{AreAskedAt, AskedApart, AsksWith, IsOnlyQuery, StandAt}
-use Rattle.shift_variables.proofs.Reading.{item_at}
+use Rattle.cbf_unfold.proofs.shift_variables.Reading.{item_at}
 use Rattle.plain_asked.proofs.PairQueries.{in_order}
 
 module _ (s : Setup) (f : Functions) (p : SignalPair) where

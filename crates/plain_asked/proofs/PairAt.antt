@@ -7,14 +7,14 @@ use Rattle.circuit_theory.proofs.Lists.{Contains-map, Contains-map_from, of_at, 
 use Rattle.flat_net.specs.declared.parts.Port.{Port}
 use Rattle.flat_net.specs.View.{NetView}
 use Rattle.flat_net.specs.Sound.{IsSound}
-use Rattle.unfold_places.specs.declared.signal_function.Unfolded.{Unfolded}
+use Rattle.cbf_unfold.specs.declared.unfold_places.signal_function.Unfolded.{Unfolded}
 use Rattle.sec_setup.specs.declared.ports.pairs.SignalPair.{SignalPair}
 use Rattle.plain_asked.specs.declared.functions.Functions.{Functions}
 use Rattle.sec_setup.specs.ports.Pairs.{outputs_of, ArePairsOf}
 use Rattle.plain_asked.specs.Pairs.{IsFunctionOf, AreFunctions}
 use Rattle.plain_asked.specs.Variables.{AreInOrder}
 use Rattle.plain_asked.proofs.PairQueries.{in_order}
-use Rattle.shift_variables.proofs.Reading.{item_at}
+use Rattle.cbf_unfold.proofs.shift_variables.Reading.{item_at}
 
 -- a relation of two lists, at one place of both
 zip_at : {X Y : Type 0} (R : X → Y → Type 0) (xs : List X) (ys : List Y) → AllZip R xs ys → (i : ℕ) (x : X) (y : Y) → slice_get xs i ≡ Some x → slice_get ys i ≡ Some y → R x y

@@ -20,18 +20,18 @@ use Rattle.aig.specs.Cone.{IsReached}
 use Rattle.aig.specs.Values.{value}
 use Rattle.aig.specs.Builds.{HasTreeValues}
 use Rattle.aig.proofs.CoverMeaning.{value-one}
-use Rattle.unfold_places.specs.declared.signal_function.Unfolded.{Unfolded}
-use Rattle.unfold_places.specs.Growing.{IsNumberOf}
+use Rattle.cbf_unfold.specs.declared.unfold_places.signal_function.Unfolded.{Unfolded}
+use Rattle.cbf_unfold.specs.unfold_places.Growing.{IsNumberOf}
 use Rattle.cbf_unfold.proofs.Cone.{covers_cone, reached_one, constant_reaches}
-use Rattle.unfold_places.proofs.Lists.{pairs_map}
+use Rattle.cbf_unfold.proofs.unfold_places.Lists.{pairs_map}
 use Rattle.pair_decide.specs.declared.query.Query.{Query}
 use Rattle.pair_decide.specs.Queries.{IsQuery, IsSame, IsLeast, Distinguishes, assigned_to, roots_of}
 use Rattle.outcome_fits.specs.Limits.{HasValueOf}
 use Rattle.plain_asked.specs.Pairs.{IsFunctionOf}
 use Rattle.plain_asked.specs.Sequences.{bits_at}
 use Rattle.plain_asked.specs.Variables.{variable_of, variables_of, GoesBefore, AreInOrder, IsMergeOf, IsPairQuery}
-use Rattle.shift_variables.proofs.MergeLists.{shift_apart}
-use Rattle.shift_variables.proofs.Assignments.{assigned_alike}
+use Rattle.cbf_unfold.proofs.shift_variables.MergeLists.{shift_apart}
+use Rattle.cbf_unfold.proofs.shift_variables.Assignments.{assigned_alike}
 
 -- the number of a variable in the table is that of the variable
 variable_is : (places : List (ℕ × ℕ)) (v : ℕ) (x : Variable ℕ) → IsNumberOf places v x → variable_of places v ≡ x

@@ -16,7 +16,7 @@ use Rattle.plain_asked.specs.Formed.{Formed}
 use Rattle.sec_setup.specs.ports.Pairs.{outputs_of, ArePairsOf}
 use Rattle.sec_setup.specs.Setup.{AreColumns}
 use Rattle.plain_asked.specs.Pairs.{AreLight, AreTooLarge, Unfolds, left_signals, right_signals}
-use Rattle.shift_variables.proofs.Assignments.{once_each}
+use Rattle.cbf_unfold.proofs.shift_variables.Assignments.{once_each}
 use Rattle.plain_asked.proofs.Growing.{over_weaker, weight_same}
 use Rattle.plain_asked.proofs.PairAt.{output_within}
 

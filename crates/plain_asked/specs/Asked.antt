@@ -3,7 +3,7 @@ use Rattle.std.specs.Prelude.{◌≡◌, ℕ, Bool, not, ◌⊎◌, List, [], �
 use Rattle.std.specs.List.{AllZip}
 use Rattle.circuit_theory.specs.Fits.{IsPairDepth}
 use Rattle.flat_net.specs.View.{NetView, circuit_of}
-use Rattle.unfold_places.specs.declared.signal_function.Unfolded.{Unfolded}
+use Rattle.cbf_unfold.specs.declared.unfold_places.signal_function.Unfolded.{Unfolded}
 use Rattle.pair_decide.specs.declared.query.Query.{Query}
 use Rattle.outcome_fits.specs.Obligation.{Obligation}
 use Rattle.sec_setup.specs.declared.ports.pairs.SignalPair.{SignalPair}

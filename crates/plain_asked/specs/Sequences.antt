@@ -9,7 +9,7 @@ use Rattle.witness_report.specs.declared.witness.PairName.{PairName}
 use Rattle.witness_report.specs.declared.witness.Witness.{Witness}
 use Rattle.outcome_fits.specs.Obligation.{Obligation}
 use Rattle.outcome_fits.specs.Difference.{Difference}
-pub use Rattle.shift_variables.specs.Sequences.{bits_at, IsSequence}
+pub use Rattle.cbf_unfold.specs.shift_variables.Sequences.{bits_at, IsSequence}
 
 -- the obligation and the query of a difference
 pub record IsQueryAt (asked : List Obligation) (d : Difference) (o : Obligation) (q : Query) : Type 0 where

@@ -1,8 +1,8 @@
 -- The query of a pair, over inputs at shifts as `shift_variables` numbers them.
 use Rattle.std.specs.Prelude.{◌≡◌, ℕ, List}
 use Rattle.pair_decide.specs.declared.query.Query.{Query}
-use Rattle.unfold_places.specs.declared.signal_function.Unfolded.{Unfolded}
-pub use Rattle.shift_variables.specs.Variables.{variable_of, variables_of, GoesBefore, AreInOrder, IsMergeOf}
+use Rattle.cbf_unfold.specs.declared.unfold_places.signal_function.Unfolded.{Unfolded}
+pub use Rattle.cbf_unfold.specs.shift_variables.Variables.{variable_of, variables_of, GoesBefore, AreInOrder, IsMergeOf}
 
 -- the query of two functions: do they agree always? Its variables are those of both.
 pub record IsPairQuery (places : List (ℕ × ℕ)) (left right : Unfolded) (q : Query) : Type 0 where

@@ -4,7 +4,7 @@ ghost use Rattle.std.specs.Prelude.{◌≡◌, ℕ, ◌+◌, ◌^◌, ◌<◌, �
 ghost use Rattle.std.specs.List.{AllZip};
 ghost use Rattle.cbf_unfold.specs.Building.{IsLater};
 ghost use Rattle.cbf_unfold.specs.Unfolded.{IsLiteralOf, Fits};
-ghost use Rattle.unfold_places.specs.InputOrder.{IsOrderOf};
+ghost use Rattle.cbf_unfold.specs.unfold_places.InputOrder.{IsOrderOf};
 ghost use Rattle.plain_asked.specs.Apart.{AreChosen, ChoosesOf, IsNew, IsPut, UnfoldsApart};
 ghost use Rattle.plain_asked.specs.Pairs.{IsFunctionOf, IsRefusalOf, left_signals, right_signals};
 

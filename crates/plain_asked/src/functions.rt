@@ -3,8 +3,8 @@
 ghost use Rattle.std.specs.Prelude.{◌≡◌, ℕ, ◌+◌, ◌*◌, ◌^◌, ◌<◌, ◌≤◌, map, length, All, IfOk, IfErr, OnOk};
 ghost use Rattle.std.specs.List.{AllZip};
 ghost use Rattle.aig.specs.Graph.{Grows};
-ghost use Rattle.unfold_places.specs.Reach.{Adds};
-ghost use Rattle.unfold_places.specs.InputOrder.{IsOrderOf};
+ghost use Rattle.cbf_unfold.specs.unfold_places.Reach.{Adds};
+ghost use Rattle.cbf_unfold.specs.unfold_places.InputOrder.{IsOrderOf};
 ghost use Rattle.plain_asked.specs.Pairs.{IsFunctionOf, AreLight, IsRefusalOf, Unfolds, left_signals, right_signals, side_signals, signal_of};
 
 use crate::apart::functions_of;

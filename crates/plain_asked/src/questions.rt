@@ -13,11 +13,11 @@ use crate::functions::Functions;
 use aig::Lit;
 use base_tables::PlaceTable;
 use cbf_unfold::Unfolded;
+use cbf_unfold::shift_variables::merge_variables;
 use outcome_fits::{Obligation, Queries, copy_name};
 use pair_decide::Query;
 use sec_base::NoMemory;
 use sec_setup::{Setup, pair_depth};
-use shift_variables::merge_variables;
 use std::alloc::Global;
 
 /// What is asked of each pair, in order: whether both functions agree always. A difference shows that the circuits differ where no

@@ -5,10 +5,10 @@ ghost use Rattle.base_tables.specs.Table.{AreDistinct};
 ghost use Rattle.plain_asked.specs.Sequences.{IsSequence, IsWitnessOf};
 
 use crate::functions::Functions;
+use cbf_unfold::shift_variables::{rows_of, sides_at};
 use outcome_fits::{PairName, Stimulus, Witness, copy_name};
 use pair_decide::Query;
 use sec_base::{Bits, NoMemory, Words};
-use shift_variables::{rows_of, sides_at};
 use std::alloc::Global;
 
 /// The sequence of a pair of this name that ends in the cycle `last`: the bit of an input at a shift stands so many cycles

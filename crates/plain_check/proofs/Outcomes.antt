@@ -8,7 +8,7 @@ use Rattle.flat_net.specs.Sound.{IsSound}
 use Rattle.flat_net.specs.View.{NetView, circuit_of, ports_of}
 use Rattle.sec_setup.specs.declared.cut_points.exposed.Exposure.{Exposure}
 use Rattle.sec_base.specs.declared.settings.Settings.{Settings}
-use Rattle.outcome.specs.declared.verdict.Outcome.{Outcome}
+use Rattle.obligations.specs.declared.outcome.verdict.Outcome.{Outcome}
 use Rattle.sec_setup.specs.declared.setup.Setup.{Setup}
 use Rattle.sec_setup.specs.Choosing.{IsChosen}
 use Rattle.sec_setup.specs.Cuts.{columns_of, is_cut}
@@ -19,11 +19,11 @@ use Rattle.plain_asked.specs.declared.findings.Findings.{Findings}
 use Rattle.plain_asked.specs.declared.error.PlainError.TheVariants as plain_error
 use Rattle.plain_asked.specs.Formed.{AreFound, Formed}
 use Rattle.plain_asked.specs.Findings.{FindingsFit}
-use Rattle.under_base.specs.declared.compare_base.error.CompareError.TheVariants as refused
-use Rattle.under_base.specs.compare_base.Compared.{IsCompared, Compared}
+use Rattle.plain_check.specs.declared.under_base.compare_base.error.CompareError.TheVariants as refused
+use Rattle.plain_check.specs.under_base.compare_base.Compared.{IsCompared, Compared}
 use Rattle.reset_form.specs.outcome_fits.Fitting.{OutcomeFits}
-use Rattle.under_base.proofs.compare_base.CutSetups.{choice, left_too_large, right_too_large}
-use Rattle.under_base.proofs.compare_base.Meaning.{they_are_equal, makes_differ, makes_cuts_differ}
+use Rattle.plain_check.proofs.under_base.compare_base.CutSetups.{choice, left_too_large, right_too_large}
+use Rattle.plain_check.proofs.under_base.compare_base.Meaning.{they_are_equal, makes_differ, makes_cuts_differ}
 
 -- a net that is too large is refused
 pub too_large : (a b : NetView) (settings : Settings) (e : Exposure) (s : Setup) → InterfacesMatch a b → IsChosen a b settings.expose e → IsSetupOf a b s → s.exposed ≡ e.names → settings.reset ≡ false →

@@ -13,7 +13,7 @@ use Rattle.circuit_laws.specs.reset_laws.Reset.{ResetUnfolds, ResetUnfoldsAll, I
 use Rattle.circuit_laws.proofs.reset_laws.ResetWindows.{powers_at, start_none, powered_is_reset}
 use Rattle.witness_report.specs.declared.witness.Witness.{Witness}
 use Rattle.witness_report.specs.Shown.{Obeys}
-use Rattle.under_base.proofs.compare_base.Sequences.{printed}
+use Rattle.plain_check.proofs.under_base.compare_base.Sequences.{printed}
 
 -- the leaf's value is that of its input in the leaf's cycle
 abbrev pub HasInputsThere : {P : Type 0} → Circuit P → List ℕ → (ℕ → P → Bool) → ℕ → (ℕ → ℕ → Bool) → (ℕ → ℕ → Type 0) → Type 0

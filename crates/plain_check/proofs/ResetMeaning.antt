@@ -19,20 +19,20 @@ use Rattle.sec_base.specs.declared.basics.PairAnswer.{PairAnswer}
 use Rattle.sec_base.specs.declared.basics.PairAnswer.TheVariants as answer
 use Rattle.pair_decide.specs.declared.query.Proof.{Proof}
 use Rattle.witness_report.specs.Shown.{Obeys}
-use Rattle.outcome.specs.declared.verdict.PairResult.{PairResult}
-use Rattle.outcome.specs.declared.verdict.ResetWitness.{ResetWitness}
-use Rattle.outcome.specs.declared.verdict.Verdict.{Verdict}
-use Rattle.outcome.specs.declared.verdict.Verdict.TheVariants as verdict
-use Rattle.outcome.specs.declared.verdict.Outcome.{Outcome}
+use Rattle.obligations.specs.declared.outcome.verdict.PairResult.{PairResult}
+use Rattle.obligations.specs.declared.outcome.verdict.ResetWitness.{ResetWitness}
+use Rattle.obligations.specs.declared.outcome.verdict.Verdict.{Verdict}
+use Rattle.obligations.specs.declared.outcome.verdict.Verdict.TheVariants as verdict
+use Rattle.obligations.specs.declared.outcome.verdict.Outcome.{Outcome}
 use Rattle.circuit_laws.specs.reset_laws.Reset.{HasStarts, AreEqualFromReset, AgreeFromReset, AreAlikeFromReset, TakesPower, MakesDifferFromReset}
 use Rattle.circuit_laws.proofs.reset_laws.ResetAgreement.{equal_resets_agree, reset_same_at}
 use Rattle.circuit_laws.proofs.reset_laws.ResetWindows.{reset_witness_makes_differ}
 use Rattle.circuit_laws.proofs.reset_laws.reset_nets.Starts.{nets_have_starts}
 use Rattle.sec_setup.specs.ports.Pairs.{NamedPair, named_pairs}
 use Rattle.reset_form.specs.outcome_fits.ResetOutcome.{Numbered, AgreeAt, AnswerFits, PairFits, IsFirstDifference}
-use Rattle.under_base.specs.compare_base.FromReset.{numbered_by, ResetOutcomeFits, ResetVerdictFits}
-use Rattle.under_base.specs.compare_base.Says.{MakesResetsDiffer}
-use Rattle.under_base.proofs.compare_base.CutPairs.{IsOutputPair, IsNextPair, one_output, pair_listed, listed_is}
+use Rattle.plain_check.specs.under_base.compare_base.FromReset.{numbered_by, ResetOutcomeFits, ResetVerdictFits}
+use Rattle.plain_check.specs.under_base.compare_base.Says.{MakesResetsDiffer}
+use Rattle.plain_check.proofs.under_base.compare_base.CutPairs.{IsOutputPair, IsNextPair, one_output, pair_listed, listed_is}
 use Rattle.plain_check.proofs.ResetLeaves.{powered_value}
 
 -- nothing is in the list of none

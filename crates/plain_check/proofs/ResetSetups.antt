@@ -6,22 +6,22 @@ use Rattle.flat_net.specs.Comparable.{IsComparable}
 use Rattle.flat_net.specs.Sound.{IsSound}
 use Rattle.flat_net.specs.View.{NetView, circuit_of}
 use Rattle.sec_base.specs.declared.settings.Settings.{Settings}
-use Rattle.outcome.specs.declared.verdict.Outcome.{Outcome}
-use Rattle.outcome.specs.declared.verdict.PairResult.{PairResult}
+use Rattle.obligations.specs.declared.outcome.verdict.Outcome.{Outcome}
+use Rattle.obligations.specs.declared.outcome.verdict.PairResult.{PairResult}
 use Rattle.sec_setup.specs.declared.setup.Setup.{Setup}
 use Rattle.sec_setup.specs.Matching.{InterfacesMatch}
 use Rattle.sec_setup.specs.ports.Pairs.{NamedPair, named_pairs}
 use Rattle.sec_setup.specs.Setup.{IsSetupOf}
 use Rattle.reset_form.specs.declared.reset_asked.findings.ResetFindings.{ResetFindings}
-use Rattle.under_base.specs.compare_base.ResetError.TheVariants as reset_error
+use Rattle.plain_check.specs.under_base.compare_base.ResetError.TheVariants as reset_error
 use Rattle.reset_form.specs.declared.reset_asked.findings.ResetVerdict.{ResetVerdict}
 use Rattle.reset_form.specs.declared.reset_asked.findings.ResetVerdict.TheVariants as found_verdict
 use Rattle.reset_form.specs.Formed.{AreFound, Formed}
 use Rattle.reset_form.specs.outcome_fits.ResetOutcome.{Numbered}
 use Rattle.reset_form.specs.Findings.{FindingsFit, VerdictFits}
-use Rattle.under_base.specs.compare_base.Compared.{IsComparedFromReset}
-use Rattle.under_base.specs.compare_base.FromReset.{AreTooLargeFromReset, numbered_by, ResetOutcomeFits, ResetVerdictFits}
-use Rattle.under_base.proofs.compare_base.UncutSetups.{left_light, right_light, left_too_large, right_too_large, of_circuits, based, left_numbers, right_numbers}
+use Rattle.plain_check.specs.under_base.compare_base.Compared.{IsComparedFromReset}
+use Rattle.plain_check.specs.under_base.compare_base.FromReset.{AreTooLargeFromReset, numbered_by, ResetOutcomeFits, ResetVerdictFits}
+use Rattle.plain_check.proofs.under_base.compare_base.UncutSetups.{left_light, right_light, left_too_large, right_too_large, of_circuits, based, left_numbers, right_numbers}
 use Rattle.plain_check.specs.Verdicts.{verdict_of}
 use Rattle.plain_check.proofs.ResetMeaning.{resets_agree, resets_differ}
 

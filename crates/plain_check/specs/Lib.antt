@@ -1,3 +1,4 @@
 pub mod Verdicts
 pub mod plain_form
-pub use Rattle.under_base.specs.compare_base.Compared
+pub mod under_base
+pub mod asked_under

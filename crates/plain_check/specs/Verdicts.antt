@@ -1,7 +1,7 @@
 -- The verdict of each form as an outcome has it.
-use Rattle.outcome.specs.declared.verdict.LimitAt.TheVariants as limit_at
-use Rattle.outcome.specs.declared.verdict.Verdict.{Verdict}
-use Rattle.outcome.specs.declared.verdict.Verdict.TheVariants as verdict
+use Rattle.obligations.specs.declared.outcome.verdict.LimitAt.TheVariants as limit_at
+use Rattle.obligations.specs.declared.outcome.verdict.Verdict.{Verdict}
+use Rattle.obligations.specs.declared.outcome.verdict.Verdict.TheVariants as verdict
 use Rattle.reset_form.specs.declared.reset_asked.findings.ResetVerdict.{ResetVerdict}
 use Rattle.reset_form.specs.declared.reset_asked.findings.ResetVerdict.TheVariants as found
 

@@ -8,19 +8,19 @@ ghost use Rattle.sec_setup.specs.Choosing.{IsChosen};
 ghost use Rattle.sec_setup.specs.Cuts.{AreCutBy, AreCutOpen};
 ghost use Rattle.sec_setup.specs.Matching.{InterfacesMatch};
 ghost use Rattle.sec_setup.specs.Setup.{AreGraphed};
-ghost use Rattle.under_base.specs.compare_base.Compared.{Compared};
+ghost use Rattle.plain_check.specs.under_base.compare_base.Compared.{Compared};
 ghost use Rattle.plain_check.specs.Verdicts.{verdict_of};
 
 use crate::plain_form::{Findings, PlainError, compare_plain};
+use crate::under_base::compare_base::CompareError;
 use base_tables::NameTable;
 use flat_net::Net;
-use outcome::{LimitAt, Outcome, Settings, Verdict};
+use obligations::outcome::{LimitAt, Outcome, Settings, Verdict};
 use reset_form::{ResetError, ResetFindings, ResetVerdict, compare_reset};
 use sec_base::{MAX_CONFLICTS, NoMemory};
 use sec_setup::cut_points::Exposure;
 use sec_setup::{Nets, Setup, choose, graph_of, set_up, shared_names};
 use std::alloc::Global;
-use under_base::compare_base::CompareError;
 
 /// Compares the circuits by unfolding their outputs into functions of the inputs at earlier cycles. Where latches may be cut open, a
 /// minimal cut of them becomes inputs, and what they take over is compared as the outputs are. With `reset` runs begin with the latches'

@@ -7,11 +7,11 @@ use Rattle.std.proofs.lemmas.Option.{same_Some}
 use Rattle.circuit_theory.specs.Agree.{cut}
 use Rattle.circuit_theory.specs.Sizes.{Weighed}
 use Rattle.flat_net.specs.View.{NetView}
-use Rattle.aiger_records.specs.declared.header.Form.TheVariants.{Ascii}
-use Rattle.aiger_records.specs.declared.record.Record.TheVariants.{Input, Output, Gate}
-use Rattle.aiger_records.specs.Faults.{fault_of}
-use Rattle.aiger_records.specs.Headers.{header_of}
-use Rattle.aiger_records.specs.Records.{record_at}
+use Rattle.aiger_read.specs.declared.aiger_records.header.Form.TheVariants.{Ascii}
+use Rattle.aiger_read.specs.declared.aiger_records.record.Record.TheVariants.{Input, Output, Gate}
+use Rattle.aiger_read.specs.aiger_records.Faults.{fault_of}
+use Rattle.aiger_read.specs.aiger_records.Headers.{header_of}
+use Rattle.aiger_read.specs.aiger_records.Records.{record_at}
 use Rattle.aiger_read.specs.aiger_file.Symbols.{symbol_of}
 use Rattle.aiger_read.specs.declared.aiger_file.file.AigerFile.{AigerFile}
 use Rattle.aiger_read.specs.aiger_file.Files.{fault_of_text}
@@ -19,17 +19,17 @@ use Rattle.aiger_read.specs.aiger_file.Reading.{body_of, spelled}
 use Rattle.aiger_read.specs.aiger_file.aiger_graph.Circuit.{circuit_of_file}
 use Rattle.aiger_read.specs.aiger_file.aiger_graph.Loops.{HasLoop}
 use Rattle.aiger_read.specs.Nets.{IsNetOf}
-use Rattle.check_meaning.specs.design_rows.Small.{small_and, IsSmall}
-use Rattle.sec_files.specs.Formats.{Aiger}
-use Rattle.sec_files.specs.Loading.{IsAccepted, Loads}
-use Rattle.sec_files.proofs.Texts.{text_net}
-use Rattle.check_meaning.specs.design_rows.Texts.{off_and}
+use Rattle.job_check.specs.check_meaning.design_rows.Small.{small_and, IsSmall}
+use Rattle.job_base.specs.sec_files.Formats.{Aiger}
+use Rattle.job_base.specs.sec_files.Loading.{IsAccepted, Loads}
+use Rattle.job_base.proofs.sec_files.Texts.{text_net}
+use Rattle.job_check.specs.check_meaning.design_rows.Texts.{off_and}
 use Rattle.premise_rows.specs.AndFile.{and_file, FileIsComparable}
-use Rattle.check_meaning.proofs.design_rows.Spelling.{accepted, net_is_small}
-use Rattle.check_meaning.proofs.check_texts.Comparing.{comparable_by}
-use Rattle.check_meaning.proofs.design_rows.SpelledTexts.{off_and_spells}
+use Rattle.job_check.proofs.check_meaning.design_rows.Spelling.{accepted, net_is_small}
+use Rattle.job_check.proofs.check_meaning.check_texts.Comparing.{comparable_by}
+use Rattle.job_check.proofs.check_meaning.design_rows.SpelledTexts.{off_and_spells}
 use Rattle.premise_rows.proofs.FileNets.{is_above_fanins, climbing_has_no_loop, FilePassesTests, tested_file_is_small}
-use Rattle.check_meaning.specs.design_rows.Designs as design
+use Rattle.job_check.specs.check_meaning.design_rows.Designs as design
 
 -- the file that the text spells
 abbrev and_records : AigerFile

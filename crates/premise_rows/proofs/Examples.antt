@@ -13,20 +13,20 @@ use Rattle.flatten.specs.DesignFaults.{IsFlatOf}
 use Rattle.blif_read.specs.declared.design.BlifModel.{BlifModel}
 use Rattle.sec_setup.specs.cut_points.Common.{common_names}
 use Rattle.sec_setup.specs.Cycles.{AreBroken}
-use Rattle.under_base.specs.compare_base.Compared.{AreTooLarge}
+use Rattle.plain_check.specs.under_base.compare_base.Compared.{AreTooLarge}
 use Rattle.sec_setup.specs.Cuts.{IsChoice}
 use Rattle.outcome_fits.specs.Fitting.{IsCutOver}
-use Rattle.sec_files.specs.Formats.{Blif}
-use Rattle.sec_files.specs.Loading.{Loads}
-use Rattle.sec_files.proofs.Texts.{text_net}
-use Rattle.check_meaning.specs.design_rows.Designs as design
-use Rattle.check_meaning.specs.design_rows.Small.{small_and, small_late, small_early, small_two, small_toggle, IsSmall}
-use Rattle.check_meaning.proofs.design_rows.Toggle.{toggle_is_small}
-use Rattle.check_meaning.specs.design_rows.Texts.{on_and, off_and, late, early, toggle, hier, two}
+use Rattle.job_base.specs.sec_files.Formats.{Blif}
+use Rattle.job_base.specs.sec_files.Loading.{Loads}
+use Rattle.job_base.proofs.sec_files.Texts.{text_net}
+use Rattle.job_check.specs.check_meaning.design_rows.Designs as design
+use Rattle.job_check.specs.check_meaning.design_rows.Small.{small_and, small_late, small_early, small_two, small_toggle, IsSmall}
+use Rattle.job_check.proofs.check_meaning.design_rows.Toggle.{toggle_is_small}
+use Rattle.job_check.specs.check_meaning.design_rows.Texts.{on_and, off_and, late, early, toggle, hier, two}
 use Rattle.premise_rows.specs.Premises.{AndsAreComparable, RetimedAreComparable, HierarchyIsComparable, CyclicAreComparable, TextsAreAccepted}
-use Rattle.check_meaning.proofs.design_rows.Spelling.{accepted, net_is_small, match, latch_in}
-use Rattle.check_meaning.proofs.check_texts.Comparing.{comparable}
-use Rattle.check_meaning.proofs.design_rows.SpelledTexts.{on_and_spells, off_and_spells, late_spells, early_spells, hier_spells, two_spells, toggle_spells}
+use Rattle.job_check.proofs.check_meaning.design_rows.Spelling.{accepted, net_is_small, match, latch_in}
+use Rattle.job_check.proofs.check_meaning.check_texts.Comparing.{comparable}
+use Rattle.job_check.proofs.check_meaning.design_rows.SpelledTexts.{on_and_spells, off_and_spells, late_spells, early_spells, hier_spells, two_spells, toggle_spells}
 
 pub ands_are_comparable : AndsAreComparable
 ands_are_comparable =

@@ -7,3 +7,4 @@ pub mod job_rows
 pub mod event_assume_rows
 pub mod event_premises
 pub mod event_outcome_samples
+pub mod one_text_runs

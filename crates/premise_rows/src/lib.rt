@@ -6,6 +6,7 @@ pub mod event_assume_rows;
 pub mod event_outcome_samples;
 pub mod event_premises;
 pub mod job_rows;
+pub mod one_text_runs;
 
 ghost use Rattle.premise_rows.specs.AndFile.{FileIsComparable};
 ghost use Rattle.premise_rows.specs.Premises.{AndsAreComparable, RetimedAreComparable, HierarchyIsComparable, CyclicAreComparable, TextsAreAccepted};

@@ -12,23 +12,23 @@ use Rattle.sec_base.specs.declared.basics.PairAnswer.{PairAnswer}
 use Rattle.sec_base.specs.declared.basics.PairAnswer.TheVariants as answer
 use Rattle.flat_net.specs.View.{circuit_of}
 use Rattle.circuit_laws.specs.reset_laws.Reset.{IsResetWitness}
-use Rattle.unfold_places.specs.declared.signal_function.Unfolded.{Unfolded}
+use Rattle.cbf_unfold.specs.declared.unfold_places.signal_function.Unfolded.{Unfolded}
 use Rattle.pair_decide.specs.declared.query.Query.{Query}
 use Rattle.pair_decide.specs.Queries.{IsQuery}
 use Rattle.pair_decide.specs.Answers.{IsDifference}
 use Rattle.obligations.proofs.swept_queries.Listed.{zip_left}
-use Rattle.outcome.specs.declared.verdict.PairResult.{PairResult}
+use Rattle.obligations.specs.declared.outcome.verdict.PairResult.{PairResult}
 use Rattle.obligations.specs.declared.obligation.Obligation.{Obligation}
 use Rattle.obligations.specs.declared.obligation.Difference.{Difference}
 use Rattle.obligations.specs.Decided.{IsAnswered, IsFirstOf}
 use Rattle.sec_setup.specs.declared.ports.pairs.SignalPair.{SignalPair}
 use Rattle.sec_setup.specs.declared.setup.Setup.{Setup}
 use Rattle.sec_setup.specs.ports.Pairs.{outputs_of, places_of}
-use Rattle.shift_variables.specs.Variables.{variable_of, variables_of}
+use Rattle.cbf_unfold.specs.shift_variables.Variables.{variable_of, variables_of}
 use Rattle.witness_report.specs.declared.witness.PairName.{PairName}
 use Rattle.reset_form.specs.declared.reset_functions.bases.Bases.{Bases}
 use Rattle.reset_form.specs.declared.reset_functions.functions.Functions.{Functions}
-use Rattle.outcome.specs.declared.verdict.ResetWitness.{ResetWitness}
+use Rattle.obligations.specs.declared.outcome.verdict.ResetWitness.{ResetWitness}
 use Rattle.reset_form.specs.reset_asked.Asked.{AskedOf, AreAsked}
 use Rattle.reset_form.specs.reset_asked.Numbers.{numbered}
 use Rattle.outcome_fits.specs.ResetOutcome.{PairFits, IsFirstDifference}

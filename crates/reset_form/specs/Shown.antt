@@ -2,7 +2,7 @@
 use Rattle.std.specs.Prelude.{◌≡◌, ℕ, ◌*◌, ◌<◌, ◌≤◌, Bool, List, length, slice_get, Some}
 use Rattle.pair_decide.specs.declared.query.Query.{Query}
 use Rattle.witness_report.specs.declared.witness.PairName.{PairName}
-use Rattle.outcome.specs.declared.verdict.PairResult.{PairResult}
+use Rattle.obligations.specs.declared.outcome.verdict.PairResult.{PairResult}
 use Rattle.obligations.specs.declared.obligation.Obligation.{Obligation}
 use Rattle.obligations.specs.declared.obligation.Difference.{Difference}
 use Rattle.obligations.specs.declared.verdict.VerdictAt.{VerdictAt}
@@ -10,11 +10,11 @@ use Rattle.obligations.specs.declared.verdict.VerdictAt.TheVariants as at
 use Rattle.flat_net.specs.View.{circuit_of}
 use Rattle.sec_setup.specs.declared.setup.Setup.{Setup}
 use Rattle.circuit_laws.specs.reset_laws.Reset.{powers}
-use Rattle.shift_variables.specs.Sequences.{bits_at}
-use Rattle.shift_variables.specs.cycle_variables.Cycles.{AreInCycles}
+use Rattle.cbf_unfold.specs.shift_variables.Sequences.{bits_at}
+use Rattle.cbf_unfold.specs.shift_variables.cycle_variables.Cycles.{AreInCycles}
 use Rattle.reset_form.specs.declared.reset_functions.bases.Bases.{Bases}
 use Rattle.reset_form.specs.declared.reset_functions.functions.Functions.{Functions}
-use Rattle.outcome.specs.declared.verdict.ResetWitness.{ResetWitness}
+use Rattle.obligations.specs.declared.outcome.verdict.ResetWitness.{ResetWitness}
 use Rattle.reset_form.specs.reset_asked.Sequences.{IsQueryAt, IsSequenceOf}
 use Rattle.reset_form.specs.declared.reset_asked.findings.ResetVerdict.{ResetVerdict}
 use Rattle.reset_form.specs.declared.reset_asked.findings.ResetVerdict.TheVariants as verdict

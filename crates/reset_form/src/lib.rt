@@ -5,6 +5,7 @@
 mod comparison;
 pub mod reset_asked;
 pub mod reset_functions;
+pub mod reset_unfold;
 mod shown;
 mod witness;
 

@@ -6,6 +6,6 @@ mod error;
 mod functions;
 
 pub use bases::{Bases, bases_of};
+pub use cbf_unfold::shift_variables::SameBy;
 pub use error::ResetError;
 pub use functions::{Cycles, Functions, Part, unfold_pairs};
-pub use shift_variables::SameBy;

@@ -7,8 +7,8 @@ ghost use Rattle.reset_form.specs.Shown.{CanBeShown, IsShowable, IsShown, IsWitn
 use crate::reset_asked::ResetVerdict;
 use crate::reset_functions::{Bases, Functions};
 use crate::witness::witness_of;
+use obligations::outcome::{PairResult, ResetWitness};
 use obligations::{Difference, Obligation, VerdictAt, copy_name};
-use outcome::{PairResult, ResetWitness};
 use sec_base::NoMemory;
 use sec_setup::Setup;
 use std::alloc::Global;

@@ -2,16 +2,16 @@
 
 ghost use Rattle.std.specs.Prelude.{◌≡◌, ◌*◌, ◌<◌, length, IfOk};
 ghost use Rattle.base_tables.specs.Table.{AreDistinct};
-ghost use Rattle.shift_variables.specs.cycle_variables.Cycles.{AreInCycles};
+ghost use Rattle.cbf_unfold.specs.shift_variables.cycle_variables.Cycles.{AreInCycles};
 ghost use Rattle.reset_form.specs.Shown.{IsWitnessOf};
 
 use crate::reset_asked::sequence_of;
 use crate::reset_functions::{Bases, Functions};
-use outcome::{PairName, ResetWitness};
+use cbf_unfold::shift_variables::cycle_variables::power_up;
+use obligations::outcome::{PairName, ResetWitness};
 use pair_decide::Query;
 use sec_base::{Bits, NoMemory};
 use sec_setup::Setup;
-use shift_variables::cycle_variables::power_up;
 use std::alloc::Global;
 
 /// The sequence of a pair of this name that ends in the cycle `last`, with the power-ups of both circuits: the bit of an input in a

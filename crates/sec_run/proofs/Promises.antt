@@ -9,19 +9,19 @@ use Rattle.job_base.specs.declared.status.StatusName.TheVariants as status
 use Rattle.job_base.specs.Written.{status_of, IsWrittenAs}
 use Rattle.job_base.specs.Meaning.{SaysNothing}
 use Rattle.job_base.proofs.Meaning.{says_nothing, by_finding}
-use Rattle.job_cert.specs.sec_files.Reading.{Held}
+use Rattle.sec_jobs.specs.job_cert.sec_files.Reading.{Held}
 use Rattle.job_circuit.proofs.Means.{graph_means, sim_means}
 use Rattle.job_circuit.proofs.CompleteReports.{graph_complete, sim_complete}
 use Rattle.job_circuit.proofs.job_replay.Means.{replay_means}
 use Rattle.job_circuit.proofs.job_replay.CompleteReplays.{replay_complete}
-use Rattle.check_meaning.proofs.Complete.{check_complete}
-use Rattle.check_meaning.proofs.Means.{check_means}
-use Rattle.job_gen.proofs.gen_meaning.Means.{gen_means, gen_complete}
-use Rattle.job_cert.proofs.job_lrat.Means.{lrat_means, lrat_complete}
-use Rattle.job_cert.proofs.Means.{cert_means}
-use Rattle.job_cert.proofs.Complete.{cert_complete, memory_cert}
-use Rattle.job_induct.proofs.induct_meaning.Means.{induct_means}
-use Rattle.job_induct.proofs.induct_meaning.Complete.{induct_complete}
+use Rattle.job_check.proofs.check_meaning.Complete.{check_complete}
+use Rattle.job_check.proofs.check_meaning.Means.{check_means}
+use Rattle.sec_jobs.proofs.job_gen.gen_meaning.Means.{gen_means, gen_complete}
+use Rattle.sec_jobs.proofs.job_cert.job_lrat.Means.{lrat_means, lrat_complete}
+use Rattle.sec_jobs.proofs.job_cert.Means.{cert_means}
+use Rattle.sec_jobs.proofs.job_cert.Complete.{cert_complete, memory_cert}
+use Rattle.sec_jobs.proofs.job_induct.induct_meaning.Means.{induct_means}
+use Rattle.sec_jobs.proofs.job_induct.induct_meaning.Complete.{induct_complete}
 use Rattle.sec_run.specs.Answer.{IsFinding}
 use Rattle.sec_run.specs.Promises.{Means, IsComplete}
 

@@ -6,14 +6,14 @@ use Rattle.pair_decide.specs.declared.query.Proof.{Proof}
 use Rattle.job_base.specs.Meaning.{SaysNothing, EndsWith}
 use Rattle.job_base.specs.declared.status.StatusName.{StatusName}
 use Rattle.job_base.specs.declared.status.StatusName.TheVariants as status
-use Rattle.job_cert.specs.sec_files.Reading.{Held}
+use Rattle.sec_jobs.specs.job_cert.sec_files.Reading.{Held}
 use Rattle.job_circuit.specs.Reports.{GraphMeans, SimMeans, IsGraphComplete, IsSimComplete}
 use Rattle.job_circuit.specs.job_replay.Replays.{ReplayMeans, IsReplayComplete}
-use Rattle.check_meaning.specs.Answer.{CheckMeans, IsCheckComplete}
-use Rattle.job_gen.specs.gen_meaning.Answer.{GenMeans, IsGenAnswer}
-use Rattle.job_cert.specs.job_lrat.Answer.{LratMeans, IsLratComplete}
-use Rattle.job_cert.specs.Answer.{CertMeans, IsCertComplete}
-use Rattle.job_induct.specs.induct_meaning.Answer.{InductMeans, IsInductComplete}
+use Rattle.job_check.specs.check_meaning.Answer.{CheckMeans, IsCheckComplete}
+use Rattle.sec_jobs.specs.job_gen.gen_meaning.Answer.{GenMeans, IsGenAnswer}
+use Rattle.sec_jobs.specs.job_cert.job_lrat.Answer.{LratMeans, IsLratComplete}
+use Rattle.sec_jobs.specs.job_cert.Answer.{CertMeans, IsCertComplete}
+use Rattle.sec_jobs.specs.job_induct.induct_meaning.Answer.{InductMeans, IsInductComplete}
 
 -- What the status says of the job, with the proofs that the run ends with and what was written before and is now.
 abbrev pub Means : Held → Option Task → Option (List ℕ) → Option (List ℕ) → List Proof → StatusName → Type 0

@@ -1,1 +1,1 @@
-pub use Rattle.check_meaning.specs.Answer
+pub use Rattle.job_check.specs.check_meaning.Answer

@@ -14,14 +14,14 @@ ghost use Rattle.sec_run.specs.Promises.{Means, IsComplete};
 
 use command_line::{Task, WordsError, job};
 use job_base::{Finding, Status, StatusName, Stop, finish};
-use job_cert::job_lrat::{Refutation, check_refutation};
-use job_cert::{Certification, Wanted, certify};
 use job_check::{Comparison, check};
 use job_circuit::job_replay::{Replay, replay_files};
 use job_circuit::{Simulation, simulate, tell_graph};
-use job_gen::{Generation, compare_generated};
-use job_induct::{BlockComparison, compare_by_blocks};
 use sec_base::{FilePath, Shelf, Sink, Word};
+use sec_jobs::job_cert::job_lrat::{Refutation, check_refutation};
+use sec_jobs::job_cert::{Certification, Wanted, certify};
+use sec_jobs::job_gen::{Generation, compare_generated};
+use sec_jobs::job_induct::{BlockComparison, compare_by_blocks};
 use std::alloc::Global;
 
 /// Finds what the job asks for.

@@ -3,6 +3,7 @@
 
 mod apart;
 mod choice;
+pub mod node_agreement;
 mod queries;
 mod query;
 mod roots;

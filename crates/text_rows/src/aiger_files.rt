@@ -3,7 +3,7 @@
 use crate::pieces::{show_numbers, show_words};
 use crate::row_text::{show, show_count, show_word};
 use aiger_read::aiger_file::{AigerError, AigerFile, AigerKind, read_file};
-use aiger_records::Record;
+use aiger_read::aiger_records::Record;
 use sec_base::MAX_FILE_BYTES;
 use std::rt::HostRuntime;
 

@@ -3,8 +3,8 @@
 use crate::faults::show_fault;
 use crate::row_text::show;
 use blif_read::Design;
-use connectivity::wire;
 use elaborate::{Flat, FlatKind, walk};
+use flatten::connectivity::wire;
 use std::rt::HostRuntime;
 
 /// Shows the kind of each flat statement, and the signal that it drives.

@@ -1,17 +1,17 @@
 -- A body, record by record.
 use Rattle.std.proofs.Common.{◌≡◌, ℕ, suc, ◌+◌, List, [], ◌∷◌, ◌++◌, Option, Some, None, refl, sym, ◌∙◌, ap, subst, append_assoc}
-use Rattle.aiger_records.specs.declared.header.Header.{Header}
-use Rattle.aiger_records.specs.declared.record.Record.{Record}
-use Rattle.aiger_records.specs.declared.error.AigerKind.{AigerKind}
-use Rattle.aiger_records.specs.declared.error.AigerKind.TheVariants as kind
-use Rattle.aiger_records.specs.Records.{Taken, record_at, implied, body_length}
-use Rattle.aiger_records.specs.Faults.{fault_of}
+use Rattle.aiger_read.specs.declared.aiger_records.header.Header.{Header}
+use Rattle.aiger_read.specs.declared.aiger_records.record.Record.{Record}
+use Rattle.aiger_read.specs.declared.aiger_records.error.AigerKind.{AigerKind}
+use Rattle.aiger_read.specs.declared.aiger_records.error.AigerKind.TheVariants as kind
+use Rattle.aiger_read.specs.aiger_records.Records.{Taken, record_at, implied, body_length}
+use Rattle.aiger_read.specs.aiger_records.Faults.{fault_of}
 use Rattle.aiger_read.specs.aiger_file.Reading.{Body, put_record, body_from, body_of, records_fault, first_fault_after, fault_at, at, those_there, body_with, FaultAt}
 use Rattle.aiger_read.specs.aiger_file.State.{BodyTo, Refuses, refusal_at}
-use Rattle.aiger_records.specs.Took.{Stops}
-use Rattle.aiger_records.specs.declared.error.AigerError.{AigerError}
-use Rattle.aiger_records.specs.declared.error.Stop.{Stop}
-use Rattle.aiger_records.specs.declared.error.Stop.TheVariants as stop
+use Rattle.aiger_read.specs.aiger_records.Took.{Stops}
+use Rattle.aiger_read.specs.declared.aiger_records.error.AigerError.{AigerError}
+use Rattle.aiger_read.specs.declared.aiger_records.error.Stop.{Stop}
+use Rattle.aiger_read.specs.declared.aiger_records.error.Stop.TheVariants as stop
 
 pub body_begins : (h : Header) (n : ℕ) (text : List ℕ) (before : List Record) → n ≡ body_length h → before ≡ implied h.form h.inputs → BodyTo h (body_of h text) (body_from h n 0 text) 1 before
 unfolding body_of

@@ -8,12 +8,12 @@ use Rattle.std.proofs.lemmas.List.Sums.{fails_before_first}
 use Rattle.std.proofs.lemmas.Bool.Decides.{Decides-eqb, Decides-ltb}
 use Rattle.std.proofs.lemmas.Option.{none-some, same_Some}
 use Rattle.std.proofs.lemmas.Bool.{ltb-false}
-use Rattle.aiger_records.specs.declared.header.Header.{Header}
-use Rattle.aiger_records.specs.declared.error.AigerKind.{AigerKind}
+use Rattle.aiger_read.specs.declared.aiger_records.header.Header.{Header}
+use Rattle.aiger_read.specs.declared.aiger_records.error.AigerKind.{AigerKind}
 use Rattle.aiger_read.specs.declared.aiger_file.symbol.Named.{Named}
-use Rattle.aiger_records.specs.Lines.{Cut, cut_at, is_line_feed}
-use Rattle.aiger_records.specs.Numbers.{is_blank, number_of}
-use Rattle.aiger_records.specs.declared.record.Section.{Section}
+use Rattle.aiger_read.specs.aiger_records.Lines.{Cut, cut_at, is_line_feed}
+use Rattle.aiger_read.specs.aiger_records.Numbers.{is_blank, number_of}
+use Rattle.aiger_read.specs.declared.aiger_records.record.Section.{Section}
 use Rattle.aiger_read.specs.aiger_file.Symbols.{section_named, symbol_parted, symbol_with, Symbol, symbol_of, symbols_in, symbols_of, is_end, is_comment, symbol_fault}
 use Rattle.aiger_read.specs.aiger_file.Reading.{first_symbol_fault, fault_at, at, those_there, named_by}
 use Rattle.aiger_read.specs.aiger_file.State.{SymbolsTo}

@@ -2,10 +2,10 @@
 use Rattle.std.specs.Prelude.{◌≡◌, ℕ, List, Option, Some, None, option_map, option_and_then, Result, Ok, Err, All, false, length}
 use Rattle.circuit_theory.specs.Interface.{◌or_else◌}
 use Rattle.aiger_read.specs.declared.aiger_file.file.AigerFile.{AigerFile}
-use Rattle.aiger_records.specs.declared.error.AigerError.{AigerError}
-use Rattle.aiger_records.specs.declared.error.AigerError.TheVariants as aiger
+use Rattle.aiger_read.specs.declared.aiger_records.error.AigerError.{AigerError}
+use Rattle.aiger_read.specs.declared.aiger_records.error.AigerError.TheVariants as aiger
 use Rattle.aiger_read.specs.aiger_file.Reading.{FaultAt, at, first_fault, spelled}
-use Rattle.aiger_records.specs.Faults.{IsSmall, has_bad_literal, DefinesOnce}
+use Rattle.aiger_read.specs.aiger_records.Faults.{IsSmall, has_bad_literal, DefinesOnce}
 use Rattle.aiger_read.specs.aiger_file.Whole.{file_fault}
 
 -- a fault of a whole file has record 0

@@ -1,16 +1,16 @@
 -- What a file spells, and its first fault.
 use Rattle.std.specs.Prelude.{◌≡◌, ℕ, zero, suc, ◌+◌, List, [], ◌∷◌, ◌++◌, map, Option, Some, None, option_map, option_and_then, codes, refl}
 use Rattle.circuit_theory.specs.Interface.{◌or_else◌}
-use Rattle.aiger_records.specs.declared.header.Header.{Header}
-use Rattle.aiger_records.specs.declared.record.Record.{Record}
-use Rattle.aiger_records.specs.declared.error.AigerKind.{AigerKind}
-use Rattle.aiger_records.specs.declared.error.AigerKind.TheVariants as kind
+use Rattle.aiger_read.specs.declared.aiger_records.header.Header.{Header}
+use Rattle.aiger_read.specs.declared.aiger_records.record.Record.{Record}
+use Rattle.aiger_read.specs.declared.aiger_records.error.AigerKind.{AigerKind}
+use Rattle.aiger_read.specs.declared.aiger_records.error.AigerKind.TheVariants as kind
 use Rattle.aiger_read.specs.declared.aiger_file.file.AigerFile.{AigerFile}
 use Rattle.aiger_read.specs.declared.aiger_file.symbol.Named.{Named}
-use Rattle.aiger_records.specs.Headers.{header_of, header_fault}
-use Rattle.aiger_records.specs.Lines.{Cut, first_line}
-use Rattle.aiger_records.specs.Records.{Taken, record_at, body_length, implied}
-use Rattle.aiger_records.specs.Faults.{fault_of}
+use Rattle.aiger_read.specs.aiger_records.Headers.{header_of, header_fault}
+use Rattle.aiger_read.specs.aiger_records.Lines.{Cut, first_line}
+use Rattle.aiger_read.specs.aiger_records.Records.{Taken, record_at, body_length, implied}
+use Rattle.aiger_read.specs.aiger_records.Faults.{fault_of}
 use Rattle.aiger_read.specs.aiger_file.Symbols.{Symbol, symbols_of, symbol_of, symbol_fault}
 
 -- the place of a record, and what is wrong with it

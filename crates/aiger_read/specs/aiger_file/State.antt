@@ -1,17 +1,17 @@
 -- What a step of the reader says.
 use Rattle.std.specs.Prelude.{◌≡◌, ℕ, List, [], ◌++◌, map, Option, Some, None, Result, Ok, Err}
-use Rattle.aiger_records.specs.declared.header.Header.{Header}
-use Rattle.aiger_records.specs.declared.record.Record.{Record}
-use Rattle.aiger_records.specs.declared.error.AigerError.{AigerError}
-use Rattle.aiger_records.specs.declared.error.AigerError.TheVariants as aiger
-use Rattle.aiger_records.specs.declared.error.Stop.{Stop}
-use Rattle.aiger_records.specs.declared.error.Stop.TheVariants as stop
+use Rattle.aiger_read.specs.declared.aiger_records.header.Header.{Header}
+use Rattle.aiger_read.specs.declared.aiger_records.record.Record.{Record}
+use Rattle.aiger_read.specs.declared.aiger_records.error.AigerError.{AigerError}
+use Rattle.aiger_read.specs.declared.aiger_records.error.AigerError.TheVariants as aiger
+use Rattle.aiger_read.specs.declared.aiger_records.error.Stop.{Stop}
+use Rattle.aiger_read.specs.declared.aiger_records.error.Stop.TheVariants as stop
 use Rattle.aiger_read.specs.declared.aiger_file.reader.ReadSoFar.{ReadSoFar}
 use Rattle.aiger_read.specs.declared.aiger_file.reader.Headed.{Headed}
 use Rattle.aiger_read.specs.declared.aiger_file.symbol.Named.{Named}
-use Rattle.aiger_records.specs.Faults.{IsSmall}
-use Rattle.aiger_records.specs.Records.{implied}
-use Rattle.aiger_records.specs.Headers.{header_fault}
+use Rattle.aiger_read.specs.aiger_records.Faults.{IsSmall}
+use Rattle.aiger_read.specs.aiger_records.Records.{implied}
+use Rattle.aiger_read.specs.aiger_records.Headers.{header_fault}
 use Rattle.aiger_read.specs.aiger_file.Symbols.{Symbol, symbols_of}
 use Rattle.aiger_read.specs.aiger_file.Reading.{FaultAt, at, Body, records_fault, first_fault_after, first_symbol_fault, those_there, named_by, headed, headed_fault}
 

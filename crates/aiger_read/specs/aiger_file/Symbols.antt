@@ -2,14 +2,14 @@
 use Rattle.std.specs.Prelude.{◌≡◌, ℕ, ◌==◌, nat_le, nat_lt, ◌||◌, not, Bool, true, false, if◌then◌else◌, List, [], ◌∷◌, length, Option, Some, None, option_and_then, codes, refl}
 use Rattle.std.specs.List.{list_any, slice_split}
 use Rattle.base_tables.specs.Table.{is_among}
-use Rattle.aiger_records.specs.declared.header.Header.{Header}
-use Rattle.aiger_records.specs.declared.record.Section.{Section}
-use Rattle.aiger_records.specs.declared.record.Section.TheVariants as section
-use Rattle.aiger_records.specs.declared.error.AigerKind.{AigerKind}
-use Rattle.aiger_records.specs.declared.error.AigerKind.TheVariants as kind
-use Rattle.aiger_records.specs.Headers.{guard}
-use Rattle.aiger_records.specs.Lines.{Cut, cut_at, is_line_feed}
-use Rattle.aiger_records.specs.Numbers.{is_blank, number_of}
+use Rattle.aiger_read.specs.declared.aiger_records.header.Header.{Header}
+use Rattle.aiger_read.specs.declared.aiger_records.record.Section.{Section}
+use Rattle.aiger_read.specs.declared.aiger_records.record.Section.TheVariants as section
+use Rattle.aiger_read.specs.declared.aiger_records.error.AigerKind.{AigerKind}
+use Rattle.aiger_read.specs.declared.aiger_records.error.AigerKind.TheVariants as kind
+use Rattle.aiger_read.specs.aiger_records.Headers.{guard}
+use Rattle.aiger_read.specs.aiger_records.Lines.{Cut, cut_at, is_line_feed}
+use Rattle.aiger_read.specs.aiger_records.Numbers.{is_blank, number_of}
 
 -- The name of an input, a latch or an output, counted from 0. The key is the word before it, which tells what it names.
 pub record Symbol : Type 0 where

@@ -1,10 +1,10 @@
 -- What is wrong with a whole file, but for loops.
 use Rattle.std.specs.Prelude.{ℕ, ◌||◌, not, List, [], ◌++◌, Option}
 use Rattle.circuit_theory.specs.Interface.{◌or_else◌}
-use Rattle.aiger_records.specs.declared.error.AigerKind.{AigerKind}
-use Rattle.aiger_records.specs.declared.error.AigerKind.TheVariants as kind
-use Rattle.aiger_records.specs.Headers.{guard}
-use Rattle.aiger_records.specs.Driven.{all_driven}
+use Rattle.aiger_read.specs.declared.aiger_records.error.AigerKind.{AigerKind}
+use Rattle.aiger_read.specs.declared.aiger_records.error.AigerKind.TheVariants as kind
+use Rattle.aiger_read.specs.aiger_records.Headers.{guard}
+use Rattle.aiger_read.specs.aiger_records.Driven.{all_driven}
 use Rattle.aiger_read.specs.aiger_file.Names.{names_from, repeats}
 use Rattle.aiger_read.specs.declared.aiger_file.file.AigerFile.{AigerFile}
 

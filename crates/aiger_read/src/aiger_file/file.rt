@@ -1,7 +1,7 @@
 //! A file as its records.
 
 use crate::aiger_file::symbol::Named;
-use aiger_records::{Header, Records};
+use crate::aiger_records::{Header, Records};
 
 /// The records of a file, each in its order.
 pub struct AigerFile {

@@ -1,7 +1,7 @@
 //! Reads a text record by record.
 
 ghost use Rattle.std.specs.Prelude.{◌≡◌, ◌+◌, ◌-◌, ◌<◌, ◌≤◌, ◌^◌, length, None, IfOk, IfSome};
-ghost use Rattle.aiger_records.specs.Faults.{IsSmall};
+ghost use Rattle.aiger_read.specs.aiger_records.Faults.{IsSmall};
 ghost use Rattle.aiger_read.specs.aiger_file.Reading.{body_of};
 ghost use Rattle.aiger_read.specs.aiger_file.State.{ReadBody, ReadSymbols, ReadHeader, refusal_at};
 ghost use Rattle.aiger_read.specs.aiger_file.Whole.{file_fault};
@@ -9,7 +9,7 @@ ghost use Rattle.aiger_read.specs.aiger_file.Files.{ReadsFile, IsKept};
 
 use crate::aiger_file::file::AigerFile;
 use crate::aiger_file::symbol::{Named, is_end, symbol_of};
-use aiger_records::{
+use crate::aiger_records::{
     AigerError, AigerKind, Cut, Defined, Header, Stop, Taken, cut_at, header_fault, header_of,
 };
 use sec_base::NoMemory;

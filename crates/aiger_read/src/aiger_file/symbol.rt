@@ -3,10 +3,10 @@
 ghost use Rattle.std.specs.Prelude.{◌≡◌, ◌∷◌, ◌++◌, [], if◌then◌else◌, false, MatchOption, Some, None, IfOk, OnOk};
 ghost use Rattle.std.specs.List.{list_any};
 ghost use Rattle.aiger_read.specs.aiger_file.Symbols.{the_symbol, section_named, symbol_of, is_end, count_of, is_bad_byte, is_bad_name, symbol_fault};
-ghost use Rattle.aiger_records.specs.Took.{Took};
+ghost use Rattle.aiger_read.specs.aiger_records.Took.{Took};
 ghost use Rattle.base_tables.specs.Table.{is_among};
 
-use aiger_records::{AigerKind, Cut, Header, Section, Stop, cut_at, number_of};
+use crate::aiger_records::{AigerKind, Cut, Header, Section, Stop, cut_at, number_of};
 use base_tables::NameTable;
 use sec_base::{MAX_NAME_BYTES, NoMemory, Seq, Words};
 use std::alloc::Global;

@@ -3,7 +3,7 @@
 ghost use Rattle.std.specs.Prelude.{ℕ, List, ◌+◌, ◌^◌, ◌<◌, length, IfOk};
 ghost use Rattle.circuit_theory.specs.Interface.{AreNumbersOf};
 ghost use Rattle.sec_setup.specs.ports.flat_net.View.{ports_of};
-ghost use Rattle.unfold_places.specs.InputOrder.{IsOrderOf};
+ghost use Rattle.cbf_unfold.specs.unfold_places.InputOrder.{IsOrderOf};
 
 use sec_setup::ports::{Ids, NameTable, Net, NoMemory, orders_of};
 use std::alloc::Global;

@@ -15,12 +15,12 @@ use Rattle.aig.specs.Values.{value}
 use Rattle.pair_decide.specs.declared.query.Query.{Query}
 use Rattle.pair_decide.specs.Queries.{IsQuery, IsSame, IsLeast, Distinguishes, assigned_to, roots_of}
 use Rattle.pair_decide.specs.Answers.{IsDifference}
-use Rattle.unfold_places.specs.Growing.{TakesBits}
-use Rattle.unfold_places.proofs.Lists.{pairs_map}
+use Rattle.cbf_unfold.specs.unfold_places.Growing.{TakesBits}
+use Rattle.cbf_unfold.proofs.unfold_places.Lists.{pairs_map}
 use Rattle.assume_queries.proofs.assume_functions.cbf_unfold.Cone.{reached_one}
-use Rattle.shift_variables.specs.Variables.{variable_of, variables_of}
-use Rattle.shift_variables.proofs.Assignments.{assigned_alike}
-use Rattle.shift_variables.specs.query_places.Places.{place_of}
+use Rattle.cbf_unfold.specs.shift_variables.Variables.{variable_of, variables_of}
+use Rattle.cbf_unfold.proofs.shift_variables.Assignments.{assigned_alike}
+use Rattle.cbf_unfold.specs.shift_variables.query_places.Places.{place_of}
 use Rattle.assume_laws.specs.Assume.{Assumption, RowMeets, PlaceUnfolds, HasVariableAt, MeetsAtVariables}
 use Rattle.assume_laws.specs.Sequences.{IsTreeUnder, AreVariablesUnder, IsPairQueryUnder, IsDifferenceUnder}
 use Rattle.assume_queries.specs.declared.assume_answers.order.VariableOrder.{VariableOrder}

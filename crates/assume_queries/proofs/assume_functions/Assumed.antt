@@ -13,7 +13,7 @@ use Rattle.aig.specs.Graph.{IsGraph}
 use Rattle.aig.proofs.Growth.{Grows-length}
 use Rattle.aig.proofs.Meaning.{value-grows}
 use Rattle.cbf_unfold.proofs.unfold_places.Lists.{adds_at, pairs_map}
-use Rattle.cbf_unfold.specs.unfold_places.Unfolded.{Unfolded}
+use Rattle.cbf_unfold.specs.declared.unfold_places.signal_function.Unfolded.{Unfolded}
 use Rattle.cbf_unfold.specs.Unfolded.{IsNumberOf}
 use Rattle.cbf_unfold.proofs.Cone.{covers_cone}
 use Rattle.aig.specs.graph_copy.Copy.{renamed, IsCopyOf}

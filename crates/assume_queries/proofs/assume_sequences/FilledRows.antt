@@ -5,7 +5,7 @@ use Rattle.std.specs.List.{list_any}
 use Rattle.circuit_theory.specs.Query.{Variable, same_shift}
 use Rattle.circuit_theory.specs.Sequence.{sequence_value, sequence_row, sequence_rows_from, sequence_rows}
 use Rattle.circuit_laws.proofs.Windows.{rows_length}
-use Rattle.shift_variables.proofs.CycleRows.{rows_more, row_by_bits, le_true}
+use Rattle.cbf_unfold.proofs.shift_variables.CycleRows.{rows_more, row_by_bits, le_true}
 use Rattle.circuit_laws.specs.reset_laws.Reset.{reset_rows}
 use Rattle.assume_laws.specs.Sequences.{filled}
 use Rattle.assume_queries.specs.assume_sequences.Filled.{bit_of, row_or}

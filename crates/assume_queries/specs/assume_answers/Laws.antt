@@ -8,8 +8,8 @@ use Rattle.aig.specs.Values.{value}
 use Rattle.pair_decide.specs.declared.query.Query.{Query}
 use Rattle.pair_decide.specs.Queries.{IsQuery, IsSame}
 use Rattle.pair_decide.specs.Answers.{IsDifference}
-use Rattle.unfold_places.specs.Growing.{TakesBits}
-use Rattle.shift_variables.specs.Variables.{variables_of}
+use Rattle.cbf_unfold.specs.unfold_places.Growing.{TakesBits}
+use Rattle.cbf_unfold.specs.shift_variables.Variables.{variables_of}
 use Rattle.assume_laws.specs.Assume.{Assumption, MeetsAtVariables}
 use Rattle.assume_laws.specs.Sequences.{AreVariablesUnder, IsDifferenceUnder}
 use Rattle.assume_queries.specs.declared.assume_answers.order.VariableOrder.{VariableOrder}

@@ -3,7 +3,7 @@ use Rattle.std.specs.Prelude.{◌⊎◌, ◌↔◌, ℕ, ◌<◌, List, length}
 use Rattle.std.specs.List.{All, AllPairs, Contains}
 use Rattle.circuit_theory.specs.Query.{Variable, ShiftBefore}
 use Rattle.circuit_laws.specs.reset_laws.Reset.{CycleBefore}
-use Rattle.shift_variables.specs.Variables.{variable_of}
+use Rattle.cbf_unfold.specs.shift_variables.Variables.{variable_of}
 use Rattle.assume_queries.specs.declared.assume_answers.order.VariableOrder.{VariableOrder}
 use Rattle.assume_queries.specs.declared.assume_answers.order.VariableOrder.TheVariants as order
 

@@ -11,7 +11,7 @@ use Rattle.aig.specs.declared.node.Node.{Node}
 use Rattle.aig.specs.declared.node.Node.TheVariants.{Input}
 use Rattle.aig.specs.Cone.{IsReached}
 use Rattle.aig.specs.Values.{value}
-use Rattle.cbf_unfold.specs.unfold_places.Unfolded.{Unfolded}
+use Rattle.cbf_unfold.specs.declared.unfold_places.signal_function.Unfolded.{Unfolded}
 use Rattle.cbf_unfold.specs.Unfolded.{IsUnfolded, IsNumberOf}
 use Rattle.cbf_unfold.specs.Laws.{TakesBits}
 use Rattle.assume_laws.specs.Assume.{PlaceUnfolds}

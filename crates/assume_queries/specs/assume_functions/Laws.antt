@@ -4,7 +4,7 @@ use Rattle.aig.specs.declared.node.Node.{Node}
 use Rattle.aig.specs.Graph.{IsGraph, Grows}
 use Rattle.aig.specs.Values.{value}
 use Rattle.flat_net.specs.View.{NetView, circuit_of}
-use Rattle.cbf_unfold.specs.unfold_places.Unfolded.{Unfolded}
+use Rattle.cbf_unfold.specs.declared.unfold_places.signal_function.Unfolded.{Unfolded}
 use Rattle.cbf_unfold.specs.Laws.{TakesBits}
 use Rattle.cbf_unfold.specs.unfold_places.Reach.{Adds}
 use Rattle.assume_laws.specs.Assume.{IsAssumption, RowMeets}

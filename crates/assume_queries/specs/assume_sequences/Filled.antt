@@ -3,7 +3,7 @@ use Rattle.std.specs.Prelude.{◌≡◌, ℕ, Bool, true, false, List, [], ◌�
 use Rattle.std.specs.List.{list_any}
 use Rattle.circuit_theory.specs.Query.{Variable, assigned, same_shift}
 use Rattle.circuit_theory.specs.Sequence.{sequence_rows}
-use Rattle.shift_variables.specs.Variables.{variables_of}
+use Rattle.cbf_unfold.specs.shift_variables.Variables.{variables_of}
 use Rattle.assume_laws.specs.Sequences.{filled}
 
 -- the bit of an input in a row, 0 where the row has none

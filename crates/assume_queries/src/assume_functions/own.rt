@@ -6,7 +6,7 @@ ghost use Rattle.sec_base.specs.declared.limits.TheConstants.{MAX_WEIGHT};
 ghost use Rattle.flat_net.specs.View.{circuit_of};
 ghost use Rattle.cbf_unfold.specs.View.{IsOrderOf};
 ghost use Rattle.cbf_unfold.specs.Unfolded.{IsUnfolded};
-ghost use Rattle.cbf_unfold.specs.unfold_places.UnfoldError.TheVariants as unfold_error;
+ghost use Rattle.cbf_unfold.specs.declared.unfold_places.error.UnfoldError.TheVariants as unfold_error;
 ghost use Rattle.assume_queries.specs.assume_functions.Functions.{IsOwnFunction, IsWeighed};
 
 use aig::Aig;

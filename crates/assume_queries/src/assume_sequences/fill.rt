@@ -4,7 +4,7 @@ ghost use Rattle.std.specs.Prelude.{◌≡◌, ◌==◌, ◌||◌, ℕ, ◌<◌,
 ghost use Rattle.circuit_theory.specs.Query.{same_shift};
 ghost use Rattle.circuit_theory.specs.Sequence.{sequence_rows};
 ghost use Rattle.circuit_laws.specs.reset_laws.Reset.{reset_rows};
-ghost use Rattle.shift_variables.specs.Variables.{variables_of};
+ghost use Rattle.cbf_unfold.specs.shift_variables.Variables.{variables_of};
 ghost use Rattle.assume_laws.specs.Sequences.{filled};
 ghost use Rattle.assume_queries.specs.assume_sequences.Filled.{bit_of, has_place, row_or};
 

@@ -13,9 +13,9 @@ ghost use Rattle.block_refine.specs.block_graph.Comparing.{AreReadBy};
 use crate::block_graph::graph::BlockGraph;
 use crate::block_graph::nets::BlockNets;
 use aig::{Lit, node_bits};
+use cbf_unfold::shift_variables::bits_at;
 use flat_net::LatchAt;
 use sec_base::NoMemory;
-use shift_variables::bits_at;
 use std::alloc::Global;
 
 impl BlockGraph {

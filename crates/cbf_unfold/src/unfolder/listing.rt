@@ -7,19 +7,19 @@ ghost use Rattle.flat_net.specs.View.{circuit_of};
 ghost use Rattle.aig.specs.declared.node.Node.{Node};
 ghost use Rattle.cbf_unfold.specs.Unfolded.{Fits};
 ghost use Rattle.cbf_unfold.specs.Building.{AreNumbered};
-ghost use Rattle.unfold_places.specs.Visitors.{AreLinks, AreVisitors, AreInputNumbers, AreCandidates, ArePlacesAt, with_bits};
+ghost use Rattle.cbf_unfold.specs.unfold_places.Visitors.{AreLinks, AreVisitors, AreInputNumbers, AreCandidates, ArePlacesAt, with_bits};
 ghost use Rattle.cbf_unfold.specs.Found.{IsFound};
 
 use super::Unfolder;
+use crate::unfold_places::Unfolded;
+use crate::unfold_places::memo::Place;
+use crate::unfold_places::variables::{inputs_of, numbers_of};
+use crate::unfold_places::visitors::{input_numbers, links_of, places_at, visitors_of, with_bits};
 use aig::Lit;
 use base_tables::PlaceTable;
 use flat_net::Signal;
 use sec_base::{Ids, NoMemory};
 use std::alloc::Global;
-use unfold_places::Unfolded;
-use unfold_places::memo::Place;
-use unfold_places::variables::{inputs_of, numbers_of};
-use unfold_places::visitors::{input_numbers, links_of, places_at, visitors_of, with_bits};
 
 impl<'a> Unfolder<'a> {
     /// The signals, which were unfolded and have these literals, with their variables.

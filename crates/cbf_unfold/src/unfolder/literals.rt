@@ -6,13 +6,13 @@ ghost use Rattle.cbf_unfold.specs.Unfolded.{IsKnown};
 ghost use Rattle.cbf_unfold.specs.Building.{AreKnown, IsReady, HasGrown};
 
 use super::Unfolder;
+use crate::unfold_places::literals::{gate_literal, variable};
+use crate::unfold_places::memo::Place;
 use aig::{Aig, Lit};
 use base_tables::PlaceTable;
 use flat_net::{Driver, Signal, latch_of};
 use sec_base::NoMemory;
 use std::alloc::Global;
-use unfold_places::literals::{gate_literal, variable};
-use unfold_places::memo::Place;
 
 impl<'a> Unfolder<'a> {
     /// The literal of a place that can be unfolded.

@@ -3,18 +3,18 @@
 ghost use Rattle.std.specs.Prelude.{◌≡◌, ℕ, ◌+◌, ◌^◌, ◌<◌, ◌≤◌, length, Contains, OnOk};
 ghost use Rattle.circuit_theory.specs.Sizes.{IsOver};
 ghost use Rattle.flat_net.specs.View.{circuit_of};
-ghost use Rattle.unfold_places.specs.Reach.{IsReach};
+ghost use Rattle.cbf_unfold.specs.unfold_places.Reach.{IsReach};
 ghost use Rattle.cbf_unfold.specs.Unfolded.{Holds};
 ghost use Rattle.cbf_unfold.specs.Building.{IsMet, IsReady, HasRoom, IsLater};
-ghost use Rattle.unfold_places.specs.declared.error.UnfoldError.TheVariants as unfold_error;
+ghost use Rattle.cbf_unfold.specs.declared.unfold_places.error.UnfoldError.TheVariants as unfold_error;
 
 use super::Unfolder;
+use crate::unfold_places::UnfoldError;
+use crate::unfold_places::memo::Place;
 use aig::Aig;
 use base_tables::PlaceTable;
 use flat_net::{Signal, weigh};
 use std::alloc::Global;
-use unfold_places::UnfoldError;
-use unfold_places::memo::Place;
 
 impl<'a> Unfolder<'a> {
     /// Unfolds all places of one of the signals that are to be unfolded.

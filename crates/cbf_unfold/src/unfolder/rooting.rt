@@ -6,16 +6,16 @@ ghost use Rattle.circuit_theory.specs.Sizes.{IsOver};
 ghost use Rattle.flat_net.specs.View.{circuit_of};
 ghost use Rattle.cbf_unfold.specs.Unfolded.{Fits};
 ghost use Rattle.cbf_unfold.specs.Building.{HasRoom, IsLater};
-ghost use Rattle.unfold_places.specs.declared.error.UnfoldError.TheVariants as unfold_error;
+ghost use Rattle.cbf_unfold.specs.declared.unfold_places.error.UnfoldError.TheVariants as unfold_error;
 
 use super::Unfolder;
+use crate::unfold_places::UnfoldError;
+use crate::unfold_places::reached::reach;
 use aig::{Aig, Lit};
 use base_tables::PlaceTable;
 use flat_net::Signal;
 use sec_base::MAX_WEIGHT;
 use std::alloc::Global;
-use unfold_places::UnfoldError;
-use unfold_places::reached::reach;
 
 impl<'a> Unfolder<'a> {
     /// The literals of the signals, in their order.

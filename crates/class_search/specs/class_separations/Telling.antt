@@ -2,7 +2,7 @@
 use Rattle.std.specs.Prelude.{◌≡◌, ◌≢◌, ℕ, ◌*◌, ◌<◌, ◌≤◌, Bool, true, false, not, List, [], ◌∷◌, ◌++◌, length, take, slice_get, Some, None}
 use Rattle.std.specs.List.{AllPairs, AllZip}
 use Rattle.aig.specs.Values.{value}
-use Rattle.lane_eval.specs.Tables.{Covers}
+use Rattle.aig.specs.lane_eval.Tables.{Covers}
 use Rattle.sec_base.specs.declared.basics.Tag.{Tag}
 use Rattle.pair_decide.specs.Queries.{assigned_to}
 use Rattle.event_nodes.specs.Nodes.{EventGraphView}

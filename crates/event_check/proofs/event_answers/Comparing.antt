@@ -14,8 +14,8 @@ use Rattle.sec_setup.specs.ports.Pairs.{outputs_of}
 use Rattle.sec_setup.specs.Setup.{AreColumns}
 use Rattle.sec_setup.proofs.ReadInputs.{visited_is_column}
 use Rattle.event_nodes.specs.View.{EventCircuitView}
-use Rattle.event_findings.specs.event_witness.Asked.{IsPairOf}
-use Rattle.event_findings.specs.event_witness.Sequences.{HasInputsBelow}
+use Rattle.event_form.specs.Asked.{IsPairOf}
+use Rattle.event_form.specs.event_findings.event_witness.Sequences.{HasInputsBelow}
 use Rattle.event_comparison.specs.EventPairs.{EventPairs}
 use Rattle.event_comparison.specs.Compared.{AreCompared, IsEventDepth}
 use Rattle.event_setup.specs.declared.setup.EventSetup.{EventSetup}

@@ -8,9 +8,9 @@ use Rattle.edbf_unfold.specs.class_queries.Laws.{AreKept}
 use Rattle.event_form.specs.event_agreement.pair_events.View.{EventsView, IsEvents}
 use Rattle.event_form.specs.event_agreement.pair_events.Within.{IsCountedOnce}
 use Rattle.event_comparison.specs.Counted.{AreRefused, ArePairsCounted}
-use Rattle.event_meaning.specs.event_names.EventFormError.{EventFormError}
-use Rattle.event_meaning.specs.event_names.EventFormError.TheVariants as form_error
-use Rattle.event_meaning.proofs.event_names.event_fits.Counting.{count_is, map_made, pairs_within, refused_large, refused_many}
+use Rattle.event_setup.specs.event_meaning.event_names.EventFormError.{EventFormError}
+use Rattle.event_setup.specs.event_meaning.event_names.EventFormError.TheVariants as form_error
+use Rattle.event_setup.proofs.event_meaning.event_names.event_fits.Counting.{count_is, map_made, pairs_within, refused_large, refused_many}
 use Rattle.event_check.specs.event_answers.Finding.{AreNotUnfolded, AreUnfolded, refusal_of}
 
 -- the inputs of a circuit have one number each

@@ -7,7 +7,7 @@ use Rattle.sec_base.specs.declared.settings.Settings.{Settings}
 use Rattle.sec_setup.specs.declared.error.SetupError.{SetupError}
 use Rattle.sec_setup.specs.declared.error.SetupError.TheVariants as unset
 use Rattle.sec_setup.specs.Matching.{InterfacesMatch}
-use Rattle.outcome.specs.declared.verdict.LimitAt.{LimitAt}
+use Rattle.obligations.specs.declared.outcome.verdict.LimitAt.{LimitAt}
 use Rattle.event_classes.specs.declared.error.EventError.{EventError}
 use Rattle.event_classes.specs.declared.error.EventError.TheVariants as event_error
 use Rattle.event_comparison.specs.class_events.Refused.{IsRefusedMap}
@@ -17,14 +17,14 @@ use Rattle.event_setup.specs.declared.error.RecoveryError.TheVariants as unknown
 use Rattle.event_setup.specs.declared.setup.EventSetup.{EventSetup}
 use Rattle.event_setup.specs.Choosing.{RefusesCycle}
 use Rattle.event_setup.specs.Recovered.{AreKnown, RecoversBoth}
-use Rattle.under_base.specs.declared.compare_base.error.CompareError.{CompareError}
-use Rattle.under_base.specs.declared.compare_base.error.CompareError.TheVariants as refused
-use Rattle.under_base.specs.compare_base.Compared.{refusal_of}
-use Rattle.event_meaning.specs.event_names.event_fits.Circuits.{AreReached}
-use Rattle.event_meaning.specs.event_names.event_fits.Compared.{ComparedInEvents}
-use Rattle.event_meaning.specs.event_names.event_fits.Named.{latch_names}
-use Rattle.event_meaning.specs.declared.event_names.names.Names.{Names}
-use Rattle.event_meaning.proofs.event_names.Naming.{tag_named, other_named}
+use Rattle.plain_check.specs.declared.under_base.compare_base.error.CompareError.{CompareError}
+use Rattle.plain_check.specs.declared.under_base.compare_base.error.CompareError.TheVariants as refused
+use Rattle.plain_check.specs.under_base.compare_base.Compared.{refusal_of}
+use Rattle.event_setup.specs.event_meaning.event_names.event_fits.Circuits.{AreReached}
+use Rattle.event_setup.specs.event_meaning.event_names.event_fits.Compared.{ComparedInEvents}
+use Rattle.event_setup.specs.event_meaning.event_names.event_fits.Named.{latch_names}
+use Rattle.event_setup.specs.declared.event_meaning.event_names.names.Names.{Names}
+use Rattle.event_setup.proofs.event_meaning.event_names.Naming.{tag_named, other_named}
 use Rattle.event_check.specs.event_answers.Finding.{AreNotUnfolded}
 use Rattle.event_check.specs.event_answers.Limits.{CanTell, TellsLimit, TellsUnknown}
 

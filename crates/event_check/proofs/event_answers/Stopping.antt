@@ -11,9 +11,9 @@ use Rattle.sec_setup.specs.ports.Pairs.{ArePairsOf}
 use Rattle.pair_decide.specs.declared.query.Proof.{Proof}
 use Rattle.sec_base.specs.declared.basics.Tag.{Tag}
 use Rattle.sec_base.specs.declared.settings.Settings.{Settings}
-use Rattle.outcome.specs.declared.verdict.LimitAt.{LimitAt}
-use Rattle.outcome.specs.declared.verdict.LimitAt.TheVariants as limit_at
-use Rattle.outcome.specs.declared.verdict.Verdict.TheVariants as verdict
+use Rattle.obligations.specs.declared.outcome.verdict.LimitAt.{LimitAt}
+use Rattle.obligations.specs.declared.outcome.verdict.LimitAt.TheVariants as limit_at
+use Rattle.obligations.specs.declared.outcome.verdict.Verdict.TheVariants as verdict
 use Rattle.sec_setup.specs.Setup.{AreColumns}
 use Rattle.event_classes.specs.declared.error.EventError.{EventError}
 use Rattle.event_classes.specs.declared.error.EventError.TheVariants as event_error
@@ -28,12 +28,12 @@ use Rattle.event_setup.proofs.Setups.{pairs_within}
 use Rattle.event_check.specs.event_answers.Laws.{HaveClassesGiven}
 use Rattle.event_check.proofs.event_answers.Comparing.{setups_compared}
 use Rattle.event_form.specs.event_agreement.pair_events.View.{EventsView}
-use Rattle.under_base.specs.declared.compare_base.error.CompareError.{CompareError}
-use Rattle.event_meaning.specs.event_names.Asked.{IsPairOf}
-use Rattle.event_meaning.specs.event_names.event_fits.Circuits.{AreReached}
-use Rattle.event_meaning.specs.event_names.event_fits.Fitting.{class_limit}
-use Rattle.event_meaning.specs.event_names.event_fits.Named.{latch_names}
-use Rattle.event_meaning.specs.declared.event_names.names.Names.{Names}
+use Rattle.plain_check.specs.declared.under_base.compare_base.error.CompareError.{CompareError}
+use Rattle.event_setup.specs.event_meaning.event_names.Asked.{IsPairOf}
+use Rattle.event_setup.specs.event_meaning.event_names.event_fits.Circuits.{AreReached}
+use Rattle.event_setup.specs.event_meaning.event_names.event_fits.Fitting.{class_limit}
+use Rattle.event_setup.specs.event_meaning.event_names.event_fits.Named.{latch_names}
+use Rattle.event_setup.specs.declared.event_meaning.event_names.names.Names.{Names}
 use Rattle.event_check.specs.declared.event_answers.reaching.Asked.{Asked}
 use Rattle.event_check.specs.event_answers.Askable.{AreAskable}
 use Rattle.event_check.specs.event_answers.Limits.{TellsLimit, TellsUnknown}

@@ -2,13 +2,13 @@
 use Rattle.std.proofs.Common.{◌≡◌, ◌∙◌, ℕ, List, [], length, Option, ap, subst}
 use Rattle.circuit_theory.specs.Interface.{shared_inputs}
 use Rattle.flat_net.specs.View.{NetView, ports_of}
-use Rattle.outcome.specs.declared.verdict.LimitAt.{LimitAt}
-use Rattle.outcome.specs.declared.verdict.Outcome.{Outcome}
-use Rattle.outcome.specs.declared.verdict.Verdict.{Verdict}
-use Rattle.outcome.specs.declared.verdict.Verdict.TheVariants as verdict
+use Rattle.obligations.specs.declared.outcome.verdict.LimitAt.{LimitAt}
+use Rattle.obligations.specs.declared.outcome.verdict.Outcome.{Outcome}
+use Rattle.obligations.specs.declared.outcome.verdict.Verdict.{Verdict}
+use Rattle.obligations.specs.declared.outcome.verdict.Verdict.TheVariants as verdict
 use Rattle.sec_base.specs.declared.settings.Settings.{Settings}
 use Rattle.sec_setup.specs.Cuts.{columns_of}
-use Rattle.event_meaning.specs.event_names.event_fits.Named.{latch_names, NamesVerdict}
+use Rattle.event_setup.specs.event_meaning.event_names.event_fits.Named.{latch_names, NamesVerdict}
 use Rattle.event_comparison.specs.EventFindings.{EventFindings}
 use Rattle.event_check.specs.event_answers.Reached.{AreClassed}
 use Rattle.event_check.specs.declared.event_answers.reaching.Classed.{Classed}

@@ -19,8 +19,8 @@ use Rattle.event_under.specs.Places.{IsLightAtNodes, IsOverAtNodes}
 use Rattle.event_check.specs.event_answers.Askable.{AreAskable, IsAskedBy}
 use Rattle.event_check.specs.event_answers.EventFormError.TheVariants as form_error
 use Rattle.event_check.specs.event_answers.Finding.{AreNotUnfolded, AreUnfolded, IsNamedFound}
-use Rattle.event_meaning.specs.event_names.Nameable.{CanBeNamed}
-use Rattle.event_meaning.specs.declared.event_names.names.Names.{Names}
+use Rattle.event_setup.specs.event_meaning.event_names.Nameable.{CanBeNamed}
+use Rattle.event_setup.specs.declared.event_meaning.event_names.names.Names.{Names}
 use Rattle.event_check.specs.declared.event_answers.outcomes.Found.{Found}
 use Rattle.event_check.specs.declared.event_answers.reaching.Asked.{Asked}
 use Rattle.event_check.proofs.event_answers.Finding.{long, not_unfolded, unfolded}

@@ -5,9 +5,9 @@ use Rattle.sec_setup.specs.Setup.{AreColumns}
 use Rattle.event_form.specs.event_agreement.pair_events.View.{EventsView}
 use Rattle.event_comparison.specs.Compared.{AreCompared}
 use Rattle.event_comparison.specs.EventPairs.{EventPairs}
-use Rattle.event_meaning.specs.event_names.Asked.{IsPairOf}
-use Rattle.event_meaning.specs.event_names.event_fits.Named.{latch_names}
-use Rattle.event_meaning.specs.declared.event_names.names.Names.{Names}
+use Rattle.event_setup.specs.event_meaning.event_names.Asked.{IsPairOf}
+use Rattle.event_setup.specs.event_meaning.event_names.event_fits.Named.{latch_names}
+use Rattle.event_setup.specs.declared.event_meaning.event_names.names.Names.{Names}
 use Rattle.event_check.specs.declared.event_answers.reaching.Asked.{Asked}
 
 -- the pairs, by the names of the inputs

@@ -5,13 +5,13 @@ use Rattle.sec_setup.specs.declared.ports.pairs.SignalPair.{SignalPair}
 use Rattle.edbf_unfold.specs.class_queries.Enables.{both_of}
 use Rattle.event_nodes.specs.View.{EventCircuitView}
 use Rattle.event_comparison.specs.EventFindings.{EventFindings}
-use Rattle.under_base.specs.declared.compare_base.error.CompareError.{CompareError}
-use Rattle.under_base.specs.declared.compare_base.error.CompareError.TheVariants as refused
-use Rattle.event_meaning.specs.event_names.EventFormError.{EventFormError}
-use Rattle.event_meaning.specs.event_names.EventFormError.TheVariants as form_error
-use Rattle.event_meaning.specs.event_names.event_fits.Named.{NamesVerdict}
-use Rattle.event_meaning.specs.event_names.event_fits.Totals.{IsMapMade, IsWithinWith, PairsReachTooMany, PairsWeighTooMuch}
-use Rattle.event_meaning.specs.declared.event_names.names.Names.{Names}
+use Rattle.plain_check.specs.declared.under_base.compare_base.error.CompareError.{CompareError}
+use Rattle.plain_check.specs.declared.under_base.compare_base.error.CompareError.TheVariants as refused
+use Rattle.event_setup.specs.event_meaning.event_names.EventFormError.{EventFormError}
+use Rattle.event_setup.specs.event_meaning.event_names.EventFormError.TheVariants as form_error
+use Rattle.event_setup.specs.event_meaning.event_names.event_fits.Named.{NamesVerdict}
+use Rattle.event_setup.specs.event_meaning.event_names.event_fits.Totals.{IsMapMade, IsWithinWith, PairsReachTooMany, PairsWeighTooMuch}
+use Rattle.event_setup.specs.declared.event_meaning.event_names.names.Names.{Names}
 use Rattle.event_check.specs.declared.event_answers.outcomes.Found.{Found}
 
 -- what is found of the pairs, by the names of inputs and latches

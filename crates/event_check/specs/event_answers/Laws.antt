@@ -8,7 +8,7 @@ use Rattle.flat_net.specs.Sound.{IsSound}
 use Rattle.flat_net.specs.View.{NetView, circuit_of}
 use Rattle.event_setup.specs.declared.setup.EventSetup.{EventSetup}
 use Rattle.event_setup.specs.Setup.{IsEventSetup, IsEventSetupOf}
-use Rattle.event_findings.specs.event_witness.Asked.{IsPairOf}
+use Rattle.event_form.specs.Asked.{IsPairOf}
 use Rattle.event_comparison.specs.EventPairs.{EventPairs}
 use Rattle.event_comparison.specs.Agreement.{AreAllPairs, AreCutFrom, CircuitsAgree}
 use Rattle.event_comparison.specs.Compared.{AreCompared}

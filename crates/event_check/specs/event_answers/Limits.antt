@@ -1,16 +1,16 @@
 -- What is told where the limit was met before the pairs, and what is refused.
 use Rattle.std.specs.Prelude.{◌≡◌, Result, Ok, Err}
-use Rattle.outcome.specs.declared.verdict.LimitAt.{LimitAt}
-use Rattle.outcome.specs.declared.verdict.LimitAt.TheVariants as limit_at
+use Rattle.obligations.specs.declared.outcome.verdict.LimitAt.{LimitAt}
+use Rattle.obligations.specs.declared.outcome.verdict.LimitAt.TheVariants as limit_at
 use Rattle.event_classes.specs.declared.error.EventError.{EventError}
 use Rattle.event_classes.specs.declared.error.EventError.TheVariants as event_error
 use Rattle.event_setup.specs.declared.error.RecoveryError.{RecoveryError}
 use Rattle.event_setup.specs.declared.error.RecoveryError.TheVariants as unknown
-use Rattle.under_base.specs.declared.compare_base.error.CompareError.{CompareError}
-use Rattle.under_base.specs.declared.compare_base.error.CompareError.TheVariants as refused
-use Rattle.event_meaning.specs.event_names.event_fits.Fitting.{class_limit}
-use Rattle.event_meaning.specs.event_names.Nameable.{IsLatchIn, IsOtherIn}
-use Rattle.event_meaning.specs.declared.event_names.names.Names.{Names}
+use Rattle.plain_check.specs.declared.under_base.compare_base.error.CompareError.{CompareError}
+use Rattle.plain_check.specs.declared.under_base.compare_base.error.CompareError.TheVariants as refused
+use Rattle.event_setup.specs.event_meaning.event_names.event_fits.Fitting.{class_limit}
+use Rattle.event_setup.specs.event_meaning.event_names.Nameable.{IsLatchIn, IsOtherIn}
+use Rattle.event_setup.specs.declared.event_meaning.event_names.names.Names.{Names}
 
 -- what is told where it isn't known which latches are enabled
 abbrev pub TellsUnknown : RecoveryError → Result LimitAt CompareError → Type 0

@@ -4,15 +4,15 @@ use Rattle.flat_net.specs.View.{NetView, circuit_of}
 use Rattle.sec_setup.specs.ports.Pairs.{named_pairs, places_of}
 use Rattle.sec_base.specs.declared.settings.Settings.{Settings}
 use Rattle.sec_setup.specs.Cuts.{columns_of, is_cut}
-use Rattle.outcome.specs.declared.verdict.LimitAt.{LimitAt}
-use Rattle.outcome.specs.declared.verdict.Outcome.{Outcome}
-use Rattle.outcome.specs.declared.verdict.Verdict.TheVariants as verdict
+use Rattle.obligations.specs.declared.outcome.verdict.LimitAt.{LimitAt}
+use Rattle.obligations.specs.declared.outcome.verdict.Outcome.{Outcome}
+use Rattle.obligations.specs.declared.outcome.verdict.Verdict.TheVariants as verdict
 use Rattle.event_comparison.specs.class_events.Made.{AreEnablesCounted}
 use Rattle.event_comparison.specs.class_events.Separated.{AreSeparated}
-use Rattle.under_base.specs.declared.compare_base.error.CompareError.{CompareError}
-use Rattle.event_meaning.specs.event_names.event_fits.Circuits.{AreReached}
-use Rattle.event_meaning.specs.event_names.event_fits.Compared.{ComparedInEvents}
-use Rattle.event_meaning.specs.event_names.event_fits.Fitting.{IsUnclassed, IsUnrecovered}
+use Rattle.plain_check.specs.declared.under_base.compare_base.error.CompareError.{CompareError}
+use Rattle.event_setup.specs.event_meaning.event_names.event_fits.Circuits.{AreReached}
+use Rattle.event_setup.specs.event_meaning.event_names.event_fits.Compared.{ComparedInEvents}
+use Rattle.event_setup.specs.event_meaning.event_names.event_fits.Fitting.{IsUnclassed, IsUnrecovered}
 use Rattle.event_check.specs.event_answers.Askable.{AreAskable}
 use Rattle.event_check.specs.declared.event_answers.reaching.Classed.{Classed}
 use Rattle.event_check.specs.declared.event_answers.reaching.Reached.{Reached}

@@ -2,7 +2,7 @@
 use Rattle.std.specs.Prelude.{◌≡◌}
 use Rattle.flat_net.specs.Comparable.{IsComparable}
 use Rattle.sec_setup.specs.Matching.{InterfacesMatch}
-use Rattle.under_base.specs.Met.{shared_by}
+use Rattle.plain_check.specs.under_base.Met.{shared_by}
 use Rattle.event_check.specs.declared.event_check_under.circuits.Circuits.{Circuits}
 
 -- All three can be compared, the interfaces of the first two match, and the names are those that these share.

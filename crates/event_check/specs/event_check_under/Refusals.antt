@@ -1,7 +1,7 @@
 -- Why circuits whose pairs can't be compared under an assumption aren't compared.
 use Rattle.assume_laws.specs.declared.assume_shape.shape.ShapeFault.TheVariants as fault
-use Rattle.event_meaning.specs.event_meaning_under.CompareError.{CompareError}
-use Rattle.event_meaning.specs.event_meaning_under.CompareError.TheVariants as refused
+use Rattle.event_setup.specs.event_meaning.event_meaning_under.CompareError.{CompareError}
+use Rattle.event_setup.specs.event_meaning.event_meaning_under.CompareError.TheVariants as refused
 use Rattle.event_under_form.specs.declared.error.EventUnderError.{EventUnderError}
 use Rattle.event_under_form.specs.declared.error.EventUnderError.TheVariants as under_error
 

@@ -3,8 +3,10 @@
 ghost use Rattle.event_check.specs.event_answers.Limits.{CanTell, TellsLimit, TellsUnknown};
 
 use event_comparison::EventError;
-use event_meaning::event_names::{CompareError, Names, RecoveryError, named_latch, named_other};
-use outcome::LimitAt;
+use event_setup::event_meaning::event_names::{
+    CompareError, Names, RecoveryError, named_latch, named_other,
+};
+use obligations::outcome::LimitAt;
 
 /// The limit where it isn't known which latches are enabled, or the refusal.
 pub(crate) fn unrecovered(error: RecoveryError) -> Result<LimitAt, CompareError>

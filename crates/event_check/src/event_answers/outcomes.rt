@@ -1,14 +1,14 @@
 //! Outcomes of comparisons in the event form.
 
 ghost use Rattle.std.specs.Prelude.{◌≡◌, [], length, IfOk};
-ghost use Rattle.outcome.specs.declared.verdict.Verdict.TheVariants as verdict;
-ghost use Rattle.event_meaning.specs.event_names.Nameable.{CanBeNamed};
+ghost use Rattle.obligations.specs.declared.outcome.verdict.Verdict.TheVariants as verdict;
+ghost use Rattle.event_setup.specs.event_meaning.event_names.Nameable.{CanBeNamed};
 ghost use Rattle.event_check.specs.event_answers.Finding.{IsNamedFound};
 
 use event_comparison::EventFindings;
-use event_meaning::event_names::{Names, named_verdict};
+use event_setup::event_meaning::event_names::{Names, named_verdict};
 use flat_net::Net;
-use outcome::{LimitAt, Outcome, PairResults, Verdict};
+use obligations::outcome::{LimitAt, Outcome, PairResults, Verdict};
 use sec_base::{NoMemory, Word, Words};
 use std::alloc::Global;
 

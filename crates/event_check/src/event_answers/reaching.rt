@@ -7,17 +7,17 @@ ghost use Rattle.flat_net.specs.View.{ports_of};
 ghost use Rattle.sec_setup.specs.Matching.{InterfacesMatch};
 ghost use Rattle.event_setup.specs.Recovered.{AreBothMarked, AreKnown};
 ghost use Rattle.event_setup.specs.Setup.{IsEventSetupOf};
-ghost use Rattle.event_meaning.specs.event_names.event_fits.Named.{latch_names};
+ghost use Rattle.event_setup.specs.event_meaning.event_names.event_fits.Named.{latch_names};
 ghost use Rattle.event_check.specs.event_answers.Reached.{ReachesPairs};
 
 use crate::event_answers::limits::{unclassed, unrecovered};
 use base_tables::NameTable;
 use event_comparison::{Separated, events_of};
-use event_meaning::event_names::{
+use event_setup::event_meaning::event_names::{
     CompareError, EnabledLatches, EventSetup, Names, latch_names, recover_both, set_up_events,
 };
 use flat_net::Net;
-use outcome::{LimitAt, Settings};
+use obligations::outcome::{LimitAt, Settings};
 use sec_base::{Ids, MAX_CONFLICTS, NoMemory, Words};
 use sec_setup::ports::SignalPairs;
 use std::alloc::Global;

@@ -6,7 +6,7 @@ ghost use Rattle.flat_net.specs.declared.parts.Port.{Port};
 use crate::event_answers::{Found, outcome_of};
 use base_tables::NameTable;
 use flat_net::Net;
-use outcome::Outcome;
+use obligations::outcome::Outcome;
 use sec_base::{NoMemory, Words};
 
 /// Two circuits, a third that is assumed of their inputs, and the names of the inputs that the two share.

@@ -4,8 +4,8 @@ ghost use Rattle.std.specs.Prelude.{◌≡◌, ◌+◌, ◌≤◌, length};
 ghost use Rattle.flat_net.specs.Comparable.{IsComparable};
 ghost use Rattle.assume_queries.specs.assume_sequences.assume_taken.Premises.{IsPremiseOf};
 ghost use Rattle.event_check.specs.event_answers.Reached.{AreClassed};
-ghost use Rattle.event_meaning.specs.event_meaning_under.Answered.{ComparedInEventsUnder};
-ghost use Rattle.under_base.specs.Refusals.{refusal_of};
+ghost use Rattle.event_setup.specs.event_meaning.event_meaning_under.Answered.{ComparedInEventsUnder};
+ghost use Rattle.plain_check.specs.under_base.Refusals.{refusal_of};
 ghost use Rattle.event_check.specs.event_check_under.Circuits.{AreMatched};
 
 use crate::event_answers::{Classed, Reached, limit_found, reach_pairs};
@@ -15,7 +15,7 @@ use crate::event_check_under::event_answers_under::{
 };
 use crate::event_check_under::pairs::compare_pairs;
 use flat_net::Net;
-use outcome::{LimitAt, Outcome, Settings};
+use obligations::outcome::{LimitAt, Outcome, Settings};
 use sec_base::{MAX_CONFLICTS, Words};
 use sec_setup::shared_names;
 use std::alloc::Global;

@@ -22,7 +22,7 @@ use Rattle.class_search.proofs.aig.Growth.{IsAndOf-grows, Grows-length}
 use Rattle.event_nodes.specs.Nodes.{EventGraphView, IsEventGraph}
 use Rattle.class_search.specs.event_variables.Variables.{variable_of, variables_of, GoesBefore, AreInOrder, IsMergeOf}
 use Rattle.class_search.specs.event_variables.Laws.{IsSignalTree}
-use Rattle.event_functions.specs.declared.signals.SignalFunction.{SignalFunction}
+use Rattle.event_classes.specs.declared.event_functions.signals.SignalFunction.{SignalFunction}
 use Rattle.edbf_unfold.specs.Laws.{TakesFrame}
 use Rattle.class_search.specs.declared.compare.Enable.{Enable}
 use Rattle.class_search.specs.Comparing.{IsReadyEnable}

@@ -4,7 +4,7 @@ use Rattle.circuit_theory.specs.Frame.{EventSide}
 use Rattle.class_search.specs.aig.Rules.{IsAndOf}
 use Rattle.event_nodes.specs.Nodes.{EventGraphView}
 use Rattle.class_search.specs.event_variables.Variables.{IsMergeOf}
-use Rattle.event_functions.specs.declared.signals.SignalFunction.{SignalFunction}
+use Rattle.event_classes.specs.declared.event_functions.signals.SignalFunction.{SignalFunction}
 use Rattle.event_form.specs.event_agreement.event_pairs.Functions.{IsEventFunction}
 use Rattle.class_search.specs.pair_decide.Query.{Query}
 

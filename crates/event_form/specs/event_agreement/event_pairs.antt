@@ -1,3 +1,3 @@
 pub mod Functions
 pub mod Laws
-pub use Rattle.event_functions.specs.declared.signals.SignalFunction
+pub use Rattle.event_classes.specs.declared.event_functions.signals.SignalFunction

@@ -26,11 +26,11 @@ use Rattle.aig.specs.graph_copy.graph_clone.Twins.{AreTwins, IsTwinOf, twin_in}
 use Rattle.aig.proofs.graph_copy.graph_clone.Twins.{twin_grows, twin_there}
 use Rattle.pair_decide.specs.declared.query.Query.{Query}
 use Rattle.pair_decide.specs.Queries.{IsQuery, roots_of}
-use Rattle.unfold_places.specs.Reach.{Adds}
-use Rattle.shift_variables.specs.Variables.{variable_of, variables_of}
-use Rattle.shift_variables.proofs.Reading.{pair_is}
-use Rattle.unfold_places.proofs.Lists.{pairs_map}
-use Rattle.shift_variables.specs.query_places.Places.{place_of}
+use Rattle.cbf_unfold.specs.unfold_places.Reach.{Adds}
+use Rattle.cbf_unfold.specs.shift_variables.Variables.{variable_of, variables_of}
+use Rattle.cbf_unfold.proofs.shift_variables.Reading.{pair_is}
+use Rattle.cbf_unfold.proofs.unfold_places.Lists.{pairs_map}
+use Rattle.cbf_unfold.specs.shift_variables.query_places.Places.{place_of}
 use Rattle.assume_laws.specs.Assume.{Assumption, RowMeets, HasVariableAtNode, HasCareUnder}
 use Rattle.assume_laws.specs.Sequences.{IsPairTreeUnder, IsSideTree}
 use Rattle.assume_laws.proofs.Meeting.{leaf_at}

@@ -8,8 +8,8 @@ use Rattle.circuit_theory.proofs.Lists.{Contains-map, Contains-map_from}
 use Rattle.circuit_theory.specs.EventFrames.{AreNodeVariables, IsPairTree}
 use Rattle.circuit_theory.specs.Frame.{EventSide}
 use Rattle.pair_decide.specs.declared.query.Query.{Query}
-use Rattle.unfold_places.specs.Reach.{Adds}
-use Rattle.shift_variables.specs.query_places.Places.{place_of}
+use Rattle.cbf_unfold.specs.unfold_places.Reach.{Adds}
+use Rattle.cbf_unfold.specs.shift_variables.query_places.Places.{place_of}
 use Rattle.assume_laws.specs.Assume.{HasVariableAtNode}
 use Rattle.event_nodes.specs.Nodes.{EventGraphView, IsEventGraph}
 use Rattle.event_nodes.specs.event_variables.Variables as event_variables

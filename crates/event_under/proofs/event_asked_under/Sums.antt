@@ -6,11 +6,11 @@ use Rattle.circuit_theory.specs.Joined.{Either, Left, Right}
 use Rattle.circuit_theory.proofs.Lists.{Contains-map, Contains-map_from, at_of, of_at, length-map, zip_right}
 use Rattle.circuit_theory.specs.Frame.{EventSide}
 use Rattle.sec_base.specs.declared.limits.TheConstants.{MAX_WEIGHT}
-use Rattle.unfold_places.specs.Reach.{Adds}
-use Rattle.unfold_places.proofs.Lists.{pairs_map}
-use Rattle.unfold_places.proofs.Zips.{zip_left}
+use Rattle.cbf_unfold.specs.unfold_places.Reach.{Adds}
+use Rattle.cbf_unfold.proofs.unfold_places.Lists.{pairs_map}
+use Rattle.cbf_unfold.proofs.unfold_places.Zips.{zip_left}
 use Rattle.pair_decide.specs.declared.query.Query.{Query}
-use Rattle.shift_variables.specs.query_places.Places.{place_of, ArePlacesOf}
+use Rattle.cbf_unfold.specs.shift_variables.query_places.Places.{place_of, ArePlacesOf}
 use Rattle.sec_setup.specs.declared.ports.pairs.SignalPair.{SignalPair}
 use Rattle.obligations.specs.declared.obligation.Obligation.{Obligation}
 use Rattle.obligations.specs.Asked.{queries_of}

@@ -13,8 +13,8 @@ use Rattle.aig.specs.Graph.{IsGraph, Grows}
 use Rattle.aig.proofs.Growth.{Grows-length}
 use Rattle.aig.specs.graph_copy.graph_clone.Twins.{AreTwins}
 use Rattle.pair_decide.specs.declared.query.Query.{Query}
-use Rattle.unfold_places.specs.Reach.{Adds}
-use Rattle.unfold_places.proofs.Zips.{zip_left}
+use Rattle.cbf_unfold.specs.unfold_places.Reach.{Adds}
+use Rattle.cbf_unfold.proofs.unfold_places.Zips.{zip_left}
 use Rattle.obligations.specs.declared.obligation.Obligation.{Obligation}
 use Rattle.obligations.specs.Asked.{queries_of}
 use Rattle.sec_setup.specs.declared.ports.pairs.SignalPair.{SignalPair}

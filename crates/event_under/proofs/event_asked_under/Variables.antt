@@ -8,12 +8,12 @@ use Rattle.circuit_theory.proofs.Numbers.{slice_get-map}
 use Rattle.circuit_theory.specs.Frame.{NodeBefore}
 use Rattle.flat_net.proofs.Places.{All-at}
 use Rattle.circuit_laws.specs.reset_laws.Reset.{CycleBefore}
-use Rattle.unfold_places.specs.Growing.{TakesBits}
-use Rattle.unfold_places.specs.Reach.{Adds}
-use Rattle.unfold_places.proofs.Lists.{adds_at, adds_length}
-use Rattle.shift_variables.specs.Variables.{variable_of}
-use Rattle.shift_variables.proofs.Reading.{pair_is}
-use Rattle.shift_variables.specs.query_places.Places.{place_of}
+use Rattle.cbf_unfold.specs.unfold_places.Growing.{TakesBits}
+use Rattle.cbf_unfold.specs.unfold_places.Reach.{Adds}
+use Rattle.cbf_unfold.proofs.unfold_places.Lists.{adds_at, adds_length}
+use Rattle.cbf_unfold.specs.shift_variables.Variables.{variable_of}
+use Rattle.cbf_unfold.proofs.shift_variables.Reading.{pair_is}
+use Rattle.cbf_unfold.specs.shift_variables.query_places.Places.{place_of}
 use Rattle.edbf_unfold.specs.Laws.{TakesFrame}
 use Rattle.event_nodes.specs.Nodes.{EventGraphView, IsEventGraph, path_of}
 use Rattle.event_nodes.specs.event_variables.Variables as event_variables

@@ -15,8 +15,8 @@ use Rattle.circuit_theory.specs.Frame.{always_node, bits_as_shifts}
 use Rattle.event_nodes.specs.Nodes.{EventGraphView}
 use Rattle.event_nodes.specs.event_variables.Variables.{variable_of, variables_of}
 use Rattle.base_tables.proofs.TableLemmas.{take-push}
-use Rattle.shift_variables.specs.Variables as shift
-use Rattle.shift_variables.proofs.Assignments.{test_differs}
+use Rattle.cbf_unfold.specs.shift_variables.Variables as shift
+use Rattle.cbf_unfold.proofs.shift_variables.Assignments.{test_differs}
 use Rattle.assume_laws.specs.Sequences.{filled}
 use Rattle.assume_queries.proofs.assume_sequences.FilledRows.{any_push}
 use Rattle.event_under.specs.event_shown_under.Steps.{shifts_of}

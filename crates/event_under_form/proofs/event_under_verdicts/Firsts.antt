@@ -40,7 +40,7 @@ use Rattle.obligations.specs.Decided.{AnswerIs, HaveDecided, IsAnswered, IsFirst
 use Rattle.obligations.specs.Verdict.{IsVerdictAt}
 use Rattle.event_under.specs.event_shown_under.event_under_fits.event_agreement.View.{EventsView, side_of_both}
 use Rattle.swept_queries.proofs.Listed.{zip_left}
-use Rattle.outcome.specs.declared.verdict.PairResult.{PairResult}
+use Rattle.obligations.specs.declared.outcome.verdict.PairResult.{PairResult}
 use Rattle.pair_decide.specs.declared.query.Proof.{Proof}
 use Rattle.pair_decide.specs.declared.query.Query.{Query}
 use Rattle.pair_decide.specs.Answers.{IsDifference}

@@ -12,7 +12,7 @@ use Rattle.obligations.specs.declared.obligation.Obligation.{Obligation}
 use Rattle.obligations.specs.declared.verdict.VerdictAt.{VerdictAt}
 use Rattle.obligations.specs.declared.verdict.VerdictAt.TheVariants as at
 use Rattle.obligations.specs.Decided.{IsFirstOf}
-use Rattle.outcome.specs.declared.verdict.PairResult.{PairResult}
+use Rattle.obligations.specs.declared.outcome.verdict.PairResult.{PairResult}
 use Rattle.event_under.specs.event_shown_under.event_under_fits.event_agreement.View.{EventsView, side_of_both}
 use Rattle.witness_report.specs.declared.witness.Witness.{Witness}
 use Rattle.sec_base.specs.declared.basics.PairAnswer.TheVariants as answer

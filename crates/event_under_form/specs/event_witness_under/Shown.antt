@@ -9,8 +9,8 @@ use Rattle.obligations.specs.declared.obligation.Difference.{Difference}
 use Rattle.obligations.specs.declared.obligation.Obligation.{Obligation}
 use Rattle.witness_report.specs.declared.witness.Witness.{Witness}
 use Rattle.event_under.specs.event_shown_under.event_form.Frames.{TellsFrame}
-use Rattle.event_findings.specs.declared.event_witness.unshown.UnshownFrame.{UnshownFrame}
-use Rattle.event_findings.specs.declared.pairs.EventPairs.{EventPairs}
+use Rattle.event_form.specs.declared.event_findings.event_witness.unshown.UnshownFrame.{UnshownFrame}
+use Rattle.event_form.specs.declared.event_findings.pairs.EventPairs.{EventPairs}
 use Rattle.assume_laws.specs.Sequences.{filled_frame}
 use Rattle.event_under.specs.event_shown_under.assume_sequences.Filled.{bit_of}
 use Rattle.event_under_form.specs.declared.event_witness_under.ready.ReadyDifference.{ReadyDifference}

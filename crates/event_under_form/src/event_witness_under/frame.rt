@@ -4,7 +4,7 @@ ghost use Rattle.std.specs.Prelude.{◌≡◌, ◌<◌, length, All, IfOk};
 ghost use Rattle.event_under_form.specs.event_witness_under.Shown.{IsFrameOf};
 
 use crate::event_witness_under::ready::ReadyDifference;
-use event_findings::UnshownFrame;
+use event_form::event_findings::UnshownFrame;
 use sec_base::{Bits, NoMemory};
 use std::alloc::Global;
 

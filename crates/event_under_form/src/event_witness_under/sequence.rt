@@ -5,11 +5,11 @@ ghost use Rattle.base_tables.specs.Table.{AreDistinct};
 ghost use Rattle.event_under_form.specs.event_witness_under.Shown.{HasSides, IsSequenceAt, IsSequenceOf};
 
 use crate::event_witness_under::ready::ReadyDifference;
-use event_findings::EventPairs;
+use event_form::event_findings::EventPairs;
 use event_nodes::EventGraph;
 use event_under::event_shown_under::rows_under;
+use obligations::outcome::{Stimulus, Witness};
 use obligations::{Difference, Obligation};
-use outcome::{Stimulus, Witness};
 use sec_base::{Bits, Ids, NoMemory, Words};
 use std::alloc::Global;
 

@@ -3,7 +3,7 @@
 ghost use Rattle.std.specs.Prelude.{◌≡◌, ◌≢◌, ◌*◌, ◌<◌, [], ◌∷◌, length, IfOk};
 ghost use Rattle.std.specs.List.{AllPairs};
 ghost use Rattle.aig.specs.Values.{value};
-ghost use Rattle.lane_eval.specs.Tables.{Covers};
+ghost use Rattle.aig.specs.lane_eval.Tables.{Covers};
 ghost use Rattle.pair_decide.specs.Queries.{IsQuery, assigned_to};
 ghost use Rattle.event_under_form.specs.event_witness_under.Ready.{AreSidesOf};
 

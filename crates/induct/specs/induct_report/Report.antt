@@ -9,7 +9,7 @@ use Rattle.sec_base.specs.declared.basics.Tag.{Tag}
 use Rattle.sec_base.specs.Texts.{digit_of}
 use Rattle.flat_net.specs.Cut.{latch_at}
 use Rattle.flat_net.specs.View.{NetView, ports_of}
-use Rattle.outcome.specs.Report.{answer_word}
+use Rattle.obligations.specs.outcome.Report.{answer_word}
 use Rattle.induct.specs.declared.induction.InductPair.{InductPair}
 use Rattle.induct.specs.declared.induction.InductVerdict.{InductVerdict}
 use Rattle.induct.specs.declared.induction.InductVerdict.TheVariants as verdict

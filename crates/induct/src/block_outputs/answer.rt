@@ -3,7 +3,7 @@
 ghost use Rattle.std.specs.Prelude.{◌≡◌, ◌≢◌, ◌*◌, ◌<◌, ◌≤◌, [], ◌∷◌, length, IfOk};
 ghost use Rattle.std.specs.List.{AllPairs};
 ghost use Rattle.aig.specs.Values.{value};
-ghost use Rattle.lane_eval.specs.Tables.{Covers, assigned_to};
+ghost use Rattle.aig.specs.lane_eval.Tables.{Covers, assigned_to};
 ghost use Rattle.block_refine.specs.block_graph.Graph.{IsBlockGraph, IsSignalOf, number_of};
 ghost use Rattle.induct.specs.block_outputs.Answers.{IsAnswer};
 

@@ -4,7 +4,7 @@ ghost use Rattle.std.specs.Prelude.{◌≡◌, [], ◌∷◌, ◌++◌, ◌-◌,
 ghost use Rattle.std.specs.Fmt.{decimal};
 ghost use Rattle.std.specs.List.{flat_map};
 ghost use Rattle.flat_net.specs.Cut.{latch_at};
-ghost use Rattle.outcome.specs.Report.{answer_word};
+ghost use Rattle.obligations.specs.outcome.Report.{answer_word};
 ghost use Rattle.induct.specs.induct_report.Report.{counts_text, member_text, block_line, pair_line, variable_text, bit_line, values_text, limit_text};
 
 use crate::InductPair;

@@ -10,9 +10,9 @@ use Rattle.flat_net.specs.Sound.{IsSound}
 use Rattle.flat_net.specs.View.{NetView, circuit_of, ports_of}
 use Rattle.sec_setup.specs.declared.cut_points.exposed.Exposure.{Exposure}
 use Rattle.sec_base.specs.declared.settings.Settings.{Settings}
-use Rattle.outcome.specs.declared.verdict.LimitAt.TheVariants as limit_at
-use Rattle.outcome.specs.declared.verdict.Outcome.{Outcome}
-use Rattle.outcome.specs.declared.verdict.Verdict.TheVariants as verdict
+use Rattle.obligations.specs.declared.outcome.verdict.LimitAt.TheVariants as limit_at
+use Rattle.obligations.specs.declared.outcome.verdict.Outcome.{Outcome}
+use Rattle.obligations.specs.declared.outcome.verdict.Verdict.TheVariants as verdict
 use Rattle.pair_decide.specs.declared.query.Proof.{Proof}
 use Rattle.sec_setup.specs.declared.setup.Setup.{Setup}
 use Rattle.sec_setup.specs.Choosing.{IsChosen}
@@ -28,26 +28,26 @@ use Rattle.assume_queries.specs.assume_sequences.Filled.{bit_of}
 use Rattle.assume_queries.specs.declared.assume_sequences.premise.Premise.{Premise}
 use Rattle.assume_queries.specs.assume_sequences.Assumed.{IsAssumedBy, CanBeAssumed}
 use Rattle.assume_queries.specs.assume_sequences.assume_taken.Premises.{IsPremiseOf}
-use Rattle.under_base.specs.Taken.{assumed_by, IsUndecidedBy}
+use Rattle.plain_check.specs.under_base.Taken.{assumed_by, IsUndecidedBy}
 use Rattle.assume_queries.proofs.assume_sequences.assume_taken.Premises.{is_assumed, can_be_assumed}
-use Rattle.asked_under.specs.declared.error.CompareUnderError.{CompareUnderError}
-use Rattle.asked_under.specs.declared.error.CompareUnderError.TheVariants as found_error
-use Rattle.asked_under.specs.plain_asked_under.Formed.{AreFoundUnder, FormedUnder}
-use Rattle.under_base.specs.under_fits.Places.{IsOverAtPairs, IsLightAtPairs}
-use Rattle.asked_under.specs.plain_asked_under.Verdict.{FindingsFitUnder}
-use Rattle.under_base.specs.under_fits.Outcome.{OutcomeFitsUnder}
-use Rattle.asked_under.specs.plain_asked_under.under_meaning.Laws.{AreNets}
-use Rattle.asked_under.proofs.plain_asked_under.under_meaning.Meaning.{equal_says_under, different_shows_under, not_shown_under}
-use Rattle.under_base.specs.declared.compare_base.error.CompareError.TheVariants as refused
-use Rattle.under_base.proofs.compare_base.CutSetups.{choice, in_order, left_too_large, right_too_large}
-use Rattle.under_base.proofs.compare_base.Forms.{in_always}
-use Rattle.under_base.specs.Compared.{IsComparedUnder, ComparedUnder}
-use Rattle.under_base.specs.Met.{shared_by, IsMet, IsAssumptionLimit}
+use Rattle.plain_check.specs.declared.asked_under.error.CompareUnderError.{CompareUnderError}
+use Rattle.plain_check.specs.declared.asked_under.error.CompareUnderError.TheVariants as found_error
+use Rattle.plain_check.specs.asked_under.plain_asked_under.Formed.{AreFoundUnder, FormedUnder}
+use Rattle.plain_check.specs.under_base.under_fits.Places.{IsOverAtPairs, IsLightAtPairs}
+use Rattle.plain_check.specs.asked_under.plain_asked_under.Verdict.{FindingsFitUnder}
+use Rattle.plain_check.specs.under_base.under_fits.Outcome.{OutcomeFitsUnder}
+use Rattle.plain_check.specs.asked_under.plain_asked_under.under_meaning.Laws.{AreNets}
+use Rattle.plain_check.proofs.asked_under.plain_asked_under.under_meaning.Meaning.{equal_says_under, different_shows_under, not_shown_under}
+use Rattle.plain_check.specs.declared.under_base.compare_base.error.CompareError.TheVariants as refused
+use Rattle.plain_check.proofs.under_base.compare_base.CutSetups.{choice, in_order, left_too_large, right_too_large}
+use Rattle.plain_check.proofs.under_base.compare_base.Forms.{in_always}
+use Rattle.plain_check.specs.under_base.Compared.{IsComparedUnder, ComparedUnder}
+use Rattle.plain_check.specs.under_base.Met.{shared_by, IsMet, IsAssumptionLimit}
 use Rattle.job_check.specs.declared.compare_under.circuits.Circuits.{Circuits}
 use Rattle.job_check.specs.compare_under.Circuits.{AreMatched}
 use Rattle.job_check.specs.compare_under.Refusals.{refusal_under}
-use Rattle.under_base.proofs.Places.{light_there, over_there}
-use Rattle.under_base.proofs.Reading.{reads_cut}
+use Rattle.plain_check.proofs.under_base.Places.{light_there, over_there}
+use Rattle.plain_check.proofs.under_base.Reading.{reads_cut}
 
 -- the premise says that the assumption is met
 abbrev pub is_met : (a b c : NetView) (count : ℕ) (p : Premise) → InterfacesMatch a b → IsPremiseOf (shared_by a b) c count p → IsMet a b c

@@ -7,40 +7,40 @@ use Rattle.flat_net.specs.Sound.{IsSound}
 use Rattle.flat_net.specs.View.{NetView, circuit_of}
 use Rattle.sec_setup.specs.declared.cut_points.exposed.Exposure.{Exposure}
 use Rattle.sec_base.specs.declared.settings.Settings.{Settings}
-use Rattle.outcome.specs.declared.verdict.Outcome.{Outcome}
-use Rattle.outcome.specs.declared.verdict.PairResult.{PairResult}
+use Rattle.obligations.specs.declared.outcome.verdict.Outcome.{Outcome}
+use Rattle.obligations.specs.declared.outcome.verdict.PairResult.{PairResult}
 use Rattle.sec_setup.specs.declared.setup.Setup.{Setup}
 use Rattle.sec_setup.specs.Choosing.{IsChosen}
 use Rattle.sec_setup.specs.Matching.{InterfacesMatch}
 use Rattle.sec_setup.specs.ports.Pairs.{NamedPair, named_pairs}
 use Rattle.sec_setup.specs.Setup.{IsSetupOf}
 use Rattle.outcome_fits.specs.ResetOutcome.{Numbered}
-use Rattle.asked_under.specs.reset_asked_under.ResetFindings.{ResetFindings}
-use Rattle.asked_under.specs.reset_asked_under.ResetVerdict.{ResetVerdict}
-use Rattle.asked_under.specs.reset_asked_under.ResetVerdict.TheVariants as found_verdict
+use Rattle.plain_check.specs.asked_under.reset_asked_under.ResetFindings.{ResetFindings}
+use Rattle.plain_check.specs.asked_under.reset_asked_under.ResetVerdict.{ResetVerdict}
+use Rattle.plain_check.specs.asked_under.reset_asked_under.ResetVerdict.TheVariants as found_verdict
 use Rattle.assume_laws.specs.Assume.{Assumption}
 use Rattle.assume_laws.specs.declared.assume_shape.shape.ShapeFault.TheVariants as fault
 use Rattle.assume_queries.specs.assume_sequences.Filled.{bit_of}
 use Rattle.assume_queries.specs.declared.assume_sequences.premise.Premise.{Premise}
 use Rattle.assume_queries.specs.assume_sequences.assume_taken.Premises.{IsPremiseOf}
-use Rattle.under_base.specs.Taken.{assumed_by}
-use Rattle.asked_under.specs.declared.error.CompareUnderError.{CompareUnderError}
-use Rattle.asked_under.specs.declared.error.CompareUnderError.TheVariants as found_error
-use Rattle.asked_under.specs.reset_asked_under.Formed.{AreFoundUnder, FormedUnder}
-use Rattle.under_base.specs.under_fits.ResetPlaces.{IsOverInCycles, IsLightInCycles}
-use Rattle.asked_under.specs.reset_asked_under.Verdict.{FindingsFitUnder, VerdictFitsUnder}
-use Rattle.under_base.specs.under_fits.ResetOutcome.{numbers_of, ResetOutcomeFitsUnder, ResetVerdictFitsUnder}
-use Rattle.asked_under.specs.plain_asked_under.under_meaning.under_reset_meaning.Laws.{AreNets}
-use Rattle.asked_under.proofs.plain_asked_under.under_meaning.under_reset_meaning.Meaning.{equal_resets_say_under, different_resets_show_under}
-use Rattle.under_base.specs.declared.compare_base.error.CompareError.TheVariants as refused
-use Rattle.under_base.proofs.compare_base.Forms.{in_reset}
-use Rattle.under_base.proofs.compare_base.UncutSetups.{left_light, right_light, left_too_large, right_too_large, of_circuits, based, left_numbers, right_numbers}
-use Rattle.under_base.specs.Compared.{IsComparedFromResetUnder, ComparedUnder}
-use Rattle.under_base.specs.Met.{shared_by, IsMet}
+use Rattle.plain_check.specs.under_base.Taken.{assumed_by}
+use Rattle.plain_check.specs.declared.asked_under.error.CompareUnderError.{CompareUnderError}
+use Rattle.plain_check.specs.declared.asked_under.error.CompareUnderError.TheVariants as found_error
+use Rattle.plain_check.specs.asked_under.reset_asked_under.Formed.{AreFoundUnder, FormedUnder}
+use Rattle.plain_check.specs.under_base.under_fits.ResetPlaces.{IsOverInCycles, IsLightInCycles}
+use Rattle.plain_check.specs.asked_under.reset_asked_under.Verdict.{FindingsFitUnder, VerdictFitsUnder}
+use Rattle.plain_check.specs.under_base.under_fits.ResetOutcome.{numbers_of, ResetOutcomeFitsUnder, ResetVerdictFitsUnder}
+use Rattle.plain_check.specs.asked_under.plain_asked_under.under_meaning.under_reset_meaning.Laws.{AreNets}
+use Rattle.plain_check.proofs.asked_under.plain_asked_under.under_meaning.under_reset_meaning.Meaning.{equal_resets_say_under, different_resets_show_under}
+use Rattle.plain_check.specs.declared.under_base.compare_base.error.CompareError.TheVariants as refused
+use Rattle.plain_check.proofs.under_base.compare_base.Forms.{in_reset}
+use Rattle.plain_check.proofs.under_base.compare_base.UncutSetups.{left_light, right_light, left_too_large, right_too_large, of_circuits, based, left_numbers, right_numbers}
+use Rattle.plain_check.specs.under_base.Compared.{IsComparedFromResetUnder, ComparedUnder}
+use Rattle.plain_check.specs.under_base.Met.{shared_by, IsMet}
 use Rattle.job_check.specs.compare_under.Verdicts.{verdict_of}
 use Rattle.job_check.specs.compare_under.Refusals.{refusal_under}
 use Rattle.job_check.proofs.compare_under.CutOutcomes.{is_met, premised}
-use Rattle.under_base.proofs.Reading.{reads_inputs}
+use Rattle.plain_check.proofs.under_base.Reading.{reads_inputs}
 
 -- the verdict of the form is that of the outcome
 verdict_fits : (c : Assumption) (n : Numbered) (row : ℕ → Bool) (pairs : List (NamedPair ℕ ℕ)) (results : List PairResult) (v : ResetVerdict) → VerdictFitsUnder c n row pairs results v → ResetVerdictFitsUnder c n row pairs results (verdict_of v)

@@ -3,7 +3,7 @@ use Rattle.std.specs.Prelude.{◌≡◌}
 use Rattle.flat_net.specs.Comparable.{IsComparable}
 use Rattle.sec_setup.specs.Matching.{InterfacesMatch}
 use Rattle.sec_setup.specs.Setup.{AreGraphed}
-use Rattle.under_base.specs.Met.{shared_by}
+use Rattle.plain_check.specs.under_base.Met.{shared_by}
 use Rattle.job_check.specs.declared.compare_under.circuits.Circuits.{Circuits}
 
 -- All three can be compared, the graphs are those of the first two, whose interfaces match, and the names are those that these share.

@@ -1,9 +1,9 @@
 -- Refusals of a comparison of pairs under an assumption, as those of the circuits.
 use Rattle.assume_laws.specs.declared.assume_shape.shape.ShapeFault.TheVariants as fault
-use Rattle.asked_under.specs.declared.error.CompareUnderError.{CompareUnderError}
-use Rattle.asked_under.specs.declared.error.CompareUnderError.TheVariants as found
-use Rattle.under_base.specs.declared.compare_base.error.CompareError.{CompareError}
-use Rattle.under_base.specs.declared.compare_base.error.CompareError.TheVariants as refused
+use Rattle.plain_check.specs.declared.asked_under.error.CompareUnderError.{CompareUnderError}
+use Rattle.plain_check.specs.declared.asked_under.error.CompareUnderError.TheVariants as found
+use Rattle.plain_check.specs.declared.under_base.compare_base.error.CompareError.{CompareError}
+use Rattle.plain_check.specs.declared.under_base.compare_base.error.CompareError.TheVariants as refused
 
 abbrev pub refusal_under : CompareUnderError → CompareError
 refusal_under (found.TooLarge side) = refused.TooLarge side

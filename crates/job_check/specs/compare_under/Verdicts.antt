@@ -1,9 +1,9 @@
 -- The verdict from the initial values as an outcome has it.
-use Rattle.outcome.specs.declared.verdict.LimitAt.TheVariants as limit_at
-use Rattle.outcome.specs.declared.verdict.Verdict.{Verdict}
-use Rattle.outcome.specs.declared.verdict.Verdict.TheVariants as verdict
-use Rattle.asked_under.specs.reset_asked_under.ResetVerdict.{ResetVerdict}
-use Rattle.asked_under.specs.reset_asked_under.ResetVerdict.TheVariants as found
+use Rattle.obligations.specs.declared.outcome.verdict.LimitAt.TheVariants as limit_at
+use Rattle.obligations.specs.declared.outcome.verdict.Verdict.{Verdict}
+use Rattle.obligations.specs.declared.outcome.verdict.Verdict.TheVariants as verdict
+use Rattle.plain_check.specs.asked_under.reset_asked_under.ResetVerdict.{ResetVerdict}
+use Rattle.plain_check.specs.asked_under.reset_asked_under.ResetVerdict.TheVariants as found
 
 abbrev pub verdict_of : ResetVerdict → Verdict
 verdict_of found.Equal = verdict.Equal

@@ -7,25 +7,25 @@ ghost use Rattle.sec_setup.specs.Choosing.{IsChosen};
 ghost use Rattle.sec_setup.specs.Cuts.{AreCutBy};
 ghost use Rattle.sec_setup.specs.Setup.{AreGraphed};
 ghost use Rattle.assume_queries.specs.assume_sequences.assume_taken.Premises.{IsPremiseOf};
-ghost use Rattle.under_base.specs.Compared.{ComparedUnder};
+ghost use Rattle.plain_check.specs.under_base.Compared.{ComparedUnder};
 ghost use Rattle.job_check.specs.compare_under.Circuits.{AreMatched};
 ghost use Rattle.job_check.specs.compare_under.Refusals.{refusal_under};
-ghost use Rattle.under_base.specs.Refusals.{refusal_of};
+ghost use Rattle.plain_check.specs.under_base.Refusals.{refusal_of};
 
 use crate::compare_under::circuits::Circuits;
 use crate::compare_under::cutting::cut_nets;
 use crate::compare_under::outcomes::{name_of, outcome_of, undecided, verdict_of};
-use asked_under::CompareUnderError;
-use asked_under::plain_asked_under::{Findings, Premise, compare_plain_under};
-use asked_under::reset_asked_under::{ResetFindings, compare_reset_under};
 use assume_laws::assume_shape::ShapeFault;
 use flat_net::Net;
-use outcome::{Outcome, Settings};
+use obligations::outcome::{Outcome, Settings};
+use plain_check::asked_under::CompareUnderError;
+use plain_check::asked_under::plain_asked_under::{Findings, Premise, compare_plain_under};
+use plain_check::asked_under::reset_asked_under::{ResetFindings, compare_reset_under};
+use plain_check::under_base::{CompareError, TakeError, Taken, take, widen};
 use sec_base::MAX_CONFLICTS;
 use sec_setup::cut_points::Exposure;
 use sec_setup::{Nets, choose, graph_of, set_up, shared_names};
 use std::alloc::Global;
-use under_base::{CompareError, TakeError, Taken, take, widen};
 
 /// Compares the circuits `a` and `b` in the runs whose inputs make the output of the circuit `c` 1 in each cycle. It is done as without
 /// `c`, each query of a pair with `c` as its care at the places of the pair's variables; where a pair differs, each cycle of the sequence

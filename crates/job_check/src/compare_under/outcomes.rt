@@ -3,15 +3,15 @@
 ghost use Rattle.std.specs.Prelude.{◌≡◌, ◌<◌, [], ◌∷◌, length, Some, IfOk};
 ghost use Rattle.flat_net.specs.Comparable.{IsComparable};
 ghost use Rattle.flat_net.specs.declared.parts.Port.{Port};
-ghost use Rattle.outcome.specs.declared.verdict.LimitAt.TheVariants as limit_at;
-ghost use Rattle.outcome.specs.declared.verdict.Verdict.TheVariants as verdict;
+ghost use Rattle.obligations.specs.declared.outcome.verdict.LimitAt.TheVariants as limit_at;
+ghost use Rattle.obligations.specs.declared.outcome.verdict.Verdict.TheVariants as verdict;
 ghost use Rattle.job_check.specs.compare_under.Verdicts.{verdict_of};
 
 use crate::compare_under::circuits::Circuits;
-use asked_under::plain_asked_under::Findings;
-use asked_under::reset_asked_under::ResetVerdict;
 use flat_net::Net;
-use outcome::{LimitAt, Outcome, PairResults, Proof, Verdict};
+use obligations::outcome::{LimitAt, Outcome, PairResults, Proof, Verdict};
+use plain_check::asked_under::plain_asked_under::Findings;
+use plain_check::asked_under::reset_asked_under::ResetVerdict;
 use sec_base::{NoMemory, Word, Words};
 use sec_setup::Setup;
 use std::alloc::Global;

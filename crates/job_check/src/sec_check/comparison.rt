@@ -3,7 +3,7 @@
 ghost use Rattle.std.specs.Prelude.{◌≡◌, ◌≤◌, true, false};
 ghost use Rattle.circuit_theory.specs.declared.Mode.TheVariants.{Plain};
 ghost use Rattle.flat_net.specs.Comparable.{IsComparable};
-ghost use Rattle.event_meaning.specs.event_names.event_fits.Compared.{ComparedIn};
+ghost use Rattle.event_setup.specs.event_meaning.event_names.event_fits.Compared.{ComparedIn};
 ghost use Rattle.event_check.specs.event_check_under.Answered.{ComparedUnderIn};
 
 use crate::compare_under::compare_under as compare_plainly_under;
@@ -11,7 +11,7 @@ use circuit_theory::Mode;
 use event_check::compare_in_events;
 use event_check::event_check_under::compare_in_events_under;
 use flat_net::Net;
-use outcome::{Outcome, Settings};
+use obligations::outcome::{Outcome, Settings};
 use plain_check::{CompareError, compare_plainly};
 use sec_base::MAX_CONFLICTS;
 use std::alloc::Global;

@@ -4,7 +4,7 @@ ghost use Rattle.std.specs.Prelude.{◌≡◌, None, IfOk, IfErr};
 ghost use Rattle.circuit_theory.specs.Interface.{first_mismatch, AreOrders};
 ghost use Rattle.flat_net.specs.Comparable.{IsComparable};
 ghost use Rattle.flat_net.specs.View.{ports_of};
-ghost use Rattle.plain_check.specs.Compared.{InterfaceFails};
+ghost use Rattle.plain_check.specs.under_base.compare_base.Compared.{InterfaceFails};
 
 use flat_net::Net;
 use plain_check::CompareError;

@@ -14,9 +14,9 @@ use Rattle.pair_decide.specs.declared.query.Proof.{Proof}
 use Rattle.circuit_report.specs.declared.sim_report.refusal.Misfit.TheVariants as misfit
 use Rattle.job_circuit.specs.replay.replay_header.Header.{first_unknown, first_lacking}
 use Rattle.job_circuit.specs.job_replay.Modes.{AreUnknown}
-use Rattle.sec_files.specs.Loading.{Loads}
-use Rattle.sec_files.specs.Stimuli.{IsStimulus}
-use Rattle.sec_files.proofs.Texts.{text_sound}
+use Rattle.job_base.specs.sec_files.Loading.{Loads}
+use Rattle.job_base.specs.sec_files.Stimuli.{IsStimulus}
+use Rattle.job_base.proofs.sec_files.Texts.{text_sound}
 use Rattle.job_base.specs.declared.finding.File.TheVariants as file
 use Rattle.job_base.specs.declared.finding.LineFault.TheVariants as line_fault
 use Rattle.job_base.specs.declared.finding.Refusal.{Refusal}
@@ -24,8 +24,8 @@ use Rattle.job_base.specs.declared.finding.Refusal.TheVariants as refusal
 use Rattle.job_base.specs.declared.finding.Finding.{Finding}
 use Rattle.job_base.specs.declared.finding.Finding.TheVariants as finding
 use Rattle.job_base.specs.Written.{status_of}
-use Rattle.sec_files.proofs.job_files.Accepted.{not_long, not_faulty, not_unsound, not_misread, no_long_stimulus, not_headless, no_row_refused, same_names}
-use Rattle.sec_files.proofs.job_files.Reading.{some_and, if_told}
+use Rattle.job_base.proofs.sec_files.job_files.Accepted.{not_long, not_faulty, not_unsound, not_misread, no_long_stimulus, not_headless, no_row_refused, same_names}
+use Rattle.job_base.proofs.sec_files.job_files.Reading.{some_and, if_told}
 use Rattle.job_circuit.specs.job_replay.Replays.{IsReplayRefusal, IsReplayFound, CanBeReplayed, IsReplayed, IsReplayComplete}
 
 -- in the plain mode no query of a latch has met the limit

@@ -7,10 +7,10 @@ use Rattle.cycle_sim.specs.declared.pair_runs.differences.Difference.{Difference
 use Rattle.job_circuit.specs.declared.job_replay.fault.ReplayFault.{ReplayFault}
 use Rattle.job_circuit.specs.declared.job_replay.fault.ReplayFault.TheVariants as fault
 use Rattle.job_circuit.specs.job_replay.Modes.{ReplaysIn}
-use Rattle.sec_files.specs.declared.loader.LoadError.{LoadError}
-use Rattle.sec_files.specs.declared.stimuli.StimulusError.{StimulusError}
-use Rattle.sec_files.specs.Loading.{Loads, LoadFails}
-use Rattle.sec_files.specs.Stimuli.{IsStimulus, StimulusFails}
+use Rattle.job_base.specs.declared.sec_files.loader.LoadError.{LoadError}
+use Rattle.job_base.specs.declared.sec_files.stimuli.StimulusError.{StimulusError}
+use Rattle.job_base.specs.sec_files.Loading.{Loads, LoadFails}
+use Rattle.job_base.specs.sec_files.Stimuli.{IsStimulus, StimulusFails}
 use Rattle.job_base.specs.declared.finding.File.TheVariants as file
 use Rattle.job_base.specs.declared.finding.Refusal.TheVariants as refusal
 use Rattle.job_base.specs.declared.finding.Finding.{Finding}
@@ -18,8 +18,8 @@ use Rattle.job_base.specs.declared.finding.Finding.TheVariants as finding
 use Rattle.job_base.specs.declared.finding.Stop.{Stop}
 use Rattle.job_base.specs.declared.finding.Stop.TheVariants as stop
 use Rattle.job_base.specs.Ends.{EndsBy}
-use Rattle.sec_files.specs.job_files.Ends.{load_end, stimulus_end}
-use Rattle.sec_files.specs.job_files.Reading.{Held, ReadFailed}
+use Rattle.job_base.specs.sec_files.job_files.Ends.{load_end, stimulus_end}
+use Rattle.job_base.specs.sec_files.job_files.Reading.{Held, ReadFailed}
 use Rattle.job_circuit.specs.job_replay.Replays.{IsReplayFound, replay_paths}
 
 -- the paths of two circuits and of a stimulus, and the mode

@@ -15,8 +15,8 @@ use Rattle.job_circuit.specs.replay.replay_header.Header.{FitsBoth}
 use Rattle.cycle_sim.specs.pair_runs.replay_report.Report.{replay_text}
 use Rattle.job_circuit.specs.declared.job_replay.fault.ReplayFault.TheVariants as fault
 use Rattle.job_circuit.specs.job_replay.Modes.{AreUnknown, ShowsReplay, ReplaysIn}
-use Rattle.sec_files.specs.Loading.{IsAccepted, Loads, IsTooLong, HasFault, HasDesignFault, HasRecordFault}
-use Rattle.sec_files.specs.Stimuli.{IsStimulus, HasBadHeader, HasBadRow}
+use Rattle.job_base.specs.sec_files.Loading.{IsAccepted, Loads, IsTooLong, HasFault, HasDesignFault, HasRecordFault}
+use Rattle.job_base.specs.sec_files.Stimuli.{IsStimulus, HasBadHeader, HasBadRow}
 use Rattle.job_base.specs.Lines.{undecided_text}
 use Rattle.job_base.specs.declared.status.StatusName.{StatusName}
 use Rattle.job_base.specs.declared.status.StatusName.TheVariants as status
@@ -27,7 +27,7 @@ use Rattle.job_base.specs.declared.finding.Refusal.{Refusal}
 use Rattle.job_base.specs.declared.finding.Refusal.TheVariants as refusal
 use Rattle.job_base.specs.declared.finding.Finding.{Finding}
 use Rattle.job_base.specs.declared.finding.Finding.TheVariants as finding
-use Rattle.sec_files.specs.job_files.Reading.{IsLoaded}
+use Rattle.job_base.specs.sec_files.job_files.Reading.{IsLoaded}
 
 -- the paths of a replay, in the order of their fetches
 abbrev pub replay_paths : List ℕ → List ℕ → List ℕ → List (List ℕ)

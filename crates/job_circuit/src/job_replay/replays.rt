@@ -11,10 +11,10 @@ use circuit_report::sim_report::Misfit;
 use circuit_theory::Mode;
 use cycle_sim::pair_runs::Differences;
 use flat_net::Net;
+use job_base::sec_files::job_files::{load_end, stimulus_end};
+use job_base::sec_files::{load, load_stimulus};
 use job_base::{File, Finding, Refusal, Stop};
 use sec_base::Shelf;
-use sec_files::job_files::{load_end, stimulus_end};
-use sec_files::{load, load_stimulus};
 use std::alloc::Global;
 
 /// The paths of two circuits and of a stimulus, and the mode.

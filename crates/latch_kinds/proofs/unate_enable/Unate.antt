@@ -22,7 +22,7 @@ use Rattle.pair_decide.specs.declared.query.SameBy.TheVariants as same
 use Rattle.pair_decide.specs.declared.query.Decision.{Decision}
 use Rattle.pair_decide.specs.declared.query.Decision.TheVariants as decision
 use Rattle.pair_decide.specs.Answers.{IsDifference, Decides}
-use Rattle.lane_eval.proofs.Numbered.{assigned_to-at}
+use Rattle.aig.proofs.lane_eval.Numbered.{assigned_to-at}
 use Rattle.latch_kinds.specs.declared.unate_enable.support.LatchCone.{LatchCone}
 use Rattle.latch_kinds.specs.unate_enable.Cones.{out_of_latch, data_of_latch, IsConeOfLatch, places_of}
 use Rattle.latch_kinds.specs.declared.unate_enable.recovery.Recovery.{Recovery}

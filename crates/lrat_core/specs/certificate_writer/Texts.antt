@@ -5,7 +5,7 @@ use Rattle.std.specs.List.{flat_map}
 use Rattle.proof_check.specs.Literals.{Literal}
 use Rattle.proof_check.specs.Chains.{LogDerives}
 use Rattle.proof_check.specs.declared.derivation.Chain.{Chain}
-use Rattle.cnf_encode.specs.declared.cnf.Cnf.{Cnf}
+use Rattle.pair_decide.specs.declared.cnf_encode.cnf.Cnf.{Cnf}
 use Rattle.lrat_core.specs.dimacs_text.Dimacs.{formula_of}
 use Rattle.lrat_core.specs.dimacs_text.Formulas.{Formula}
 use Rattle.lrat_core.specs.dimacs_text.dimacs_writer.Written.{literal_piece, dimacs_text}

@@ -5,7 +5,7 @@ ghost use Rattle.lrat_core.specs.dimacs_text.dimacs_writer.Laws.{AreWritable};
 ghost use Rattle.lrat_core.specs.certificate_writer.Texts.{SpellsClauses};
 
 use crate::dimacs_text::dimacs_writer::{write_clauses, written_is_spelled};
-use cnf_encode::Cnf;
+use pair_decide::cnf_encode::Cnf;
 use sec_base::{NoMemory, Text};
 use std::alloc::Global;
 

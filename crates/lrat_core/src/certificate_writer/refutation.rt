@@ -13,7 +13,7 @@ use crate::certificate_writer::hints::put_hints;
 use crate::certificate_writer::known::Known;
 use crate::dimacs_text::dimacs_writer::put_literals;
 use clause_watch::Trail;
-use cnf_encode::Cnf;
+use pair_decide::cnf_encode::Cnf;
 use proof_check::{Chain, Clause, Clauses, Log, check_chains};
 use sec_base::{NoMemory, Seq, Text, put, put_number};
 use std::alloc::Global;

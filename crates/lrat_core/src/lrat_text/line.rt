@@ -9,8 +9,8 @@ use crate::lrat_text::addition::{read_addition, read_deletion};
 use crate::lrat_text::words::{Words, read_words};
 use proof_check::Literal;
 use sec_base::NoMemory;
+use sec_base::text_numbers::{Number, is_passed_over};
 use std::alloc::Global;
-use text_numbers::{Number, is_passed_over};
 
 /// What a line is.
 #[derive(Clone, Copy)]

@@ -24,7 +24,7 @@ use Rattle.sec_setup.specs.sec_base.PairAnswer.TheVariants as answer
 use Rattle.obligations.specs.pair_decide.Proof.{Proof}
 use Rattle.sec_setup.specs.witness_report.PairName.{PairName}
 use Rattle.sec_setup.specs.witness_report.PairName.TheVariants as pair
-use Rattle.obligations.specs.PairResult.{PairResult}
+use Rattle.obligations.specs.declared.outcome.verdict.PairResult.{PairResult}
 use Rattle.outcome_fits.specs.Outcome.{AnswerFits, PairFits, PairsFit, greatest_size}
 use Rattle.sec_setup.specs.ports.Pairs.{NamedPair, pair_called, named_pairs}
 use Rattle.sec_setup.specs.witness_report.Shown.{ArePlacesOf}

@@ -10,7 +10,7 @@ use Rattle.sec_setup.specs.sec_base.PairAnswer.{PairAnswer}
 use Rattle.sec_setup.specs.sec_base.PairAnswer.TheVariants as answer
 use Rattle.sec_setup.specs.witness_report.PairName.TheVariants as pair
 use Rattle.obligations.specs.pair_decide.Proof.{Proof}
-use Rattle.obligations.specs.PairResult.{PairResult}
+use Rattle.obligations.specs.declared.outcome.verdict.PairResult.{PairResult}
 use Rattle.sec_setup.specs.Cuts.{is_cut}
 use Rattle.sec_setup.specs.ports.Pairs.{NamedPair, pair_called, named_pairs}
 use Rattle.outcome_fits.specs.Limits.{IsUndecided}

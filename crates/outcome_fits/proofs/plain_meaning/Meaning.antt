@@ -26,11 +26,11 @@ use Rattle.sec_setup.specs.sec_base.PairAnswer.TheVariants as answer
 use Rattle.sec_setup.specs.witness_report.PairName.{PairName}
 use Rattle.sec_setup.specs.witness_report.Stimulus.{Stimulus}
 use Rattle.sec_setup.specs.witness_report.Witness.{Witness}
-use Rattle.obligations.specs.PairResult.{PairResult}
-use Rattle.obligations.specs.outcome.Verdict.{Verdict}
-use Rattle.obligations.specs.outcome.Verdict.TheVariants as verdict
-use Rattle.obligations.specs.outcome.Why.TheVariants as why
-use Rattle.obligations.specs.outcome.Outcome.{Outcome}
+use Rattle.obligations.specs.declared.outcome.verdict.PairResult.{PairResult}
+use Rattle.obligations.specs.declared.outcome.verdict.Verdict.{Verdict}
+use Rattle.obligations.specs.declared.outcome.verdict.Verdict.TheVariants as verdict
+use Rattle.obligations.specs.declared.outcome.verdict.Why.TheVariants as why
+use Rattle.obligations.specs.declared.outcome.verdict.Outcome.{Outcome}
 use Rattle.outcome_fits.specs.Outcome.{AnswerFits, PairFits, IsFirstOfAnswer, NoneIs, VerdictFits}
 use Rattle.sec_setup.specs.ports.Pairs.{NamedPair, named_pairs}
 use Rattle.outcome_fits.specs.plain_meaning.Equal.{AreEqual}

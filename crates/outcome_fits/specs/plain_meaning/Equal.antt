@@ -3,7 +3,7 @@ use Rattle.circuit_theory.specs.declared.Mode.TheVariants.{Plain}
 use Rattle.circuit_theory.specs.Agree.{Agree, AgreeOnward}
 use Rattle.circuit_theory.specs.Circuit.{Circuit}
 use Rattle.sec_setup.specs.witness_report.Shown.{AgreeFrom}
-use Rattle.obligations.specs.outcome.Outcome.{Outcome}
+use Rattle.obligations.specs.declared.outcome.verdict.Outcome.{Outcome}
 
 -- The circuits agree, and agree onward over the exposed latches; so where these are equal from the start up to the printed cycle, they
 -- are equal for ever, and the outputs from that cycle on.

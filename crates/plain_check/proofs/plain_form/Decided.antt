@@ -12,7 +12,7 @@ use Rattle.aig.specs.declared.node.Lit.{Lit}
 use Rattle.aig.specs.declared.node.Node.{Node}
 use Rattle.aig.specs.Builds.{Builds}
 use Rattle.aig.proofs.Growth.{Builds-one}
-use Rattle.unfold_places.specs.declared.signal_function.Unfolded.{Unfolded}
+use Rattle.cbf_unfold.specs.declared.unfold_places.signal_function.Unfolded.{Unfolded}
 use Rattle.pair_decide.specs.declared.query.Query.{Query}
 use Rattle.pair_decide.specs.declared.query.Proof.{Proof}
 use Rattle.pair_decide.specs.declared.query.Decision.TheVariants as decision
@@ -25,7 +25,7 @@ use Rattle.obligations.specs.declared.obligation.Obligation.{Obligation}
 use Rattle.obligations.specs.Found.{Differ}
 use Rattle.obligations.specs.Decided.{AnswerIs, IsAnswered}
 use Rattle.witness_report.specs.declared.witness.PairName.{PairName}
-use Rattle.outcome.specs.declared.verdict.PairResult.{PairResult}
+use Rattle.obligations.specs.declared.outcome.verdict.PairResult.{PairResult}
 use Rattle.plain_asked.specs.outcome_fits.Limits.{ReadOnly, IsUndecided}
 use Rattle.plain_asked.specs.outcome_fits.Outcome.{HaveDifferentFunctions, AnswerFits, PairFits}
 use Rattle.plain_asked.specs.Sequences.{bits_at}

@@ -11,7 +11,7 @@ use Rattle.pair_decide.specs.Queries.{IsQuery}
 use Rattle.pair_decide.specs.Answers.{IsDifference}
 use Rattle.swept_queries.proofs.Listed.{zip_left}
 use Rattle.witness_report.specs.declared.witness.Witness.{Witness}
-use Rattle.outcome.specs.declared.verdict.PairResult.{PairResult}
+use Rattle.obligations.specs.declared.outcome.verdict.PairResult.{PairResult}
 use Rattle.obligations.specs.declared.obligation.Obligation.{Obligation}
 use Rattle.obligations.specs.declared.obligation.Difference.{Difference}
 use Rattle.obligations.specs.Decided.{IsAnswered, IsFirstOf}

@@ -5,7 +5,7 @@ use Rattle.circuit_theory.proofs.Lists.{of_at}
 use Rattle.sec_base.specs.declared.basics.PairAnswer.{PairAnswer}
 use Rattle.sec_base.specs.declared.basics.PairAnswer.TheVariants as answer
 use Rattle.pair_decide.specs.declared.query.Proof.{Proof}
-use Rattle.outcome.specs.declared.verdict.Verdict.{Verdict}
+use Rattle.obligations.specs.declared.outcome.verdict.Verdict.{Verdict}
 use Rattle.swept_queries.proofs.Listed.{zip_left}
 use Rattle.plain_check.specs.plain_form.Laws.{HaveOneTree, OneTreeHasNoLimit}
 use Rattle.plain_asked.specs.outcome_fits.Outcome.{AnswerFits, PairFits, VerdictFits}

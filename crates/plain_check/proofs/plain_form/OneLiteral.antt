@@ -9,7 +9,7 @@ use Rattle.pair_decide.specs.declared.query.Query.{Query}
 use Rattle.sec_base.specs.declared.basics.PairAnswer.{PairAnswer}
 use Rattle.sec_base.specs.declared.basics.PairAnswer.TheVariants as answer
 use Rattle.pair_decide.specs.declared.query.Proof.{Proof}
-use Rattle.outcome.specs.declared.verdict.PairResult.{PairResult}
+use Rattle.obligations.specs.declared.outcome.verdict.PairResult.{PairResult}
 use Rattle.obligations.specs.declared.obligation.Obligation.{Obligation}
 use Rattle.obligations.specs.Decided.{AnswerIs, IsAnswered}
 use Rattle.sec_setup.specs.declared.ports.pairs.SignalPair.{SignalPair}

@@ -6,9 +6,9 @@ use Rattle.std.proofs.lemmas.Option.{same_Some, slice_get_within}
 use Rattle.sec_base.specs.declared.basics.PairAnswer.{PairAnswer}
 use Rattle.sec_base.specs.declared.basics.PairAnswer.TheVariants as answer
 use Rattle.flat_net.specs.View.{circuit_of}
-use Rattle.outcome.specs.declared.verdict.LimitAt.TheVariants as limit_at
-use Rattle.outcome.specs.declared.verdict.PairResult.{PairResult}
-use Rattle.outcome.specs.declared.verdict.Verdict.{Verdict}
+use Rattle.obligations.specs.declared.outcome.verdict.LimitAt.TheVariants as limit_at
+use Rattle.obligations.specs.declared.outcome.verdict.PairResult.{PairResult}
+use Rattle.obligations.specs.declared.outcome.verdict.Verdict.{Verdict}
 use Rattle.sec_setup.specs.declared.setup.Setup.{Setup}
 use Rattle.sec_setup.specs.declared.ports.pairs.SignalPair.{SignalPair}
 use Rattle.sec_setup.specs.ports.Pairs.{places_of}

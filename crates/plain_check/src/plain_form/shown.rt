@@ -4,8 +4,8 @@ ghost use Rattle.std.specs.Prelude.{◌≡◌, IfOk};
 ghost use Rattle.base_tables.specs.Table.{AreDistinct};
 ghost use Rattle.plain_check.specs.plain_form.Shown.{CanBeShown, IsShowable, IsShown, IsWitnessAt};
 
+use obligations::outcome::{LimitAt, PairResult, Verdict, Why, Witness};
 use obligations::{Difference, Obligation, VerdictAt, copy_name};
-use outcome::{LimitAt, PairResult, Verdict, Why, Witness};
 use plain_asked::{Functions, witness_of};
 use sec_base::{NoMemory, Words};
 use std::alloc::Global;

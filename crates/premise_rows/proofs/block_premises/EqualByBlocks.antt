@@ -10,7 +10,7 @@ use Rattle.circuit_theory.specs.Cover.{cover_value}
 use Rattle.circuit_theory.specs.Interface.{AreNumbersOf}
 use Rattle.circuit_theory.specs.Joined.{Either, Left, Right, joined}
 use Rattle.circuit_theory.proofs.Lists.{only, of_at}
-use Rattle.circuit_samples.proofs.Each.{each_latch}
+use Rattle.call_rows.proofs.circuit_samples.Each.{each_latch}
 use Rattle.flat_net.specs.View.{circuit_of}
 use Rattle.block_refine.specs.latch_blocks.Blocks.{AreInOrder}
 use Rattle.block_refine.specs.latch_blocks.Partitions.{block_of}
@@ -19,7 +19,7 @@ use Rattle.block_refine.specs.Refining.{AreCoarsest}
 use Rattle.block_refine.proofs.Agreeing.{outputs_agree}
 use Rattle.induct.specs.declared.block_outputs.answer.OutputAnswer.TheVariants as answer
 use Rattle.induct.specs.declared.block_outputs.outputs.OutputPair.{OutputPair}
-use Rattle.check_meaning.specs.design_rows.Designs.{xor_cover}
+use Rattle.job_check.specs.check_meaning.design_rows.Designs.{xor_cover}
 use Rattle.premise_rows.proofs.block_premises.TurningNets.{one_is_sound, two_is_sound}
 use Rattle.premise_rows.specs.block_premises.EqualByBlocks.{one_turning, two_turning, a_numbers, one_block, AreEqualByBlocks}
 

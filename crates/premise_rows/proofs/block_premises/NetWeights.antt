@@ -16,7 +16,7 @@ use Rattle.flat_net.specs.View.{NetView, circuit_of}
 use Rattle.net_assembly.specs.net_alike.FlatCircuit.{IsFlatCircuit}
 use Rattle.flat_net.specs.Weights.{weight_at}
 use Rattle.flat_net.proofs.Drivers.{weighs}
-use Rattle.unfold_places.proofs.Lists.{sum_by-map}
+use Rattle.cbf_unfold.proofs.unfold_places.Lists.{sum_by-map}
 use Rattle.block_refine.specs.latch_blocks.Signals.{net_weight}
 use Rattle.block_refine.proofs.latch_blocks.Weights.{weight_below, weight_step, weight_all}
 

@@ -8,19 +8,19 @@ use Rattle.premise_rows.specs.event_assume_rows.assume_rows.SameInputs.{same, sa
 use Rattle.premise_rows.proofs.event_assume_rows.assume_rows.Meeting.{ones_meet}
 use Rattle.premise_rows.proofs.event_assume_rows.assume_rows.Shape.{no_fault, weighs_few}
 use Rattle.premise_rows.proofs.event_assume_rows.assume_rows.Spelled.{same_spells}
-use Rattle.check_meaning.specs.design_rows.Small.{IsSmall}
-use Rattle.check_meaning.proofs.design_rows.Spelling.{accepted, net_is_small}
-use Rattle.check_meaning.specs.event_meaning.Heavy.{IsTooLargeForEvents}
-use Rattle.under_base.specs.Met.{shared_by}
+use Rattle.job_check.specs.check_meaning.design_rows.Small.{IsSmall}
+use Rattle.job_check.proofs.check_meaning.design_rows.Spelling.{accepted, net_is_small}
+use Rattle.job_check.specs.check_meaning.event_meaning.Heavy.{IsTooLargeForEvents}
+use Rattle.plain_check.specs.under_base.Met.{shared_by}
 use Rattle.assume_queries.specs.assume_sequences.assume_taken.Taken.{IsFirstFault}
 use Rattle.premise_rows.proofs.event_premises.Comparing.{comparable_events}
 use Rattle.premise_rows.proofs.event_premises.LoadExamples.{no_cycles}
 use Rattle.premise_rows.proofs.event_premises.Nets.{accepted_text, flat_of, ports_match, shared_kept}
-use Rattle.check_meaning.specs.event_texts.Texts.{AreEventComparable}
+use Rattle.job_check.specs.check_meaning.event_texts.Texts.{AreEventComparable}
 use Rattle.flat_net.specs.View.{NetView}
 use Rattle.flatten.specs.DesignFaults.{IsFlatOf}
 use Rattle.sec_base.specs.declared.settings.Settings.{Settings}
-use Rattle.sec_files.specs.Loading.{Loads}
+use Rattle.job_base.specs.sec_files.Loading.{Loads}
 use Rattle.premise_rows.specs.event_assume_rows.Loads.{loading, first_load, and_load, loads_first, loads_and, LoadsMeet}
 use Rattle.premise_rows.proofs.event_assume_rows.Loads.{not_too_large}
 use Rattle.premise_rows.proofs.event_assume_rows.Spelled.{and_passes, and_rising, and_spells, first_passes, first_rising, first_spells, loads_acyclic, loads_ports, loads_shallow, one_output}

@@ -16,9 +16,9 @@ use Rattle.sec_setup.specs.ports.Pairs.{named_pairs, pair_called, places_of}
 use Rattle.assume_laws.specs.declared.assume_shape.shape.ShapeFault.{ShapeFault}
 use Rattle.assume_laws.specs.declared.assume_shape.shape.ShapeFault.TheVariants as fault
 use Rattle.edbf_unfold.specs.class_queries.Enables.{class_map}
-use Rattle.check_meaning.specs.event_meaning.Heavy.{IsTooLargeForEvents, PairsAreOver}
-use Rattle.under_base.specs.Met.{IsMet}
-use Rattle.check_meaning.specs.event_texts.Compared.{StopsAtPairs}
+use Rattle.job_check.specs.check_meaning.event_meaning.Heavy.{IsTooLargeForEvents, PairsAreOver}
+use Rattle.plain_check.specs.under_base.Met.{IsMet}
+use Rattle.job_check.specs.check_meaning.event_texts.Compared.{StopsAtPairs}
 use Rattle.premise_rows.proofs.event_premises.Comparing.{left_events, right_events}
 use Rattle.premise_rows.proofs.event_premises.Within.{IsShallowNet, depths, few_latches, latches, shallow}
 use Rattle.premise_rows.proofs.event_assume_rows.Nodes.{not_over}

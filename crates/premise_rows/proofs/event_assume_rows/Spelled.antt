@@ -15,13 +15,13 @@ use Rattle.blif_read.specs.Heads.{head_of}
 use Rattle.flat_net.specs.declared.parts.Port.{Port}
 use Rattle.flat_net.specs.View.{NetView, circuit_of, named}
 use Rattle.flatten.specs.DesignFaults.{IsClocked, IsFlatOf}
-use Rattle.design_laws.proofs.FlatParts.{FlatDesign, latch_up}
-use Rattle.design_laws.proofs.Kept.{flat_design}
-use Rattle.design_laws.proofs.KeptNames.{names_are_kept}
-use Rattle.check_meaning.proofs.design_rows.Places.{is_one_place, is_one_place-itself}
-use Rattle.check_meaning.specs.design_rows.NoFault.{has_no_fault}
-use Rattle.check_meaning.proofs.design_rows.NoFaults.{tested_is_sound}
-use Rattle.design_laws.proofs.event_designs.FlatEnabled.{enabled_down}
+use Rattle.job_base.proofs.design_laws.FlatParts.{FlatDesign, latch_up}
+use Rattle.job_base.proofs.design_laws.Kept.{flat_design}
+use Rattle.job_base.proofs.design_laws.KeptNames.{names_are_kept}
+use Rattle.job_check.proofs.check_meaning.design_rows.Places.{is_one_place, is_one_place-itself}
+use Rattle.job_check.specs.check_meaning.design_rows.NoFault.{has_no_fault}
+use Rattle.job_check.proofs.check_meaning.design_rows.NoFaults.{tested_is_sound}
+use Rattle.job_base.proofs.design_laws.event_designs.FlatEnabled.{enabled_down}
 use Rattle.premise_rows.proofs.event_premises.Flat.{PassesShallow}
 use Rattle.premise_rows.proofs.event_premises.Nets.{HasPorts, PassesCounts, SpellsDesign, ports_kept, shallow_net}
 use Rattle.circuit_laws.proofs.Shallow.{no_cycle}

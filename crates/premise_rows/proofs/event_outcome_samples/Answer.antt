@@ -13,20 +13,20 @@ use Rattle.witness_report.specs.declared.witness.PairName.TheVariants as pair
 use Rattle.witness_report.specs.declared.witness.Witness.{Witness}
 use Rattle.event_nodes.specs.View.{Enabled}
 use Rattle.event_under.specs.event_shown_under.event_under_fits.event_findings.EventFindings.{EventFindings}
-use Rattle.event_meaning.specs.event_meaning_under.EventPairs.{EventPairs}
-use Rattle.event_meaning.specs.EventVerdict.TheVariants as found
+use Rattle.event_setup.specs.event_meaning.event_meaning_under.EventPairs.{EventPairs}
+use Rattle.event_setup.specs.event_meaning.EventVerdict.TheVariants as found
 use Rattle.assume_laws.proofs.Reading.{numbers_read}
 use Rattle.assume_laws.specs.Assume.{ReadsInputs}
 use Rattle.assume_laws.specs.Sequences.{RowsMeet}
 use Rattle.event_under.specs.Answers.{PairFitsUnder}
 use Rattle.event_under.specs.Places.{IsLightAtNodes}
 use Rattle.event_under.proofs.Sequences.{always_show}
-use Rattle.event_meaning.specs.event_meaning_under.Findings.{FindingsFitUnder, IsSequenceUnder}
-use Rattle.event_meaning.specs.event_meaning_under.Answered.{ComparedInEventsUnder}
-use Rattle.event_meaning.specs.event_meaning_under.Fitted.{EventOutcomeFitsUnder}
-use Rattle.event_meaning.proofs.event_meaning_under.Bare.{bare, bare_kept}
-use Rattle.event_meaning.proofs.event_meaning_under.Saying.{cut_outcomes, different_outcomes, equal_outcomes}
-use Rattle.event_meaning.proofs.event_meaning_under.Framing.{unshown_outcomes}
+use Rattle.event_setup.specs.event_meaning.event_meaning_under.Findings.{FindingsFitUnder, IsSequenceUnder}
+use Rattle.event_setup.specs.event_meaning.event_meaning_under.Answered.{ComparedInEventsUnder}
+use Rattle.event_setup.specs.event_meaning.event_meaning_under.Fitted.{EventOutcomeFitsUnder}
+use Rattle.event_setup.proofs.event_meaning.event_meaning_under.Bare.{bare, bare_kept}
+use Rattle.event_setup.proofs.event_meaning.event_meaning_under.Saying.{cut_outcomes, different_outcomes, equal_outcomes}
+use Rattle.event_setup.proofs.event_meaning.event_meaning_under.Framing.{unshown_outcomes}
 use Rattle.premise_rows.specs.event_outcome_samples.Different.{shows_a, shows_b, b_is_one, a_events, b_events, y_pair, y_result, y_outcome, IsAnswered}
 use Rattle.premise_rows.proofs.event_outcome_samples.Nets.{both_names, left_sound, nets, right_sound}
 use Rattle.premise_rows.proofs.event_outcome_samples.Sides.{always, both, left_ready, made, names, no_both, numbers, reached, right_ready, shallow, size, within}

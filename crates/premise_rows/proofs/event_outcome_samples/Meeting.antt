@@ -16,8 +16,8 @@ use Rattle.flat_net.proofs.Nets.{sound_is_net}
 use Rattle.assume_laws.specs.Assume.{Assumption, IsAssumption, PlaceUnfolds, RowMeets}
 use Rattle.assume_laws.specs.Sequences.{IsMeetingDifference, assumption_query}
 use Rattle.assume_laws.proofs.Meeting.{meeting_row_meets}
-use Rattle.event_meaning.specs.event_meaning_under.Taken.{IsAssumed, assumed_by}
-use Rattle.event_meaning.specs.event_meaning_under.Met.{IsMet}
+use Rattle.event_setup.specs.event_meaning.event_meaning_under.Taken.{IsAssumed, assumed_by}
+use Rattle.event_setup.specs.event_meaning.event_meaning_under.Met.{IsMet}
 use Rattle.premise_rows.specs.event_outcome_samples.Different.{shows_a, shows_b, b_is_one}
 use Rattle.premise_rows.proofs.event_outcome_samples.Nets.{assumed_sound, both_names}
 use Rattle.premise_rows.proofs.event_outcome_samples.Sides.{names, no_latch, no_reading}

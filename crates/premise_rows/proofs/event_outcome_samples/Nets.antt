@@ -9,7 +9,7 @@ use Rattle.base_tables.specs.Table.{AreDistinct}
 use Rattle.base_tables.proofs.Appended.{distinct-push}
 use Rattle.flat_net.specs.declared.parts.Port.{Port}
 use Rattle.flat_net.specs.Sound.{Drives, IsInputOf, IsSound}
-use Rattle.event_meaning.specs.event_names.event_fits.Circuits.{AreNets}
+use Rattle.event_setup.specs.event_meaning.event_names.event_fits.Circuits.{AreNets}
 use Rattle.premise_rows.specs.event_outcome_samples.Different.{shows_a, shows_b, b_is_one}
 
 -- F holds of each element at its place, counted from k on

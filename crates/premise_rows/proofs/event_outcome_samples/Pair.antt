@@ -15,7 +15,7 @@ use Rattle.assume_laws.specs.Assume.{HasVariableAtNode}
 use Rattle.assume_laws.specs.Sequences.{HaveDifferentEventsUnder, IsEventDifferenceUnder, IsEventPairQueryUnder, IsPairTreeUnder, IsSideTree}
 use Rattle.assume_laws.proofs.Meeting.{leaf_at, leaf_input}
 use Rattle.event_under.specs.Places.{AreNodesOfPairs, ArePairNodes, IsReadAt}
-use Rattle.event_meaning.proofs.event_meaning_under.Exact.{one_tree}
+use Rattle.event_setup.proofs.event_meaning.event_meaning_under.Exact.{one_tree}
 use Rattle.premise_rows.specs.event_outcome_samples.Different.{a_events, b_events, y_pair, IsFull, IsOverfull}
 use Rattle.premise_rows.proofs.event_outcome_samples.Meeting.{b_assumed, meets_row, row_meets}
 use Rattle.premise_rows.proofs.event_outcome_samples.Sides.{On, both, left_ready, no_cone, one_node, right_ready, unreached}

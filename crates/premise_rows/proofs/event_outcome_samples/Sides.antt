@@ -28,8 +28,8 @@ use Rattle.edbf_unfold.specs.class_queries.Enables.{both_of}
 use Rattle.event_nodes.specs.View.{EventCircuitView, Enabled, side_of}
 use Rattle.event_setup.specs.Recovered.{AreKnown}
 use Rattle.event_setup.specs.Choosing.{HaveNoCycles}
-use Rattle.event_meaning.specs.event_names.event_fits.Circuits.{AreReached, IsReadyCircuit}
-use Rattle.event_meaning.specs.event_names.event_fits.Totals.{IsMapMade, IsWithinWith}
+use Rattle.event_setup.specs.event_meaning.event_names.event_fits.Circuits.{AreReached, IsReadyCircuit}
+use Rattle.event_setup.specs.event_meaning.event_names.event_fits.Totals.{IsMapMade, IsWithinWith}
 use Rattle.premise_rows.specs.event_outcome_samples.Different.{shows_a, shows_b, a_events, b_events, y_pair}
 use Rattle.premise_rows.proofs.event_outcome_samples.Nets.{both_names, left_sound, nothing, right_sound}
 

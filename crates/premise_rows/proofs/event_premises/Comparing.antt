@@ -15,10 +15,10 @@ use Rattle.event_nodes.specs.View.{EventCircuitView}
 use Rattle.event_setup.specs.Choosing.{HaveNoCycles}
 use Rattle.event_setup.specs.Recovered.{RecoversBoth}
 use Rattle.event_setup.specs.declared.error.RecoveryError.TheVariants as unknown
-use Rattle.check_meaning.specs.event_texts.event_fits.Circuits.{AreReached}
-use Rattle.check_meaning.specs.event_texts.Compared.{AreTooLargeInEvents, HaveTooManyEvents}
-use Rattle.sec_files.specs.Loading.{IsAccepted, Loads}
-use Rattle.check_meaning.specs.event_texts.Texts.{AreEventComparable}
+use Rattle.job_check.specs.check_meaning.event_texts.event_fits.Circuits.{AreReached}
+use Rattle.job_check.specs.check_meaning.event_texts.Compared.{AreTooLargeInEvents, HaveTooManyEvents}
+use Rattle.job_base.specs.sec_files.Loading.{IsAccepted, Loads}
+use Rattle.job_check.specs.check_meaning.event_texts.Texts.{AreEventComparable}
 use Rattle.circuit_laws.proofs.Shallow.{light_cone}
 use Rattle.premise_rows.proofs.event_premises.Sides.{cut_shallow, cut_light}
 use Rattle.premise_rows.proofs.event_premises.Within.{IsShallowNet, IsShallowEvents, no_map_many, no_map_heavy, no_pairs_many, no_pairs_heavy}

@@ -12,8 +12,8 @@ use Rattle.circuit_theory.specs.Sizes.{WeighsAt}
 use Rattle.circuit_theory.proofs.Lists.{Contains-map, Contains-map_from, length-map}
 use Rattle.circuit_theory.specs.Frame.{ConeLatches}
 use Rattle.net_assembly.proofs.net_alike.Testing.{all_in}
-use Rattle.design_laws.proofs.FlatCycles.{reaches_along, reaches_up}
-use Rattle.design_laws.proofs.FlatParts.{FlatDesign, latch_up}
+use Rattle.job_base.proofs.design_laws.FlatCycles.{reaches_along, reaches_up}
+use Rattle.job_base.proofs.design_laws.FlatParts.{FlatDesign, latch_up}
 use Rattle.circuit_laws.proofs.Shallow.{IsShallow, IsLightCircuit}
 
 -- what an equation counts

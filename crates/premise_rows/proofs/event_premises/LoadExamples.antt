@@ -12,19 +12,19 @@ use Rattle.circuit_theory.proofs.Lists.{Contains-cases}
 use Rattle.blif_read.specs.Design.{Place, top, walk, circuit_of_design}
 use Rattle.flat_net.specs.View.{NetView, circuit_of}
 use Rattle.flatten.specs.DesignFaults.{IsClocked, IsFlatOf}
-use Rattle.design_laws.proofs.FlatParts.{FlatDesign, latch_up}
-use Rattle.design_laws.proofs.Kept.{flat_design}
-use Rattle.design_laws.proofs.KeptNames.{names_are_kept}
-use Rattle.check_meaning.proofs.design_rows.Places.{is_one_place, is_one_place-itself}
-use Rattle.design_laws.proofs.event_designs.FlatEnabled.{enabled_down}
+use Rattle.job_base.proofs.design_laws.FlatParts.{FlatDesign, latch_up}
+use Rattle.job_base.proofs.design_laws.Kept.{flat_design}
+use Rattle.job_base.proofs.design_laws.KeptNames.{names_are_kept}
+use Rattle.job_check.proofs.check_meaning.design_rows.Places.{is_one_place, is_one_place-itself}
+use Rattle.job_base.proofs.design_laws.event_designs.FlatEnabled.{enabled_down}
 use Rattle.blif_read.specs.blif_lines.Lines.{cut_line, going_on}
 use Rattle.blif_read.specs.Fault.{fault_of}
 use Rattle.blif_read.specs.Heads.{head_of}
 use Rattle.sec_setup.specs.cut_points.Common.{common_names}
-use Rattle.check_meaning.specs.design_rows.Designs.{and_cover}
-use Rattle.check_meaning.specs.design_rows.NoFault.{has_no_fault}
-use Rattle.check_meaning.proofs.design_rows.NoFaults.{tested_is_sound}
-use Rattle.sec_files.specs.Loading.{Loads}
+use Rattle.job_check.specs.check_meaning.design_rows.Designs.{and_cover}
+use Rattle.job_check.specs.check_meaning.design_rows.NoFault.{has_no_fault}
+use Rattle.job_check.proofs.check_meaning.design_rows.NoFaults.{tested_is_sound}
+use Rattle.job_base.specs.sec_files.Loading.{Loads}
 use Rattle.event_setup.specs.Choosing.{HaveNoCycles}
 use Rattle.premise_rows.specs.event_premises.Loads.{loading, on_load, off_load, off_and_cover, on_loads, off_loads}
 use Rattle.premise_rows.specs.event_premises.Premises.{LoadsAreComparable}

@@ -7,13 +7,13 @@ use Rattle.blif_read.specs.Design.{Place, clock_places, circuit_of_design}
 use Rattle.blif_read.specs.Reading.{first_fault, spelled}
 use Rattle.flat_net.specs.View.{NetView, ports_of}
 use Rattle.flatten.specs.DesignFaults.{IsSoundDesign, IsFlatOf}
-use Rattle.design_laws.proofs.Kept.{flat_design}
-use Rattle.design_laws.proofs.KeptNames.{names_are_kept}
-use Rattle.check_meaning.proofs.design_rows.Places.{is_one_place, is_one_place-sound}
+use Rattle.job_base.proofs.design_laws.Kept.{flat_design}
+use Rattle.job_base.proofs.design_laws.KeptNames.{names_are_kept}
+use Rattle.job_check.proofs.check_meaning.design_rows.Places.{is_one_place, is_one_place-sound}
 use Rattle.sec_setup.specs.Matching.{InterfacesMatch}
-use Rattle.sec_files.specs.Formats.{Format, Blif, format_of, IsReadIn, IsSoundIn}
-use Rattle.sec_files.specs.Loading.{IsAccepted, Loads}
-use Rattle.sec_files.proofs.Texts.{text_net}
+use Rattle.job_base.specs.sec_files.Formats.{Format, Blif, format_of, IsReadIn, IsSoundIn}
+use Rattle.job_base.specs.sec_files.Loading.{IsAccepted, Loads}
+use Rattle.job_base.proofs.sec_files.Texts.{text_net}
 use Rattle.premise_rows.proofs.event_premises.Flat.{PassesShallow, net_light, net_places, net_places_length, net_shallow}
 use Rattle.premise_rows.proofs.event_premises.Within.{IsShallowNet}
 

@@ -21,9 +21,9 @@ use Rattle.flat_net.proofs.Nets.{sound_is_net}
 use Rattle.sec_setup.specs.declared.ports.pairs.SignalPair.{SignalPair}
 use Rattle.event_nodes.specs.View.{EventCircuitView, Enabled, side_of}
 use Rattle.edbf_unfold.specs.class_queries.Enables.{both_of, class_map}
-use Rattle.check_meaning.specs.event_texts.event_classes.Totals.{circuit_at, ReachTooMany, starts_at, WeighTooMuch}
-use Rattle.check_meaning.specs.event_texts.event_classes.Refused.{AreManyLatches, IsNextLatch, IsTooHeavy, IsTooMany}
-use Rattle.check_meaning.specs.event_texts.event_fits.Totals.{IsMapMade, PairsReachTooMany, PairsWeighTooMuch}
+use Rattle.job_check.specs.check_meaning.event_texts.event_classes.Totals.{circuit_at, ReachTooMany, starts_at, WeighTooMuch}
+use Rattle.job_check.specs.check_meaning.event_texts.event_classes.Refused.{AreManyLatches, IsNextLatch, IsTooHeavy, IsTooMany}
+use Rattle.job_check.specs.check_meaning.event_texts.event_fits.Totals.{IsMapMade, PairsReachTooMany, PairsWeighTooMuch}
 use Rattle.circuit_laws.proofs.Counting.{fewer}
 use Rattle.circuit_laws.proofs.Shallow.{IsShallow, IsLightCircuit, few_nodes, light_visits}
 use Rattle.premise_rows.proofs.event_premises.Sides.{both_latches, both_length, both_shallow}

@@ -22,11 +22,11 @@ use Rattle.net_assembly.specs.net_alike.Renumbered.{AreRenumbered}
 use Rattle.net_assembly.proofs.net_alike.Alike.{portless_is_renumbered}
 use Rattle.net_assembly.proofs.net_alike.Testing.{all_in}
 use Rattle.flatten.specs.DesignFaults.{IsClocked, IsFlatOf}
-use Rattle.design_laws.proofs.KeptNames.{names_are_kept}
+use Rattle.job_base.proofs.design_laws.KeptNames.{names_are_kept}
 use Rattle.signal_graph.specs.declared.inner_cone.latch_cone.kinds.LatchKind.{LatchKind}
 use Rattle.signal_graph.specs.inner_cone.latch_cone.Kinds.{IsInOwnCone, IsKindIn, AreKindsIn}
 use Rattle.latch_kinds.specs.Found.{AreLight}
-use Rattle.check_meaning.proofs.design_rows.Places.{is_one_place, is_one_place-itself}
+use Rattle.job_check.proofs.check_meaning.design_rows.Places.{is_one_place, is_one_place-itself}
 use Rattle.premise_rows.proofs.job_rows.ConeWeights.{IsOneGate, one_gate_weight, cone_weight_there}
 
 pub apart : (p q : Place) → is_one_place p q ≡ false → p ≢ q

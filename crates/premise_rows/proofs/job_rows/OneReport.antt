@@ -24,7 +24,7 @@ use Rattle.sec_base.specs.declared.basics.Init.{Init}
 use Rattle.sec_base.specs.declared.basics.Init.TheVariants as init
 use Rattle.net_assembly.specs.net_alike.Renumbered.{latch_rows, AreRenumbered}
 use Rattle.net_assembly.proofs.net_alike.Carrying.{depth_carried, no_depth_carried, run_carried, mark_carried}
-use Rattle.sec_files.proofs.Texts.{one_text_net, text_sound}
+use Rattle.job_base.proofs.sec_files.Texts.{one_text_net, text_sound}
 use Rattle.signal_graph.specs.declared.inner_cone.latch_cone.kinds.LatchKind.{LatchKind}
 use Rattle.signal_graph.specs.declared.inner_cone.latch_cone.kinds.LatchKind.TheVariants as kind
 use Rattle.signal_graph.specs.inner_cone.latch_cone.Kinds.{IsKindIn}

@@ -9,13 +9,13 @@ use Rattle.blif_read.specs.blif_lines.Lines.{cut_line, going_on}
 use Rattle.blif_read.specs.Fault.{fault_of}
 use Rattle.blif_read.specs.Heads.{head_of}
 use Rattle.flat_net.specs.View.{NetView, circuit_of}
-use Rattle.sec_files.specs.Loading.{Loads}
-use Rattle.check_meaning.specs.design_rows.Designs as design
-use Rattle.check_meaning.specs.design_rows.Small.{small_ring, IsSmall}
-use Rattle.check_meaning.proofs.design_rows.Examples.{ring_is_small}
-use Rattle.check_meaning.specs.design_rows.Texts.{ring}
+use Rattle.job_base.specs.sec_files.Loading.{Loads}
+use Rattle.job_check.specs.check_meaning.design_rows.Designs as design
+use Rattle.job_check.specs.check_meaning.design_rows.Small.{small_ring, IsSmall}
+use Rattle.job_check.proofs.check_meaning.design_rows.Examples.{ring_is_small}
+use Rattle.job_check.specs.check_meaning.design_rows.Texts.{ring}
 use Rattle.premise_rows.specs.job_rows.Ring.{RingIsCutOnce}
-use Rattle.check_meaning.proofs.design_rows.Spelling.{Spells, net_is_small, latch_in}
+use Rattle.job_check.proofs.check_meaning.design_rows.Spelling.{Spells, net_is_small, latch_in}
 
 first_spells : Spells ring design.ring (small_ring (codes "p") 6)
 unfolding fault_of head_of cut_line going_on

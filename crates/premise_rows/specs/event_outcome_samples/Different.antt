@@ -7,13 +7,13 @@ use Rattle.sec_base.specs.declared.settings.Settings.{Settings}
 use Rattle.sec_setup.specs.declared.ports.pairs.SignalPair.{SignalPair}
 use Rattle.witness_report.specs.declared.witness.PairName.TheVariants as pair
 use Rattle.witness_report.specs.declared.witness.Witness.{Witness}
-use Rattle.outcome.specs.declared.verdict.Outcome.{Outcome}
-use Rattle.outcome.specs.declared.verdict.PairResult.{PairResult}
-use Rattle.outcome.specs.declared.verdict.Verdict.TheVariants as verdict
+use Rattle.obligations.specs.declared.outcome.verdict.Outcome.{Outcome}
+use Rattle.obligations.specs.declared.outcome.verdict.PairResult.{PairResult}
+use Rattle.obligations.specs.declared.outcome.verdict.Verdict.TheVariants as verdict
 use Rattle.edbf_unfold.specs.class_queries.Enables.{both_of}
 use Rattle.event_nodes.specs.View.{EventCircuitView}
 use Rattle.event_under.specs.Places.{IsLightAtNodes, IsOverAtNodes}
-use Rattle.event_meaning.specs.event_meaning_under.Answered.{ComparedInEventsUnder}
+use Rattle.event_setup.specs.event_meaning.event_meaning_under.Answered.{ComparedInEventsUnder}
 
 -- 0 a; 1 b; y is a
 abbrev pub shows_a : NetView

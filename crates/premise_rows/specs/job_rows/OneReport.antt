@@ -6,8 +6,8 @@ use Rattle.flat_net.specs.View.{NetView}
 use Rattle.circuit_report.specs.graph_report.Report.{IsFound, IsGraphReport, cycle_line}
 use Rattle.circuit_report.specs.sim_report.Checks.{first_misfit}
 use Rattle.circuit_report.specs.sim_report.Report.{IsSimReport}
-use Rattle.sec_files.specs.Loading.{Loads}
-use Rattle.sec_files.specs.Stimuli.{IsStimulus}
+use Rattle.job_base.specs.sec_files.Loading.{Loads}
+use Rattle.job_base.specs.sec_files.Stimuli.{IsStimulus}
 
 -- Two reports of latch graphs in the plain mode have the same counts and the same line for each latch and output: they differ in the cycle that
 -- they tell at most.

@@ -8,8 +8,8 @@ use Rattle.circuit_theory.specs.Sizes.{Visits}
 use Rattle.flat_net.specs.View.{NetView, circuit_of}
 use Rattle.circuit_laws.specs.reset_laws.Reset.{ResetUnfolds}
 use Rattle.circuit_laws.specs.reset_laws.Weight.{ResetVisits}
-use Rattle.reset_form.specs.reset_functions.reset_unfold.Places.{IsLeafAt}
-use Rattle.reset_form.proofs.reset_functions.reset_unfold.TreeLeaves.{leaf_visits}
+use Rattle.reset_form.specs.reset_unfold.Places.{IsLeafAt}
+use Rattle.reset_form.proofs.reset_unfold.TreeLeaves.{leaf_visits}
 use Rattle.sec_setup.specs.ports.Pairs.{outputs_of}
 use Rattle.sec_setup.specs.Setup.{AreColumns}
 use Rattle.sec_setup.proofs.ReadInputs.{visited_is_column}

@@ -21,21 +21,21 @@ use Rattle.aig.specs.Cone.{IsReached}
 use Rattle.aig.specs.Values.{value}
 use Rattle.aig.specs.Builds.{HasTreeValues}
 use Rattle.aig.proofs.CoverMeaning.{value-one}
-use Rattle.unfold_places.specs.declared.signal_function.Unfolded.{Unfolded}
-use Rattle.unfold_places.specs.Growing.{IsNumberOf}
-use Rattle.unfold_places.proofs.Cone.{reached_one, constant_reaches}
-use Rattle.reset_form.specs.reset_functions.reset_unfold.Unfolded.{IsResetUnfolded}
-use Rattle.reset_form.proofs.reset_functions.reset_unfold.CoveredCones.{covers_cone}
-use Rattle.unfold_places.proofs.Lists.{pairs_map}
+use Rattle.cbf_unfold.specs.declared.unfold_places.signal_function.Unfolded.{Unfolded}
+use Rattle.cbf_unfold.specs.unfold_places.Growing.{IsNumberOf}
+use Rattle.cbf_unfold.proofs.unfold_places.Cone.{reached_one, constant_reaches}
+use Rattle.reset_form.specs.reset_unfold.Unfolded.{IsResetUnfolded}
+use Rattle.reset_form.proofs.reset_unfold.CoveredCones.{covers_cone}
+use Rattle.cbf_unfold.proofs.unfold_places.Lists.{pairs_map}
 use Rattle.pair_decide.specs.declared.query.Query.{Query}
 use Rattle.pair_decide.specs.Queries.{IsQuery, IsSame, IsLeast, Distinguishes, assigned_to, roots_of}
-use Rattle.shift_variables.specs.Sequences.{bits_at}
-use Rattle.shift_variables.specs.Variables.{variable_of, variables_of}
-use Rattle.shift_variables.specs.cycle_variables.Cycles.{GoesFirst, AreInCycles, IsCycleMerge}
-use Rattle.shift_variables.proofs.cycle_variables.MergeCycles.{cycle_apart}
+use Rattle.cbf_unfold.specs.shift_variables.Sequences.{bits_at}
+use Rattle.cbf_unfold.specs.shift_variables.Variables.{variable_of, variables_of}
+use Rattle.cbf_unfold.specs.shift_variables.cycle_variables.Cycles.{GoesFirst, AreInCycles, IsCycleMerge}
+use Rattle.cbf_unfold.proofs.shift_variables.cycle_variables.MergeCycles.{cycle_apart}
 use Rattle.reset_form.specs.reset_asked.Asked.{IsCycleQuery}
 use Rattle.outcome_fits.specs.ResetLimits.{HasValueOf}
-use Rattle.shift_variables.proofs.Assignments.{assigned_alike}
+use Rattle.cbf_unfold.proofs.shift_variables.Assignments.{assigned_alike}
 
 -- the number of a variable in the table is that of the variable
 variable_is : (places : List (ℕ × ℕ)) (v : ℕ) (x : Variable ℕ) → IsNumberOf places v x → variable_of places v ≡ x

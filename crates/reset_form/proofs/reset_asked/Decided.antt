@@ -11,14 +11,14 @@ use Rattle.aig.specs.declared.node.Lit.{Lit}
 use Rattle.aig.specs.declared.node.Node.{Node}
 use Rattle.aig.specs.Builds.{Builds}
 use Rattle.aig.proofs.Growth.{Builds-one}
-use Rattle.unfold_places.specs.declared.signal_function.Unfolded.{Unfolded}
+use Rattle.cbf_unfold.specs.declared.unfold_places.signal_function.Unfolded.{Unfolded}
 use Rattle.pair_decide.specs.declared.query.Query.{Query}
 use Rattle.pair_decide.specs.declared.query.Proof.{Proof}
 use Rattle.pair_decide.specs.Queries.{IsSame, roots_of}
 use Rattle.pair_decide.specs.Answers.{IsDifference, IsAtLimit}
 use Rattle.obligations.specs.swept_queries.InStead.{IsInStead}
-use Rattle.shift_variables.specs.Sequences.{bits_at}
-use Rattle.shift_variables.specs.Variables.{variable_of, variables_of}
+use Rattle.cbf_unfold.specs.shift_variables.Sequences.{bits_at}
+use Rattle.cbf_unfold.specs.shift_variables.Variables.{variable_of, variables_of}
 use Rattle.outcome_fits.specs.ResetLimits.{ReadOnly, IsUndecidedAt}
 use Rattle.outcome_fits.specs.ResetOutcome.{DifferAt}
 use Rattle.reset_form.proofs.reset_asked.CycleQueries.{AsksCycle, left_tree, right_tree, query_in_order, are_variables, left_value, right_value, care_value, same_trees, trees_differ, variables_long}

@@ -7,13 +7,13 @@ use Rattle.circuit_theory.specs.Fits.{IsPairDepth}
 use Rattle.circuit_theory.proofs.Lists.{All-from_each, Contains-cases, at_of, zip_right, zip_length}
 use Rattle.flat_net.specs.View.{NetView, circuit_of}
 use Rattle.flat_net.proofs.Growth.{length-push}
-use Rattle.unfold_places.specs.declared.signal_function.Unfolded.{Unfolded}
-use Rattle.unfold_places.proofs.Lists.{append_cases}
+use Rattle.cbf_unfold.specs.declared.unfold_places.signal_function.Unfolded.{Unfolded}
+use Rattle.cbf_unfold.proofs.unfold_places.Lists.{append_cases}
 use Rattle.pair_decide.specs.declared.query.Query.{Query}
 use Rattle.aig.specs.declared.node.Node.{Node}
 use Rattle.sec_setup.specs.declared.ports.pairs.SignalPair.{SignalPair}
 use Rattle.sec_setup.specs.declared.setup.Setup.{Setup}
-use Rattle.shift_variables.specs.cycle_variables.Cycles.{AreInCycles}
+use Rattle.cbf_unfold.specs.shift_variables.cycle_variables.Cycles.{AreInCycles}
 use Rattle.reset_form.specs.reset_asked.Asked.{IsCycleQuery}
 use Rattle.reset_form.specs.reset_functions.Pairs.{AreCyclesOf, IsTopOf}
 use Rattle.reset_form.proofs.reset_functions.OwnPairs.{one_pair_depth}

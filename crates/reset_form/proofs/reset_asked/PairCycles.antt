@@ -12,11 +12,11 @@ use Rattle.sec_base.specs.declared.basics.PairAnswer.TheVariants as answer
 use Rattle.base_tables.specs.Table.{AreDistinct}
 use Rattle.aig.specs.Graph.{IsGraph}
 use Rattle.aig.specs.Builds.{HasTreeValues}
-use Rattle.unfold_places.specs.declared.signal_function.Unfolded.{Unfolded}
+use Rattle.cbf_unfold.specs.declared.unfold_places.signal_function.Unfolded.{Unfolded}
 use Rattle.pair_decide.specs.declared.query.Query.{Query}
 use Rattle.pair_decide.specs.declared.query.Proof.{Proof}
 use Rattle.pair_decide.specs.Queries.{IsQuery, IsSame}
-use Rattle.outcome.specs.declared.verdict.PairResult.{PairResult}
+use Rattle.obligations.specs.declared.outcome.verdict.PairResult.{PairResult}
 use Rattle.sec_setup.specs.declared.ports.pairs.SignalPair.{SignalPair}
 use Rattle.obligations.specs.declared.obligation.Obligation.{Obligation}
 use Rattle.obligations.specs.Found.{IsFirstOpen}

@@ -7,23 +7,23 @@ use Rattle.std.proofs.lemmas.List.Elements.{Contains-append_left, Contains-get_o
 use Rattle.std.proofs.lemmas.Option.{slice_get_within}
 use Rattle.circuit_theory.specs.Fits.{IsPairDepth}
 use Rattle.circuit_theory.proofs.Lists.{All-from_each, Contains-cases, zip_push, zip_right, zip_weaker, at_of, of_at}
-use Rattle.unfold_places.proofs.Zips.{zip_left}
+use Rattle.cbf_unfold.proofs.unfold_places.Zips.{zip_left}
 use Rattle.sec_setup.specs.declared.ports.pairs.SignalPair.{SignalPair}
 use Rattle.sec_setup.specs.declared.setup.Setup.{Setup}
-use Rattle.shift_variables.proofs.Assignments.{take_next}
+use Rattle.cbf_unfold.proofs.shift_variables.Assignments.{take_next}
 use Rattle.base_tables.proofs.TableLemmas.{slice_get-take}
 use Rattle.flat_net.proofs.Growth.{length-push}
 use Rattle.flat_net.specs.View.{NetView, circuit_of}
 use Rattle.circuit_laws.specs.reset_laws.Weight.{IsResetOver}
 use Rattle.aig.specs.declared.node.Node.{Node}
 use Rattle.aig.specs.Graph.{Grows}
-use Rattle.unfold_places.specs.declared.signal_function.Unfolded.{Unfolded}
-use Rattle.unfold_places.specs.Reach.{Adds}
-use Rattle.unfold_places.proofs.Lists.{append_cases}
-use Rattle.reset_unfold.specs.Places.{starts_of}
-use Rattle.reset_unfold.specs.View.{ResetView}
-use Rattle.reset_unfold.specs.Unfolded.{IsResetUnfolded}
-use Rattle.reset_unfold.proofs.Known.{unfolded_later}
+use Rattle.cbf_unfold.specs.declared.unfold_places.signal_function.Unfolded.{Unfolded}
+use Rattle.cbf_unfold.specs.unfold_places.Reach.{Adds}
+use Rattle.cbf_unfold.proofs.unfold_places.Lists.{append_cases}
+use Rattle.reset_form.specs.reset_unfold.Places.{starts_of}
+use Rattle.reset_form.specs.reset_unfold.View.{ResetView}
+use Rattle.reset_form.specs.reset_unfold.Unfolded.{IsResetUnfolded}
+use Rattle.reset_form.proofs.reset_unfold.Known.{unfolded_later}
 use Rattle.reset_form.specs.reset_functions.Pairs.{AreCyclesOf, IsBelow, IsAmong, IsLight, IsTooLarge, HasDoneBelow, IsOverBelow, IsTopOf}
 use Rattle.reset_form.proofs.reset_functions.OwnPairs.{one_pair_depth}
 

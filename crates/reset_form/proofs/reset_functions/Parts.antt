@@ -7,10 +7,10 @@ use Rattle.circuit_theory.specs.declared.Side.TheVariants.{A, B}
 use Rattle.circuit_theory.proofs.Lists.{length-map}
 use Rattle.flat_net.specs.declared.parts.Port.{Port}
 use Rattle.flat_net.specs.View.{NetView}
-use Rattle.unfold_places.specs.InputOrder.{IsOrderOf}
+use Rattle.cbf_unfold.specs.unfold_places.InputOrder.{IsOrderOf}
 use Rattle.sec_setup.specs.declared.setup.Setup.{Setup}
 use Rattle.sec_setup.specs.Setup.{AreColumns}
-use Rattle.shift_variables.proofs.Assignments.{once_each}
+use Rattle.cbf_unfold.proofs.shift_variables.Assignments.{once_each}
 use Rattle.reset_form.specs.declared.reset_functions.bases.Bases.{Bases}
 use Rattle.reset_form.specs.declared.reset_functions.error.ResetError.{ResetError}
 use Rattle.reset_form.specs.declared.reset_functions.error.ResetError.TheVariants as refused

@@ -3,12 +3,12 @@ use Rattle.std.specs.Prelude.{◌≡◌, ℕ, true, List, length, slice_get, Som
 use Rattle.std.specs.List.{AllZip}
 use Rattle.circuit_theory.specs.Fits.{IsPairDepth}
 use Rattle.flat_net.specs.View.{circuit_of}
-use Rattle.unfold_places.specs.declared.signal_function.Unfolded.{Unfolded}
+use Rattle.cbf_unfold.specs.declared.unfold_places.signal_function.Unfolded.{Unfolded}
 use Rattle.pair_decide.specs.declared.query.Query.{Query}
 use Rattle.obligations.specs.declared.obligation.Obligation.{Obligation}
 use Rattle.sec_setup.specs.declared.ports.pairs.SignalPair.{SignalPair}
 use Rattle.sec_setup.specs.declared.setup.Setup.{Setup}
-use Rattle.shift_variables.specs.cycle_variables.Cycles.{IsCycleMerge}
+use Rattle.cbf_unfold.specs.shift_variables.cycle_variables.Cycles.{IsCycleMerge}
 use Rattle.reset_form.specs.declared.reset_functions.bases.Bases.{Bases}
 use Rattle.reset_form.specs.declared.reset_functions.functions.Functions.{Functions}
 use Rattle.reset_form.specs.reset_functions.Pairs.{AreCyclesOf}

@@ -10,7 +10,7 @@ use Rattle.obligations.specs.declared.obligation.Obligation.{Obligation}
 use Rattle.obligations.specs.declared.obligation.Difference.{Difference}
 use Rattle.obligations.specs.declared.verdict.VerdictAt.TheVariants as at
 use Rattle.circuit_laws.specs.reset_laws.Reset.{reset_rows}
-use Rattle.shift_variables.specs.Sequences.{bits_at}
+use Rattle.cbf_unfold.specs.shift_variables.Sequences.{bits_at}
 
 -- the obligation and the query of a difference
 pub record IsQueryAt (asked : List Obligation) (d : Difference) (o : Obligation) (q : Query) : Type 0 where

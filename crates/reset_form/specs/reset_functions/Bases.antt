@@ -1,7 +1,7 @@
 -- The numbers of the latches' variables.
 use Rattle.std.specs.Prelude.{◌≡◌, ◌+◌, ◌^◌, ◌<◌, ◌≤◌, length, All}
 use Rattle.sec_setup.specs.declared.setup.Setup.{Setup}
-use Rattle.unfold_places.specs.InputOrder.{IsOrderOf}
+use Rattle.cbf_unfold.specs.unfold_places.InputOrder.{IsOrderOf}
 use Rattle.reset_form.specs.declared.reset_functions.bases.Bases.{Bases}
 use Rattle.reset_form.specs.declared.reset_functions.functions.Part.{Part}
 

@@ -8,10 +8,10 @@ use Rattle.sec_base.specs.declared.limits.TheConstants.{MAX_WEIGHT}
 use Rattle.flat_net.specs.View.{NetView, circuit_of}
 use Rattle.circuit_laws.specs.reset_laws.Weight.{IsResetWeight, IsResetOver}
 use Rattle.aig.specs.declared.node.Node.{Node}
-use Rattle.unfold_places.specs.declared.signal_function.Unfolded.{Unfolded}
-use Rattle.reset_unfold.specs.Places.{starts_of}
-use Rattle.reset_unfold.specs.View.{ResetView}
-use Rattle.reset_unfold.specs.Unfolded.{IsResetUnfolded}
+use Rattle.cbf_unfold.specs.declared.unfold_places.signal_function.Unfolded.{Unfolded}
+use Rattle.reset_form.specs.reset_unfold.Places.{starts_of}
+use Rattle.reset_form.specs.reset_unfold.View.{ResetView}
+use Rattle.reset_form.specs.reset_unfold.Unfolded.{IsResetUnfolded}
 use Rattle.sec_setup.specs.declared.ports.pairs.SignalPair.{SignalPair}
 use Rattle.sec_setup.specs.declared.setup.Setup.{Setup}
 use Rattle.reset_form.specs.declared.reset_functions.bases.Bases.{Bases}

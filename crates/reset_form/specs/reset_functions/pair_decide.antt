@@ -1,1 +1,1 @@
-pub use Rattle.shift_variables.specs.pair_decide.Proof
+pub use Rattle.cbf_unfold.specs.shift_variables.pair_decide.Proof

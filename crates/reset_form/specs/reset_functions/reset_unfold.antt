@@ -1,2 +1,0 @@
-pub use Rattle.reset_unfold.specs.Places
-pub use Rattle.reset_unfold.specs.Unfolded

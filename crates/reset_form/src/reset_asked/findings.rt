@@ -1,6 +1,6 @@
 //! What is found of pairs that are compared from the initial values.
 
-use outcome::{PairName, PairResults, ResetWitness};
+use obligations::outcome::{PairName, PairResults, ResetWitness};
 
 /// What is found of the pairs of two circuits.
 #[derive(Drop)]

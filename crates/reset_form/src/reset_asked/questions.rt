@@ -3,20 +3,20 @@
 ghost use Rattle.std.specs.Prelude.{◌≡◌, ◌<◌, length, slice_get, Some, All, IfOk};
 ghost use Rattle.sec_setup.specs.declared.ports.pairs.SignalPair.{SignalPair};
 ghost use Rattle.sec_setup.specs.Setup.{IsSetup};
-ghost use Rattle.shift_variables.specs.cycle_variables.Cycles.{AreInCycles};
+ghost use Rattle.cbf_unfold.specs.shift_variables.cycle_variables.Cycles.{AreInCycles};
 ghost use Rattle.reset_form.specs.reset_asked.Asked.{AreAsked, AskedOf, AreCycleQueries, IsCycleQuery};
 ghost use Rattle.reset_form.specs.reset_functions.Pairs.{HaveFunctions};
 
 use crate::reset_functions::{Bases, Functions};
 use aig::Lit;
 use base_tables::PlaceTable;
+use cbf_unfold::shift_variables::cycle_variables::merge_cycles;
+use cbf_unfold::unfold_places::Unfolded;
 use obligations::{Obligation, Queries, copy_name};
 use pair_decide::Query;
 use sec_base::NoMemory;
 use sec_setup::{Setup, pair_depth};
-use shift_variables::cycle_variables::merge_cycles;
 use std::alloc::Global;
-use unfold_places::Unfolded;
 
 /// What is asked of each pair, in order: whether both functions agree always, in each cycle up to the pair's depth.
 pub fn ask(

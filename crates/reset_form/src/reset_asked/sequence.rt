@@ -2,16 +2,16 @@
 
 ghost use Rattle.std.specs.Prelude.{◌≡◌, ◌*◌, ◌<◌, length, IfOk};
 ghost use Rattle.base_tables.specs.Table.{AreDistinct};
-ghost use Rattle.shift_variables.specs.cycle_variables.Cycles.{AreInCycles};
+ghost use Rattle.cbf_unfold.specs.shift_variables.cycle_variables.Cycles.{AreInCycles};
 ghost use Rattle.reset_form.specs.reset_asked.Sequences.{IsSequenceOf};
 
 use crate::reset_functions::Functions;
+use cbf_unfold::shift_variables::cycle_variables::cycle_rows;
+use cbf_unfold::shift_variables::sides_at;
 use obligations::copy_name;
-use outcome::{PairName, Stimulus, Witness};
+use obligations::outcome::{PairName, Stimulus, Witness};
 use pair_decide::Query;
 use sec_base::{Bits, NoMemory, Words};
-use shift_variables::cycle_variables::cycle_rows;
-use shift_variables::sides_at;
 use std::alloc::Global;
 
 /// The sequence of a pair of this name that ends in the cycle `last`, over the inputs of these names, with the values of both sides.

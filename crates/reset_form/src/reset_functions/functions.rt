@@ -3,11 +3,11 @@
 ghost use Rattle.std.specs.Prelude.{◌≡◌, ℕ, ◌+◌, ◌*◌, ◌^◌, ◌<◌, ◌≤◌, [], length, All, Contains, IfOk, IfErr, OnOk};
 ghost use Rattle.std.specs.List.{AllZip};
 ghost use Rattle.aig.specs.Graph.{Grows};
-ghost use Rattle.unfold_places.specs.Reach.{Adds};
-ghost use Rattle.unfold_places.specs.declared.error.UnfoldError.TheVariants as unfold_error;
-ghost use Rattle.reset_unfold.specs.Unfolded.{FitsReset};
-ghost use Rattle.reset_unfold.specs.Building.{IsLaterReset};
-ghost use Rattle.reset_unfold.specs.Places.{starts_of};
+ghost use Rattle.cbf_unfold.specs.unfold_places.Reach.{Adds};
+ghost use Rattle.cbf_unfold.specs.declared.unfold_places.error.UnfoldError.TheVariants as unfold_error;
+ghost use Rattle.reset_form.specs.reset_unfold.Unfolded.{FitsReset};
+ghost use Rattle.reset_form.specs.reset_unfold.Building.{IsLaterReset};
+ghost use Rattle.reset_form.specs.reset_unfold.Places.{starts_of};
 ghost use Rattle.circuit_laws.specs.reset_laws.Weight.{IsResetOver};
 ghost use Rattle.flat_net.specs.View.{circuit_of};
 ghost use Rattle.sec_setup.specs.Setup.{IsSetup};
@@ -16,15 +16,15 @@ ghost use Rattle.reset_form.specs.reset_functions.Pairs.{AreCyclesOf, AreTops, I
 
 use crate::reset_functions::bases::Bases;
 use crate::reset_functions::error::ResetError;
+use crate::reset_unfold::ResetUnfolder;
 use aig::Aig;
 use base_tables::PlaceTable;
+use cbf_unfold::unfold_places::memo::Place;
+use cbf_unfold::unfold_places::{UnfoldError, Unfolded};
 use flat_net::{Net, Signal};
-use reset_unfold::ResetUnfolder;
 use sec_base::{Ids, MAX_WEIGHT, NoMemory, Seq, Side};
 use sec_setup::{LatchGraph, Setup, pair_depth};
 use std::alloc::Global;
-use unfold_places::memo::Place;
-use unfold_places::{UnfoldError, Unfolded};
 
 /// The functions of a signal in the cycles from 0 on.
 pub type Cycles = Seq<Unfolded>;

@@ -1,9 +1,9 @@
 -- A text that grows by pieces is a front of the file.
-use Rattle.std.proofs.Common.{◌≡◌, ◌+◌, ◌≤◌, ℕ, List, ◌++◌, length, take, drop, Option, Some, None, sym, ap, subst, ◌∙◌, ◌<◌, ◌⊎◌, inl, inr, arith}
+use Rattle.std.proofs.Common.{◌≡◌, ◌+◌, ◌≤◌, ℕ, List, ◌++◌, [], length, take, drop, Option, Some, None, refl, sym, ap, subst, ◌∙◌, ◌<◌, ◌⊎◌, inl, inr, arith}
 use Rattle.std.specs.Prelude.{IfSome, Ok, Err}
-use Rattle.std.proofs.lemmas.List.{length-append, length-take-le, take_all}
+use Rattle.std.proofs.lemmas.List.{length-append, length-take, length-take-le, take_all}
 use Rattle.std.proofs.Math.Seq.{take-add}
-use Rattle.sec_base.specs.base_shelves.Outside.{Gives}
+use Rattle.sec_base.specs.base_shelves.Outside.{Gives, NoneFell, Rose}
 
 -- one piece more
 pub longer_front : (bytes text room new : List ℕ) (from count : ℕ) → from ≡ length text → count ≤ length room → text ≡ take (length text) bytes
@@ -39,3 +39,24 @@ whole_told (Some bytes) now text room new from count same made at none wide fron
 -- what is told isn't an error
 pub ok_err : {T E : Type 0} (v : T) (e : E) → Ok v ≡ Err e → ⊥
 ok_err v e wrong = cc
+
+-- nothing is a front of what may be told
+pub front_none : (held : Option (List ℕ)) (text : List ℕ) → text ≡ [] → IfSome held (λ bytes. text ≡ take (length text) bytes)
+front_none None text none = tt
+front_none (Some bytes) text none = subst (λ (t : List ℕ). t ≡ take (length t) bytes) (sym none) refl
+
+-- more was read than the limit
+pub past_limit : (held : Option (List ℕ)) (text : List ℕ) (limit : ℕ) → limit < length text → IfSome held (λ bytes. text ≡ take (length text) bytes) → IfSome held (λ bytes. limit < length bytes)
+past_limit None text limit past front = tt
+past_limit (Some bytes) text limit past front = let long = ap length front in omega (arith, past, long, length-take (length text) bytes)
+
+-- counts that don't fall
+pub none_fell : (faults : List ℕ → ℕ) → NoneFell faults faults
+none_fell faults path = omega arith
+
+pub fell_more : (before between now : List ℕ → ℕ) → NoneFell before between → NoneFell between now → NoneFell before now
+fell_more before between now first then path = omega (arith, first path, then path)
+
+-- a count that rose later rose in all
+pub rose_before : (before between now : ℕ) → before ≤ between → Rose between now → Rose before now
+rose_before before between now first rose = omega (arith, first, rose)

@@ -11,11 +11,11 @@ use Rattle.aig.specs.Values.{value, KeepsValues}
 use Rattle.aig.proofs.CoverMeaning.{value-zero}
 use Rattle.aig.proofs.Growth.{vars_of-append}
 use Rattle.aig.proofs.Literals.{parity}
-use Rattle.node_agreement.specs.Standing.{StandsFor, AreStandIns, plainly, literal_in}
-use Rattle.node_agreement.specs.Agreeing.{Agree}
+use Rattle.swept_queries.specs.node_agreement.Standing.{StandsFor, AreStandIns, plainly, literal_in}
+use Rattle.swept_queries.specs.node_agreement.Agreeing.{Agree}
 use Rattle.swept_queries.specs.sweep.Swept.{AreLiteralsFor, IsSwept}
-use Rattle.node_agreement.specs.Leads.{HasFewInputs, AreLeads}
-use Rattle.node_agreement.proofs.Stood.{stands-even, stands-odd, stands-trans, AreStandIns-grows, AreStandIns-push}
+use Rattle.swept_queries.specs.node_agreement.Leads.{HasFewInputs, AreLeads}
+use Rattle.swept_queries.proofs.node_agreement.Stood.{stands-even, stands-odd, stands-trans, AreStandIns-grows, AreStandIns-push}
 
 -- one node more
 pub stand-step : (g f h k : List Node) (map : List Lit) (n : ℕ) (x y : Lit) → AreStandIns g f map → length map ≡ n → KeepsValues f h → length f ≤ length h → StandsFor plainly g h (2 * n) x.0

@@ -1,1 +1,1 @@
-pub use Rattle.node_agreement.proofs.lane_eval.Numbered
+pub use Rattle.aig.proofs.lane_eval.Numbered

@@ -1,2 +1,2 @@
-pub use Rattle.node_agreement.proofs.pair_decide.Reached
-pub use Rattle.node_agreement.proofs.pair_decide.Read
+pub use Rattle.pair_decide.proofs.Reached
+pub use Rattle.pair_decide.proofs.Read

@@ -3,7 +3,7 @@ use Rattle.std.specs.Prelude.{◌≡◌, ℕ, ◌≤◌, List, length, take}
 use Rattle.aig.specs.declared.node.Node.{Node}
 use Rattle.aig.specs.Graph.{vars_of}
 use Rattle.swept_queries.specs.declared.sweep.growth.Growth.{Growth}
-use Rattle.node_agreement.specs.Standing.{AreStandIns, AreChosen}
+use Rattle.swept_queries.specs.node_agreement.Standing.{AreStandIns, AreChosen}
 
 -- there is a literal for each of the first n nodes, the new graph has no more nodes, and it has their variables
 pub record IsGrown (g : List Node) (w : Growth) (n : ℕ) : Type 0 where

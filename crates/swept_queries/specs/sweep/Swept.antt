@@ -5,9 +5,9 @@ use Rattle.aig.specs.declared.node.Node.{Node}
 use Rattle.aig.specs.Graph.{vars_of}
 use Rattle.aig.specs.Values.{value}
 use Rattle.swept_queries.specs.declared.sweep.graph.Swept.{Swept}
-use Rattle.node_agreement.specs.Agreeing.{Agree}
-use Rattle.node_agreement.specs.Leads.{HasFewInputs}
-use Rattle.node_agreement.specs.Standing.{literal_in}
+use Rattle.swept_queries.specs.node_agreement.Agreeing.{Agree}
+use Rattle.swept_queries.specs.node_agreement.Leads.{HasFewInputs}
+use Rattle.swept_queries.specs.node_agreement.Standing.{literal_in}
 
 -- A literal for each root, with its value under every assignment. Equal roots have equal literals, and where the graph has inputs
 -- for at most 16 variables, so have roots that agree.

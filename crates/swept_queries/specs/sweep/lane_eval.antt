@@ -1,2 +1,2 @@
-pub use Rattle.node_agreement.specs.lane_eval.Blocks
-pub use Rattle.node_agreement.specs.lane_eval.Signatures
+pub use Rattle.aig.specs.lane_eval.Blocks
+pub use Rattle.aig.specs.lane_eval.Signatures

@@ -1,5 +1,5 @@
-pub use Rattle.node_agreement.specs.pair_decide.Answers
-pub use Rattle.node_agreement.specs.pair_decide.Queries
-pub use Rattle.node_agreement.specs.pair_decide.Decision
-pub use Rattle.node_agreement.specs.pair_decide.Query
-pub use Rattle.node_agreement.specs.pair_decide.SameBy
+pub use Rattle.pair_decide.specs.Answers
+pub use Rattle.pair_decide.specs.Queries
+pub use Rattle.pair_decide.specs.declared.query.Decision
+pub use Rattle.pair_decide.specs.declared.query.Query
+pub use Rattle.pair_decide.specs.declared.query.SameBy

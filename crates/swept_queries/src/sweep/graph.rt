@@ -5,9 +5,9 @@ ghost use Rattle.aig.specs.Graph.{vars_of};
 ghost use Rattle.swept_queries.specs.sweep.Grown.{IsGrown};
 ghost use Rattle.swept_queries.specs.sweep.Swept.{IsSwept, AreLiteralsFor};
 
+use crate::node_agreement::{Effort, leads_of, variables};
 use crate::sweep::growth::{Growth, Role, grown, literal_for};
 use aig::{Aig, Lit, Lits, NoMemory};
-use node_agreement::{Effort, leads_of, variables};
 use std::alloc::Global;
 
 /// The most variables of a graph in which no nodes are tried.

@@ -7,11 +7,11 @@ ghost use Rattle.aig.specs.Graph.{vars_of};
 ghost use Rattle.aig.specs.Values.{KeepsValues};
 ghost use Rattle.aig.specs.declared.node.Lit.{Lit};
 ghost use Rattle.swept_queries.specs.declared.sweep.growth.Step.TheVariants as step;
-ghost use Rattle.node_agreement.specs.Standing.{StandsFor, AreStandIns, AreChosen, plainly, literal_in};
+ghost use Rattle.swept_queries.specs.node_agreement.Standing.{StandsFor, AreStandIns, AreChosen, plainly, literal_in};
 ghost use Rattle.swept_queries.specs.sweep.Grown.{IsGrown};
 
+use crate::node_agreement::{Budget, Effort, Hints, Proved, prove, signed, zero};
 use aig::{Aig, Lit, NoMemory, Node};
-use node_agreement::{Budget, Effort, Hints, Proved, prove, signed, zero};
 use std::alloc::Global;
 
 /// A graph that grows, the literals in it for the first nodes of another graph, and for each of its own nodes a kept literal of

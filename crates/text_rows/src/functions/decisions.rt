@@ -5,9 +5,9 @@ ghost use Rattle.pair_decide.specs.Queries.{IsQuery};
 
 use crate::functions::calls::show_value_under;
 use crate::row_text::{show, show_count, show_number};
+use aig::lane_eval::table_differs;
 use aig::{Aig, Lit};
-use cnf_encode::{Cnf, encode};
-use lane_eval::table_differs;
+use pair_decide::cnf_encode::{Cnf, encode};
 use pair_decide::{Decision, Query, SameBy, decide};
 use proof_check::Literal;
 use sec_base::{Ids, NoMemory};

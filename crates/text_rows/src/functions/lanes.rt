@@ -3,7 +3,7 @@
 use crate::pieces::show_numbers;
 use crate::row_text::{number_of, show, split_at};
 use aig::Aig;
-use lane_eval::{and_block, signatures};
+use aig::lane_eval::{and_block, signatures};
 use std::rt::HostRuntime;
 use std::simd::u64x8;
 

@@ -8,8 +8,8 @@ use Rattle.std.proofs.lemmas.List.{get_or-set_same, get_or-set_other, length-set
 use Rattle.std.proofs.lemmas.List.Elements.{All-head, All-tail}
 use Rattle.std.proofs.lemmas.List.Folds.{list_any_more}
 use Rattle.net_assembly.proofs.Rows.{same_or_not}
-use Rattle.aiger_records.specs.declared.record.Record.{Record}
-use Rattle.aiger_records.specs.Driven.{used_by}
+use Rattle.aiger_read.specs.declared.aiger_records.record.Record.{Record}
+use Rattle.aiger_read.specs.aiger_records.Driven.{used_by}
 use Rattle.aiger_read.specs.aiger_file.aiger_graph.Literals.{with_marks, AreUsed}
 
 marks_count : (us : List ℕ) (marks : List Bool) → length (with_marks us marks) ≡ length marks

@@ -9,8 +9,8 @@ use Rattle.circuit_theory.specs.Cover.{Cover}
 use Rattle.circuit_theory.specs.Circuit.{Equation, Reads, Gate as gate_equation, Latch as latch_equation, Port as port_equation}
 use Rattle.circuit_theory.proofs.Lists.{Contains-cases, Contains-map_from, All-from_each, at_of}
 use Rattle.net_assembly.specs.Order.{reads_of, IsOrder, IsRound}
-use Rattle.aiger_records.specs.declared.record.Record.{Record}
-use Rattle.aiger_records.specs.Faults.{DefinesOnce}
+use Rattle.aiger_read.specs.declared.aiger_records.record.Record.{Record}
+use Rattle.aiger_read.specs.aiger_records.Faults.{DefinesOnce}
 use Rattle.aiger_read.specs.declared.aiger_file.symbol.Named.{Named}
 use Rattle.aiger_read.specs.aiger_file.Names.{name_of}
 use Rattle.aiger_read.specs.declared.aiger_file.file.AigerFile.{AigerFile}

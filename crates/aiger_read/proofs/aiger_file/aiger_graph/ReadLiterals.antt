@@ -8,11 +8,11 @@ use Rattle.std.proofs.lemmas.List.Elements.{All-nil, All-cons, All-contains, Con
 use Rattle.std.proofs.lemmas.Option.{none-some, same_Some}
 use Rattle.circuit_theory.specs.Circuit.{Equation, Gate as gate_equation}
 use Rattle.circuit_theory.proofs.Lists.{Contains-head, Contains-cases, only, of_at}
-use Rattle.aiger_records.specs.declared.header.Header.{Header}
-use Rattle.aiger_records.specs.declared.record.Record.{Record}
-use Rattle.aiger_records.specs.declared.record.Record.TheVariants.{Input, Latch, Output, Gate, Packed}
-use Rattle.aiger_records.specs.Faults.{is_above, is_undefinable, has_bad_literal, defined_by, DefinesOnce}
-use Rattle.aiger_records.specs.Driven.{used_by}
+use Rattle.aiger_read.specs.declared.aiger_records.header.Header.{Header}
+use Rattle.aiger_read.specs.declared.aiger_records.record.Record.{Record}
+use Rattle.aiger_read.specs.declared.aiger_records.record.Record.TheVariants.{Input, Latch, Output, Gate, Packed}
+use Rattle.aiger_read.specs.aiger_records.Faults.{is_above, is_undefinable, has_bad_literal, defined_by, DefinesOnce}
+use Rattle.aiger_read.specs.aiger_records.Driven.{used_by}
 use Rattle.aiger_read.specs.aiger_file.aiger_graph.Circuit.{gate_of, is_used, inverter_of, gates_of, gates_in, and_cover, not_cover}
 use Rattle.aiger_read.specs.aiger_file.aiger_graph.Literals.{operands, negated, reads_by, reads_among, reads_in, gate_at, cover_by}
 

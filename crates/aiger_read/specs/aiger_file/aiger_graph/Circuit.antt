@@ -3,10 +3,10 @@ use Rattle.std.specs.Prelude.{ℕ, ◌+◌, ◌-◌, ◌==◌, Bool, true, false
 use Rattle.std.specs.List.{filter_map, list_any}
 use Rattle.circuit_theory.specs.Cover.{Cover}
 use Rattle.circuit_theory.specs.Circuit.{Circuit, Equation, Named as Port, Started, Gate as gate_equation, Latch as latch_equation}
-use Rattle.aiger_records.specs.declared.record.Record.{Record}
-use Rattle.aiger_records.specs.declared.record.Record.TheVariants.{Input, Latch, Output, Gate, Packed}
-use Rattle.aiger_records.specs.Driven.{used_by}
-use Rattle.aiger_records.specs.Faults.{defined_by}
+use Rattle.aiger_read.specs.declared.aiger_records.record.Record.{Record}
+use Rattle.aiger_read.specs.declared.aiger_records.record.Record.TheVariants.{Input, Latch, Output, Gate, Packed}
+use Rattle.aiger_read.specs.aiger_records.Driven.{used_by}
+use Rattle.aiger_read.specs.aiger_records.Faults.{defined_by}
 use Rattle.aiger_read.specs.declared.aiger_file.symbol.Named.{Named}
 use Rattle.aiger_read.specs.aiger_file.Names.{name_of}
 use Rattle.aiger_read.specs.declared.aiger_file.file.AigerFile.{AigerFile}

@@ -3,9 +3,9 @@ use Rattle.std.specs.Prelude.{◌≡◌, ℕ, ◌+◌, ◌-◌, ◌<◌, ◌==�
 use Rattle.std.specs.List.{range_with_len}
 use Rattle.circuit_theory.specs.Cover.{Cover}
 use Rattle.circuit_theory.specs.Circuit.{Equation, Gate as gate_equation}
-use Rattle.aiger_records.specs.declared.record.Record.{Record}
-use Rattle.aiger_records.specs.declared.record.Record.TheVariants.{Gate, Packed}
-use Rattle.aiger_records.specs.Faults.{defined_by}
+use Rattle.aiger_read.specs.declared.aiger_records.record.Record.{Record}
+use Rattle.aiger_read.specs.declared.aiger_records.record.Record.TheVariants.{Gate, Packed}
+use Rattle.aiger_read.specs.aiger_records.Faults.{defined_by}
 use Rattle.aiger_read.specs.aiger_file.aiger_graph.Circuit.{and_cover, not_cover, zero_cover, one_cover, is_used}
 
 -- the operands of a gate

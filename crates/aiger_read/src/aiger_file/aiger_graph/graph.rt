@@ -1,15 +1,15 @@
 //! What literals read in the cycle in which they have their values.
 
 ghost use Rattle.std.specs.Prelude.{◌≡◌, ◌+◌, ◌*◌, ◌<◌, ◌^◌, false, [], ◌∷◌, length, replicate, All, IfOk, IfSome, IfNone, OnOk};
-ghost use Rattle.aiger_records.specs.Driven.{used_by};
-ghost use Rattle.aiger_records.specs.Faults.{IsSmall, has_bad_literal, defined_by};
+ghost use Rattle.aiger_read.specs.aiger_records.Driven.{used_by};
+ghost use Rattle.aiger_read.specs.aiger_records.Faults.{IsSmall, has_bad_literal, defined_by};
 ghost use Rattle.aiger_read.specs.aiger_file.Files.{IsKept};
 ghost use Rattle.net_assembly.specs.Order.{IsOrder};
 ghost use Rattle.aiger_read.specs.aiger_file.aiger_graph.Literals.{operands, graph_of, negated, with_reads, with_marks, AreUsed};
 ghost use Rattle.aiger_read.specs.aiger_file.aiger_graph.Loops.{HasLoop, IsOrdered};
 
 use crate::aiger_file::AigerFile;
-use aiger_records::{Header, Record, defined_by};
+use crate::aiger_records::{Header, Record, defined_by};
 use net_assembly::{Found, order_of};
 use sec_base::{Ids, NoMemory, Seq};
 use std::alloc::Global;

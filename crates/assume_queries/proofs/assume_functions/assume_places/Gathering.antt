@@ -10,10 +10,10 @@ use Rattle.circuit_theory.proofs.Lists.{Contains-head, Contains-map, Contains-ma
 use Rattle.circuit_theory.proofs.Sums.{sum_within}
 use Rattle.base_tables.specs.Table.{AreDistinct}
 use Rattle.obligations.specs.pair_decide.Query.{Query}
-use Rattle.unfold_places.specs.Reach.{Adds}
-use Rattle.unfold_places.proofs.Lists.{adds_at, adds_from, adds_length, pairs_map}
+use Rattle.cbf_unfold.specs.unfold_places.Reach.{Adds}
+use Rattle.cbf_unfold.proofs.unfold_places.Lists.{adds_at, adds_from, adds_length, pairs_map}
 use Rattle.assume_queries.proofs.assume_functions.signal_graph.Lists.{AllPairs-from_at}
-use Rattle.shift_variables.specs.query_places.Places.{place_of, ArePlacesOf, ComeInTurn}
+use Rattle.cbf_unfold.specs.shift_variables.query_places.Places.{place_of, ArePlacesOf, ComeInTurn}
 use Rattle.assume_queries.specs.declared.assume_functions.assume_places.gathered.QueryPlaces.{QueryPlaces}
 use Rattle.assume_queries.specs.assume_functions.assume_places.Gathered.{HasPlaces, IsRead, ArePlacesOfAll, IsAmong, place_at, AreOwn, AreGathered, IsOverUnder, IsLightUnder}
 

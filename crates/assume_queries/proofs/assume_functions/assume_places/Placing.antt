@@ -5,9 +5,9 @@ use Rattle.circuit_theory.proofs.Lists.{zip_push, zip_weaker}
 use Rattle.flat_net.specs.View.{NetView}
 use Rattle.aig.specs.declared.node.Node.{Node}
 use Rattle.aig.specs.Graph.{IsGraph, Grows}
-use Rattle.unfold_places.specs.Reach.{Adds}
-use Rattle.unfold_places.specs.declared.signal_function.Unfolded.{Unfolded}
-use Rattle.shift_variables.proofs.Assignments.{take_next}
+use Rattle.cbf_unfold.specs.unfold_places.Reach.{Adds}
+use Rattle.cbf_unfold.specs.declared.unfold_places.signal_function.Unfolded.{Unfolded}
+use Rattle.cbf_unfold.proofs.shift_variables.Assignments.{take_next}
 use Rattle.assume_queries.specs.assume_functions.Functions.{IsAssumedAt}
 use Rattle.assume_queries.proofs.assume_functions.Assumed.{assumed_later}
 use Rattle.assume_queries.specs.assume_functions.assume_places.Placed.{ArePut}

@@ -14,13 +14,13 @@ use Rattle.aig.specs.Builds.{HasTreeValues}
 use Rattle.aig.specs.Graph.{IsGraph}
 use Rattle.aig.specs.Values.{value}
 use Rattle.aig.proofs.CoverMeaning.{value-zero, value-one}
-use Rattle.unfold_places.specs.Growing.{IsNumberOf, TakesBits}
+use Rattle.cbf_unfold.specs.unfold_places.Growing.{IsNumberOf, TakesBits}
 use Rattle.assume_queries.proofs.assume_functions.cbf_unfold.Cone.{covers_cone}
 use Rattle.pair_decide.specs.Queries.{IsLeast, Distinguishes, assigned_to}
 use Rattle.pair_decide.specs.Answers.{IsDifference}
-use Rattle.shift_variables.specs.Variables.{variable_of, variables_of}
-use Rattle.shift_variables.specs.Sequences.{bits_at, IsSequence}
-use Rattle.shift_variables.proofs.Assignments.{assigned_alike}
+use Rattle.cbf_unfold.specs.shift_variables.Variables.{variable_of, variables_of}
+use Rattle.cbf_unfold.specs.shift_variables.Sequences.{bits_at, IsSequence}
+use Rattle.cbf_unfold.proofs.shift_variables.Assignments.{assigned_alike}
 use Rattle.assume_laws.specs.Assume.{PlaceUnfolds}
 use Rattle.assume_laws.specs.Sequences.{IsMeetingDifference, IsMeetingRow, assumption_query}
 use Rattle.assume_laws.proofs.Care.{unfolds_place}

@@ -4,8 +4,8 @@ use Rattle.std.proofs.Common.{◌≡◌, ℕ, List, [], ◌∷◌, refl, sym, su
 use Rattle.circuit_theory.specs.Sizes.{IsOver}
 use Rattle.sec_base.specs.declared.limits.TheConstants.{MAX_WEIGHT}
 use Rattle.flat_net.specs.View.{NetView, circuit_of}
-use Rattle.unfold_places.specs.declared.error.UnfoldError.{UnfoldError}
-use Rattle.unfold_places.specs.declared.error.UnfoldError.TheVariants as unfold_error
+use Rattle.cbf_unfold.specs.declared.unfold_places.error.UnfoldError.{UnfoldError}
+use Rattle.cbf_unfold.specs.declared.unfold_places.error.UnfoldError.TheVariants as unfold_error
 use Rattle.assume_laws.specs.assume_shape.Shape.{HasShape}
 use Rattle.assume_queries.specs.declared.assume_sequences.assume_taken.error.TakeError.{TakeError}
 use Rattle.assume_queries.specs.assume_sequences.assume_taken.Functions.{HasFunction}

@@ -24,9 +24,9 @@ use Rattle.assume_queries.specs.assume_functions.cbf_unfold.Unfolded.{IsNumberOf
 use Rattle.assume_queries.proofs.assume_functions.cbf_unfold.Cone.{covers_cone, reached_one, constant_reaches}
 use Rattle.pair_decide.specs.Queries.{IsQuery, IsSame, roots_of, assigned_to}
 use Rattle.pair_decide.specs.Answers.{IsDifference}
-use Rattle.shift_variables.specs.Variables.{variable_of, variables_of, AreInOrder}
-use Rattle.shift_variables.specs.Sequences.{bits_at, IsSequence}
-use Rattle.shift_variables.proofs.Assignments.{assigned_alike}
+use Rattle.cbf_unfold.specs.shift_variables.Variables.{variable_of, variables_of, AreInOrder}
+use Rattle.cbf_unfold.specs.shift_variables.Sequences.{bits_at, IsSequence}
+use Rattle.cbf_unfold.proofs.shift_variables.Assignments.{assigned_alike}
 use Rattle.assume_laws.specs.Assume.{IsAssumption, RowMeets, PlaceUnfolds}
 use Rattle.assume_laws.specs.Sequences.{IsMeetingRow}
 use Rattle.assume_laws.proofs.Care.{row_same, tree_meets, unfolds_place}

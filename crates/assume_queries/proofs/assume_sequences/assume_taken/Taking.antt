@@ -8,7 +8,7 @@ use Rattle.aig.specs.Builds.{HasTreeValues}
 use Rattle.aig.specs.Graph.{IsGraph}
 use Rattle.pair_decide.specs.declared.query.Proof.{Proof}
 use Rattle.pair_decide.specs.declared.query.SameBy.{SameBy}
-use Rattle.shift_variables.specs.Sequences.{bits_at}
+use Rattle.cbf_unfold.specs.shift_variables.Sequences.{bits_at}
 use Rattle.assume_laws.specs.Assume.{IsAssumption}
 use Rattle.assume_laws.proofs.assume_shape.Shapes.{shapes_are_assumptions}
 use Rattle.assume_queries.specs.declared.assume_sequences.assume_taken.meeting.Meeting.TheVariants as meeting

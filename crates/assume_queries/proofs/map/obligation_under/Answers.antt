@@ -6,7 +6,7 @@ use Rattle.std.proofs.lemmas.List.Elements.{All-weaker}
 use Rattle.std.proofs.lemmas.Option.{slice_get_within, slice_get-get_or, same_Some}
 use Rattle.aig.proofs.Growth.{Grows-refl, Grows-trans, Grows-length}
 use Rattle.pair_decide.specs.declared.query.Query.{Query}
-use Rattle.unfold_places.specs.declared.signal_function.Unfolded.{Unfolded}
+use Rattle.cbf_unfold.specs.declared.unfold_places.signal_function.Unfolded.{Unfolded}
 use Rattle.obligations.proofs.Listed.{item-at}
 use Rattle.assume_queries.specs.declared.map.Parts.{Parts}
 use Rattle.assume_queries.specs.declared.assume_answers.order.VariableOrder.{VariableOrder}

@@ -4,7 +4,7 @@ use Rattle.std.specs.List.{All, AllPairs, AllZip, Contains, sum_by}
 use Rattle.sec_base.specs.declared.limits.TheConstants.{MAX_WEIGHT}
 use Rattle.base_tables.specs.Table.{AreDistinct}
 use Rattle.obligations.specs.pair_decide.Query.{Query}
-use Rattle.shift_variables.specs.query_places.Places.{place_of, AreGrouped, ArePlacesOf, ComeInTurn}
+use Rattle.cbf_unfold.specs.shift_variables.query_places.Places.{place_of, AreGrouped, ArePlacesOf, ComeInTurn}
 use Rattle.assume_queries.specs.declared.assume_functions.assume_places.gathered.QueryPlaces.{QueryPlaces}
 
 -- its variables are entries of the table, and those of one place stand side by side

@@ -4,7 +4,7 @@ use Rattle.std.specs.List.{AllZip}
 use Rattle.sec_base.specs.declared.limits.TheConstants.{MAX_WEIGHT}
 use Rattle.flat_net.specs.View.{NetView}
 use Rattle.aig.specs.declared.node.Node.{Node}
-use Rattle.unfold_places.specs.declared.signal_function.Unfolded.{Unfolded}
+use Rattle.cbf_unfold.specs.declared.unfold_places.signal_function.Unfolded.{Unfolded}
 use Rattle.assume_queries.specs.declared.assume_functions.own.OwnFunction.{OwnFunction}
 use Rattle.assume_queries.specs.assume_functions.Functions.{IsOwnFunction, IsAssumedAt}
 

@@ -9,7 +9,7 @@ use Rattle.aig.specs.Cone.{IsReached}
 use Rattle.aig.specs.Graph.{IsGraph}
 use Rattle.aig.specs.Values.{value}
 use Rattle.base_tables.specs.Table.{AreDistinct}
-use Rattle.unfold_places.specs.Growing.{IsNumberOf, TakesBits}
+use Rattle.cbf_unfold.specs.unfold_places.Growing.{IsNumberOf, TakesBits}
 use Rattle.pair_decide.specs.declared.query.Query.{Query}
 use Rattle.pair_decide.specs.declared.query.Decision.{Decision}
 use Rattle.pair_decide.specs.Answers.{Decides}

@@ -6,7 +6,7 @@ use Rattle.flat_net.specs.View.{NetView}
 use Rattle.pair_decide.specs.declared.query.Query.{Query}
 use Rattle.pair_decide.specs.declared.query.Decision.TheVariants as decision
 use Rattle.pair_decide.specs.Answers.{Decides, IsDifference}
-use Rattle.shift_variables.specs.Sequences.{bits_at}
+use Rattle.cbf_unfold.specs.shift_variables.Sequences.{bits_at}
 use Rattle.assume_laws.specs.Assume.{IsAssumption, RowMeets}
 use Rattle.assume_laws.specs.Sequences.{IsMeetingRow}
 use Rattle.assume_laws.specs.assume_shape.Shape.{assumption_of}

@@ -3,16 +3,16 @@
 ghost use Rattle.std.specs.Prelude.{◌≡◌, ℕ, List, ◌+◌, ◌*◌, ◌^◌, ◌<◌, ◌≤◌, length, IfOk, OnOk};
 ghost use Rattle.flat_net.specs.View.{NetView};
 ghost use Rattle.aig.specs.Graph.{Grows};
-ghost use Rattle.unfold_places.specs.Reach.{Adds};
+ghost use Rattle.cbf_unfold.specs.unfold_places.Reach.{Adds};
 ghost use Rattle.assume_queries.specs.assume_functions.Functions.{IsOwnFunction, HasNoLatch};
 ghost use Rattle.assume_queries.specs.assume_functions.assume_places.Placed.{CanBePut, ArePut};
 
 use crate::assume_functions::{OwnFunction, assume_at};
 use aig::Aig;
 use base_tables::PlaceTable;
+use cbf_unfold::unfold_places::Unfolded;
 use sec_base::{MAX_WEIGHT, NoMemory};
 use std::alloc::Global;
-use unfold_places::Unfolded;
 
 /// The function at each place of a table of places, in order. After `NoMemory` the graph and the table of variables may have grown.
 pub fn functions_at(

@@ -3,14 +3,14 @@
 ghost use Rattle.std.specs.Prelude.{◌≡◌, ℕ, ◌+◌, ◌-◌, ◌*◌, ◌^◌, ◌<◌, ◌≤◌, min, true, false, List, [], ◌∷◌, ◌++◌, length, map, All, IfOk, OnOk};
 ghost use Rattle.std.specs.List.{AllPairs, sum_by};
 ghost use Rattle.obligations.specs.pair_decide.Query.{Query};
-ghost use Rattle.unfold_places.specs.Reach.{Adds};
+ghost use Rattle.cbf_unfold.specs.unfold_places.Reach.{Adds};
 ghost use Rattle.obligations.specs.Asked.{queries_of};
 ghost use Rattle.assume_queries.specs.assume_functions.assume_places.Gathered.{HasPlaces, AreGathered, IsAmong, place_at};
 
 use base_tables::PlaceTable;
+use cbf_unfold::shift_variables::query_places::places_of;
 use obligations::{Obligation, Query};
 use sec_base::{Ids, MAX_WEIGHT, NoMemory, Seq};
-use shift_variables::query_places::places_of;
 use std::alloc::Global;
 
 /// The places of the variables of queries: shifts or cycles.

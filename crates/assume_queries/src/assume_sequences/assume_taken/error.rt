@@ -1,9 +1,9 @@
 //! Why a circuit isn't taken as an assumption.
 
 use assume_laws::assume_shape::ShapeFault;
+use cbf_unfold::unfold_places::UnfoldError;
 use pair_decide::SameBy;
 use sec_base::NoMemory;
-use unfold_places::UnfoldError;
 
 /// Why a circuit isn't taken as an assumption.
 #[derive(Drop)]

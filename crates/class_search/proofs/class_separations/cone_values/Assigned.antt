@@ -14,8 +14,8 @@ use Rattle.aig.specs.Cones.{AreConesOf}
 use Rattle.aig.specs.Graph.{IsGraph, vars_of}
 use Rattle.aig.specs.Values.{lit_bit, node_bits, value, assigned}
 use Rattle.aig.proofs.Insert.{vars_of-member}
-use Rattle.lane_eval.specs.Tables.{Covers, assigned_to}
-use Rattle.lane_eval.proofs.Numbered.{assigned_to-at}
+use Rattle.aig.specs.lane_eval.Tables.{Covers, assigned_to}
+use Rattle.aig.proofs.lane_eval.Numbered.{assigned_to-at}
 use Rattle.pair_decide.proofs.Reached.{same-root}
 use Rattle.class_search.specs.class_separations.cone_values.Bits.{HasBits}
 

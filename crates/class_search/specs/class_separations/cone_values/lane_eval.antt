@@ -1,1 +1,1 @@
-pub use Rattle.lane_eval.specs.Tables
+pub use Rattle.aig.specs.lane_eval.Tables

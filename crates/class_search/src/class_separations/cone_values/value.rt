@@ -4,7 +4,7 @@ ghost use Rattle.std.specs.Prelude.{◌≡◌, ◌≢◌, ◌*◌, ◌<◌, ◌�
 ghost use Rattle.std.specs.List.{AllPairs};
 ghost use Rattle.aig.specs.Graph.{IsOrdered, vars_of};
 ghost use Rattle.aig.specs.Values as meaning;
-ghost use Rattle.lane_eval.specs.Tables.{Covers, assigned_to};
+ghost use Rattle.aig.specs.lane_eval.Tables.{Covers, assigned_to};
 ghost use Rattle.class_search.specs.class_separations.cone_values.Bits.{HasBits};
 
 use aig::{Aig, Lit, NoMemory, Node, cones_of, node_bits};

@@ -1,8 +1,8 @@
 -- The outcome by the pairs, or why they can't be unfolded.
 use Rattle.std.proofs.Common.{◌∙◌, ℕ, List, None, refl, sym, ap, subst, Ok}
-use Rattle.outcome.specs.declared.verdict.Outcome.{Outcome}
-use Rattle.under_base.proofs.compare_base.Refusals.{refused_by}
-use Rattle.event_meaning.specs.event_names.event_fits.Compared.{ComparedInEvents}
+use Rattle.obligations.specs.declared.outcome.verdict.Outcome.{Outcome}
+use Rattle.plain_check.proofs.under_base.compare_base.Refusals.{refused_by}
+use Rattle.event_setup.specs.event_meaning.event_names.event_fits.Compared.{ComparedInEvents}
 use Rattle.event_check.proofs.event_answers.Told.{told_outcome, outcome_by}
 use Rattle.event_check.proofs.event_answers.Refusals.{pairs_refused}
 use Rattle.event_check.proofs.Answering.{pairs_compared}

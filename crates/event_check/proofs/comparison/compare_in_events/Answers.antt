@@ -1,9 +1,9 @@
 -- Interfaces that don't match, what is refused before the pairs, and the limit of an enable or of a class.
 use Rattle.std.proofs.Common.{◌∙◌, None, sym, ap, subst, length, Ok}
-use Rattle.outcome.specs.declared.verdict.Outcome.{Outcome}
-use Rattle.under_base.specs.compare_base.Compared.{refusal_of}
-use Rattle.under_base.proofs.compare_base.Refusals.{refused_by}
-use Rattle.event_meaning.specs.event_names.event_fits.Compared.{ComparedInEvents}
+use Rattle.obligations.specs.declared.outcome.verdict.Outcome.{Outcome}
+use Rattle.plain_check.specs.under_base.compare_base.Compared.{refusal_of}
+use Rattle.plain_check.proofs.under_base.compare_base.Refusals.{refused_by}
+use Rattle.event_setup.specs.event_meaning.event_names.event_fits.Compared.{ComparedInEvents}
 use Rattle.event_check.specs.event_answers.Reached.{ReachesPairs}
 use Rattle.event_check.specs.declared.event_answers.reaching.Reached.{Reached}
 use Rattle.event_check.proofs.event_answers.Told.{limit_at, told_outcome}

@@ -13,9 +13,9 @@ use Rattle.sec_setup.specs.ports.Pairs.{places_of}
 use Rattle.pair_decide.specs.declared.query.Proof.{Proof}
 use Rattle.sec_base.specs.declared.settings.Settings.{Settings}
 use Rattle.base_tables.specs.Table.{AreDistinct}
-use Rattle.outcome.specs.declared.verdict.LimitAt.{LimitAt}
-use Rattle.outcome.specs.declared.verdict.LimitAt.TheVariants as limit_at
-use Rattle.outcome.specs.declared.verdict.Outcome.{Outcome}
+use Rattle.obligations.specs.declared.outcome.verdict.LimitAt.{LimitAt}
+use Rattle.obligations.specs.declared.outcome.verdict.LimitAt.TheVariants as limit_at
+use Rattle.obligations.specs.declared.outcome.verdict.Outcome.{Outcome}
 use Rattle.sec_setup.specs.Matching.{InterfacesMatch}
 use Rattle.edbf_unfold.specs.class_queries.Enables.{both_of}
 use Rattle.event_check.specs.event_answers.EventPairs.{EventPairs}
@@ -25,23 +25,23 @@ use Rattle.assume_queries.specs.assume_sequences.Assumed.{CanBeAssumed, IsAssume
 use Rattle.assume_queries.specs.declared.assume_sequences.premise.Premise.{Premise}
 use Rattle.assume_queries.specs.assume_sequences.Filled.{bit_of}
 use Rattle.assume_queries.specs.assume_sequences.assume_taken.Premises.{IsPremiseOf}
-use Rattle.event_meaning.specs.event_meaning_under.Taken.{assumed_by, IsUndecidedBy}
+use Rattle.event_setup.specs.event_meaning.event_meaning_under.Taken.{assumed_by, IsUndecidedBy}
 use Rattle.assume_queries.proofs.assume_sequences.assume_taken.Premises.{is_assumed, can_be_assumed}
 use Rattle.event_under.specs.Places.{IsLightAtNodes}
-use Rattle.event_meaning.specs.event_meaning_under.Met.{shared_by, IsMet, IsAssumptionLimit}
-use Rattle.under_base.proofs.Reading.{reads_cut}
+use Rattle.event_setup.specs.event_meaning.event_meaning_under.Met.{shared_by, IsMet, IsAssumptionLimit}
+use Rattle.plain_check.proofs.under_base.Reading.{reads_cut}
 use Rattle.event_check.specs.event_answers.Askable.{IsAskedBy}
-use Rattle.event_meaning.specs.event_names.event_fits.Circuits.{AreNets}
-use Rattle.event_meaning.specs.event_names.event_fits.Fitting.{IsUnclassed, IsUnrecovered}
+use Rattle.event_setup.specs.event_meaning.event_names.event_fits.Circuits.{AreNets}
+use Rattle.event_setup.specs.event_meaning.event_names.event_fits.Fitting.{IsUnclassed, IsUnrecovered}
 use Rattle.event_check.specs.event_answers.Reached.{AreClassed, StopsAtLimit}
-use Rattle.event_meaning.specs.event_names.event_fits.Totals.{IsWithinWith}
+use Rattle.event_setup.specs.event_meaning.event_names.event_fits.Totals.{IsWithinWith}
 use Rattle.event_check.specs.declared.event_answers.outcomes.Found.{Found}
 use Rattle.event_check.specs.declared.event_answers.reaching.Classed.{Classed}
 use Rattle.event_check.proofs.event_answers.Told.{limit_at as found_limit, named, outcome_by}
-use Rattle.event_meaning.specs.event_meaning_under.Answered.{IsComparedInEventsUnder}
-use Rattle.event_meaning.specs.event_meaning_under.Fitted.{EventOutcomeFitsUnder, HasCountsUnder, IsComparedByPairsUnder}
-use Rattle.event_meaning.proofs.event_meaning_under.Saying.{cut_outcomes, different_outcomes, equal_outcomes}
-use Rattle.event_meaning.proofs.event_meaning_under.Framing.{unshown_outcomes}
+use Rattle.event_setup.specs.event_meaning.event_meaning_under.Answered.{IsComparedInEventsUnder}
+use Rattle.event_setup.specs.event_meaning.event_meaning_under.Fitted.{EventOutcomeFitsUnder, HasCountsUnder, IsComparedByPairsUnder}
+use Rattle.event_setup.proofs.event_meaning.event_meaning_under.Saying.{cut_outcomes, different_outcomes, equal_outcomes}
+use Rattle.event_setup.proofs.event_meaning.event_meaning_under.Framing.{unshown_outcomes}
 use Rattle.event_check.specs.event_check_under.event_answers_under.Pairs.{ArePairsFoundUnder}
 
 -- an assumption reads inputs of each circuit that has these inputs

@@ -12,17 +12,17 @@ use Rattle.assume_queries.specs.declared.assume_sequences.assume_taken.error.Tak
 use Rattle.assume_queries.specs.declared.assume_sequences.assume_taken.error.TakeError.TheVariants as untaken
 use Rattle.assume_queries.specs.assume_sequences.assume_taken.Premises.{IsTaken}
 use Rattle.edbf_unfold.specs.class_queries.Enables.{both_of}
-use Rattle.event_meaning.specs.event_meaning_under.CompareError.{CompareError}
-use Rattle.event_meaning.specs.event_meaning_under.CompareError.TheVariants as refused
-use Rattle.under_base.specs.compare_base.Compared.{refusal_of as refusal_of_setup}
+use Rattle.event_setup.specs.event_meaning.event_meaning_under.CompareError.{CompareError}
+use Rattle.event_setup.specs.event_meaning.event_meaning_under.CompareError.TheVariants as refused
+use Rattle.plain_check.specs.under_base.compare_base.Compared.{refusal_of as refusal_of_setup}
 use Rattle.event_under.specs.Places.{IsOverAtNodes}
-use Rattle.event_meaning.specs.event_meaning_under.Met.{shared_by, IsMet}
-use Rattle.under_base.specs.Refusals.{refusal_of}
-use Rattle.event_meaning.specs.event_names.event_fits.Compared.{ComparedInEvents}
+use Rattle.event_setup.specs.event_meaning.event_meaning_under.Met.{shared_by, IsMet}
+use Rattle.plain_check.specs.under_base.Refusals.{refusal_of}
+use Rattle.event_setup.specs.event_meaning.event_names.event_fits.Compared.{ComparedInEvents}
 use Rattle.event_check.specs.event_answers.Reached.{AreClassed}
 use Rattle.event_check.specs.declared.event_answers.reaching.Classed.{Classed}
 use Rattle.event_check.proofs.event_answers.Refusals.{pairs_refused}
-use Rattle.event_meaning.specs.event_meaning_under.Answered.{ComparedInEventsUnder}
+use Rattle.event_setup.specs.event_meaning.event_meaning_under.Answered.{ComparedInEventsUnder}
 use Rattle.event_check.specs.event_check_under.event_answers_under.Pairs.{FindsPairsUnder, IsTooLargeFor}
 
 -- the interfaces don't match

@@ -14,7 +14,7 @@ use Rattle.flat_net.specs.Sound.{IsSound}
 use Rattle.flat_net.specs.View.{circuit_of}
 use Rattle.sec_setup.specs.declared.ports.pairs.SignalPair.{SignalPair}
 use Rattle.sec_setup.specs.ports.Pairs.{ArePairsOf}
-use Rattle.outcome.specs.declared.verdict.PairResult.{PairResult}
+use Rattle.obligations.specs.declared.outcome.verdict.PairResult.{PairResult}
 use Rattle.sec_setup.specs.Setup.{AreColumns}
 use Rattle.edbf_unfold.specs.class_queries.Enables.{both_of}
 use Rattle.event_nodes.specs.View.{EventCircuitView}
@@ -22,16 +22,16 @@ use Rattle.event_setup.proofs.read_inputs.Leaves.{pair_below}
 use Rattle.assume_laws.specs.Assume.{Assumption}
 use Rattle.assume_laws.specs.Sequences.{IsPairTreeUnder}
 use Rattle.assume_laws.proofs.Meeting.{leaf_input}
-use Rattle.event_meaning.specs.event_meaning_under.Findings.{IsFirstUnshownUnder, VerdictFitsUnder}
+use Rattle.event_setup.specs.event_meaning.event_meaning_under.Findings.{IsFirstUnshownUnder, VerdictFitsUnder}
 use Rattle.event_check.specs.event_answers.EventPairs.{EventPairs}
-use Rattle.event_meaning.specs.EventVerdict.{EventVerdict}
-use Rattle.event_meaning.specs.EventVerdict.TheVariants as found
-use Rattle.event_meaning.specs.event_names.event_fits.Separations.{Separates}
-use Rattle.event_meaning.specs.event_meaning_under.UnshownPair.{UnshownPair}
-use Rattle.event_meaning.specs.event_names.event_fits.Named.{latch_names}
-use Rattle.event_meaning.specs.event_names.Nameable.{CanBeNamed, IsSeparationIn, IsUnshownIn}
-use Rattle.event_meaning.specs.declared.event_names.names.Names.{Names}
-use Rattle.event_meaning.proofs.event_names.Naming.{each_named, output_shown, separation_named}
+use Rattle.event_setup.specs.event_meaning.EventVerdict.{EventVerdict}
+use Rattle.event_setup.specs.event_meaning.EventVerdict.TheVariants as found
+use Rattle.event_setup.specs.event_meaning.event_names.event_fits.Separations.{Separates}
+use Rattle.event_setup.specs.event_meaning.event_meaning_under.UnshownPair.{UnshownPair}
+use Rattle.event_setup.specs.event_meaning.event_names.event_fits.Named.{latch_names}
+use Rattle.event_setup.specs.event_meaning.event_names.Nameable.{CanBeNamed, IsSeparationIn, IsUnshownIn}
+use Rattle.event_setup.specs.declared.event_meaning.event_names.names.Names.{Names}
+use Rattle.event_setup.proofs.event_meaning.event_names.Naming.{each_named, output_shown, separation_named}
 
 -- the elements of a list that have a property, in order
 record ArePart {X : Type 0} (Q : X → Type 0) (R : X → X → Type 0) (xs ys : List X) : Type 0 where

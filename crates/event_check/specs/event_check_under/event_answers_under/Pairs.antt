@@ -11,18 +11,18 @@ use Rattle.assume_queries.specs.assume_sequences.Filled.{bit_of}
 use Rattle.assume_laws.specs.assume_shape.Shape.{assumption_of}
 use Rattle.assume_laws.specs.declared.assume_shape.shape.ShapeFault.{ShapeFault}
 use Rattle.assume_laws.specs.declared.assume_shape.shape.ShapeFault.TheVariants as fault
-use Rattle.event_meaning.specs.event_meaning_under.CompareError.{CompareError}
-use Rattle.event_meaning.specs.event_meaning_under.CompareError.TheVariants as refused
+use Rattle.event_setup.specs.event_meaning.event_meaning_under.CompareError.{CompareError}
+use Rattle.event_setup.specs.event_meaning.event_meaning_under.CompareError.TheVariants as refused
 use Rattle.event_check.specs.event_answers.Askable.{IsAskedBy}
 use Rattle.event_check.specs.event_answers.Finding.{AreNotUnfolded, AreUnfolded}
-use Rattle.event_meaning.specs.event_names.event_fits.Named.{NamesVerdict}
+use Rattle.event_setup.specs.event_meaning.event_names.event_fits.Named.{NamesVerdict}
 use Rattle.event_check.specs.event_answers.Names.{Names}
-use Rattle.event_meaning.specs.event_names.event_fits.Totals.{IsMapMade}
+use Rattle.event_setup.specs.event_meaning.event_names.event_fits.Totals.{IsMapMade}
 use Rattle.event_check.specs.declared.event_answers.outcomes.Found.{Found}
 use Rattle.event_check.specs.declared.event_answers.reaching.Asked.{Asked}
 use Rattle.event_under.specs.Places.{IsLightAtNodes}
-use Rattle.event_meaning.specs.event_meaning_under.Findings.{FindingsFitUnder}
-use Rattle.event_meaning.specs.event_meaning_under.Heavy.{PairsAreOver}
+use Rattle.event_setup.specs.event_meaning.event_meaning_under.Findings.{FindingsFitUnder}
+use Rattle.event_setup.specs.event_meaning.event_meaning_under.Heavy.{PairsAreOver}
 
 -- what is found of them fits the circuits under each assumption of the premise, which isn't too large for them, and all is within its numbers
 pub record ArePairsFoundUnder (a b : EventCircuitView) (n : Names) (x : Asked) (p : Premise) (conflicts : ℕ) (f : Found) : Type 0 where

@@ -2,7 +2,7 @@
 use Rattle.std.proofs.Common.{◌∙◌, Err, ap, subst}
 use Rattle.circuit_theory.specs.declared.Side.{Side}
 use Rattle.circuit_theory.specs.declared.Side.TheVariants.{A}
-use Rattle.event_functions.specs.class_totals.Totals.{ReachFew, WeighTooMuch}
+use Rattle.event_classes.specs.event_functions.class_totals.Totals.{ReachFew, WeighTooMuch}
 use Rattle.event_classes.specs.Map.{taken_of, with_next}
 use Rattle.event_classes.proofs.Enabling.{left_counts}
 use Rattle.event_classes.proofs.Limiting.{error_is as of_error, no_error}

@@ -6,7 +6,7 @@ use Rattle.class_search.specs.Search.{AreReadyClasses, IsFit, IsUnfit}
 use Rattle.edbf_unfold.specs.class_queries.Enables.{both_of}
 use Rattle.event_classes.specs.Limits.{IsNamed, IsErrorOf}
 use Rattle.event_classes.specs.Map.{GoesOn, places_in, taken_of, with_next}
-use Rattle.event_functions.specs.class_totals.Totals.{HaveCounted}
+use Rattle.event_classes.specs.event_functions.class_totals.Totals.{HaveCounted}
 use Rattle.event_nodes.specs.Nodes.{EventGraphView}
 use Rattle.event_classes.proofs.Limiting.{named_of, limit_at, limit_alone, error_is}
 use Rattle.event_classes.proofs.Stopping.{class_before}

@@ -2,8 +2,8 @@
 use Rattle.std.proofs.Common.{Err, sym, ap, subst}
 use Rattle.std.proofs.lemmas.Result.{err_from_is_err_and}
 use Rattle.obligations.specs.Asked as graph_level
-use Rattle.event_findings.specs.unshown_pairs.class_events.Separated.{AreSeparated}
-use Rattle.event_findings.proofs.unshown_pairs.class_events.Telling.{separated_stay}
+use Rattle.event_form.specs.event_findings.unshown_pairs.class_events.Separated.{AreSeparated}
+use Rattle.event_form.proofs.event_findings.unshown_pairs.class_events.Telling.{separated_stay}
 use Rattle.event_form.proofs.Asking.{later_trans}
 use Rattle.event_form.proofs.Refusing.{error_is}
 use Rattle.event_comparison.specs.Asked.{AreAskedFrom}

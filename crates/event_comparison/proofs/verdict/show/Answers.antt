@@ -2,10 +2,10 @@
 use Rattle.std.proofs.Common.{◌≡◌, ◌<◌, length, get_or, slice_get, Some, refl, sym, ap, subst}
 use Rattle.std.proofs.lemmas.Option.{slice_get-get_or}
 use Rattle.obligations.specs.declared.verdict.VerdictAt.{VerdictAt}
-use Rattle.outcome.specs.declared.verdict.PairResult.{PairResult}
+use Rattle.obligations.specs.declared.outcome.verdict.PairResult.{PairResult}
 use Rattle.sec_base.specs.declared.basics.PairAnswer.TheVariants as answer
 use Rattle.witness_report.specs.declared.witness.PairName.{PairName}
-use Rattle.event_findings.specs.declared.verdict.EventVerdict.TheVariants as verdict
+use Rattle.event_form.specs.declared.event_findings.verdict.EventVerdict.TheVariants as verdict
 use Rattle.event_comparison.specs.Asked.{IsFoundAt}
 use Rattle.event_comparison.specs.Shown.{IsShown}
 use Rattle.event_comparison.proofs.Showing.{can_show}

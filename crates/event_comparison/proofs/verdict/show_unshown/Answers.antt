@@ -5,8 +5,8 @@ use Rattle.sec_base.specs.declared.basics.PairAnswer.TheVariants as answer
 use Rattle.event_form.specs.Counted.{left_starts, right_starts}
 use Rattle.event_form.proofs.Refusing.{error_is, memory_refused, ok_refused}
 use Rattle.event_form.specs.event_agreement.pair_events.View.{side_of_both}
-use Rattle.event_findings.specs.unshown_pairs.Reached.{BothReachAlways}
-use Rattle.event_findings.specs.unshown_pairs.Separations.{AreToldApart, AreToldFor}
+use Rattle.event_form.specs.event_findings.unshown_pairs.Reached.{BothReachAlways}
+use Rattle.event_form.specs.event_findings.unshown_pairs.Separations.{AreToldApart, AreToldFor}
 use Rattle.event_comparison.proofs.Showing.{can_show_later, difference_within, of_pair, pair_is, pair_there, refused_for_all, stay_counted}
 use Rattle.event_comparison.proofs.verdict.show_unshown.Goals as goal
 

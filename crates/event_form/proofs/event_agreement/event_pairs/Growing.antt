@@ -24,9 +24,9 @@ use Rattle.event_nodes.proofs.Paths.{named_grows, path_grows}
 use Rattle.class_search.specs.event_variables.Variables.{variable_of, variables_of, GoesBefore, AreInOrder}
 use Rattle.class_search.proofs.event_variables.Cones.{reached_one, reached_among, old_node, old_reached}
 use Rattle.class_search.proofs.event_variables.Named.{named_distinct}
-use Rattle.event_functions.proofs.Known.{builds_later}
-use Rattle.event_functions.specs.declared.signals.SignalFunction.{SignalFunction}
-use Rattle.event_functions.specs.Laws.{AreCovered}
+use Rattle.event_classes.proofs.event_functions.Known.{builds_later}
+use Rattle.event_classes.specs.declared.event_functions.signals.SignalFunction.{SignalFunction}
+use Rattle.event_classes.specs.event_functions.Laws.{AreCovered}
 use Rattle.edbf_unfold.specs.Laws.{TakesFrame}
 use Rattle.class_search.specs.event_variables.Laws.{IsSignalTree}
 use Rattle.event_form.specs.event_agreement.event_pairs.Functions.{IsEventFunction, AreNodesOf}

@@ -26,9 +26,9 @@ use Rattle.event_nodes.specs.Visited.{HoldsNodes}
 use Rattle.class_search.specs.event_variables.Variables.{variables_of}
 use Rattle.class_search.specs.event_variables.Laws.{IsSignalTree}
 use Rattle.class_search.proofs.event_variables.Meaning.{signal_variables}
-use Rattle.event_functions.specs.declared.signals.SignalFunction.{SignalFunction}
-use Rattle.event_functions.specs.Functions.{IsFunctionOf, signal_start}
-use Rattle.event_functions.proofs.Covering.{two_roots, own_supports, care_supports}
+use Rattle.event_classes.specs.declared.event_functions.signals.SignalFunction.{SignalFunction}
+use Rattle.event_classes.specs.event_functions.Functions.{IsFunctionOf, signal_start}
+use Rattle.event_classes.proofs.event_functions.Covering.{two_roots, own_supports, care_supports}
 use Rattle.edbf_unfold.proofs.CareMeaning.{care_value}
 use Rattle.edbf_unfold.specs.class_queries.Enables.{both_of, class_map}
 use Rattle.edbf_unfold.specs.class_queries.Laws.{AreKept}

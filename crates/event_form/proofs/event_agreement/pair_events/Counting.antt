@@ -19,7 +19,7 @@ use Rattle.event_nodes.proofs.OnePath.{one_node}
 use Rattle.event_nodes.proofs.Paths.{path_grows, child_path, paths_length}
 use Rattle.event_nodes.proofs.Visits.{visits_more}
 use Rattle.edbf_unfold.specs.event_literals.event_walk.Walk.{HasCountedStart, IsCounting}
-use Rattle.event_functions.proofs.Totaling.{pair_later}
+use Rattle.event_classes.proofs.event_functions.Totaling.{pair_later}
 
 -- more starts visit more
 pub pair_more : (e : EventCircuitView) (children : List (ℕ × ℕ)) (starts more : List (Start ℕ)) → ((x : Start ℕ) → Contains starts x → Contains more x) → (p : ℕ × ℕ) → IsVisitedPair e children starts p → IsVisitedPair e children more p

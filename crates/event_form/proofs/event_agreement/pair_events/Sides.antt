@@ -22,8 +22,8 @@ use Rattle.event_nodes.specs.View.{side_of, Enabled}
 use Rattle.event_nodes.specs.Visited.{CounterView, HoldsNodes, IsVisitedPair}
 use Rattle.event_nodes.proofs.Paths.{path_grows, paths_length}
 use Rattle.edbf_unfold.specs.event_literals.event_walk.Walk.{HasCountedStart, IsCounting}
-use Rattle.event_functions.specs.Functions.{signal_start}
-use Rattle.event_functions.specs.Refused.{HasFewNodes}
+use Rattle.event_classes.specs.event_functions.Functions.{signal_start}
+use Rattle.event_classes.specs.event_functions.Refused.{HasFewNodes}
 use Rattle.edbf_unfold.specs.class_queries.Enables.{both_of, class_map}
 use Rattle.edbf_unfold.specs.class_queries.Laws.{AreKept}
 use Rattle.event_form.specs.event_agreement.pair_events.Counted.{moved_start, both_starts, HaveCounted, GoOnCounting, AreTooMany, IsTooLarge}

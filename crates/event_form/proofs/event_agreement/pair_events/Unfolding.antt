@@ -7,9 +7,9 @@ use Rattle.event_nodes.specs.Nodes.{EventGraphView, IsEventGraph}
 use Rattle.event_nodes.specs.Visited.{CounterView}
 use Rattle.event_nodes.specs.declared.error.EventUnfoldError.{EventUnfoldError}
 use Rattle.edbf_unfold.specs.event_literals.event_walk.Walk.{HasCountedStart, IsCounting}
-use Rattle.event_functions.specs.declared.signals.SignalFunction.{SignalFunction}
-use Rattle.event_functions.specs.Functions.{IsFunctionOf, signal_start}
-use Rattle.event_functions.specs.Refused.{IsRefusal}
+use Rattle.event_classes.specs.declared.event_functions.signals.SignalFunction.{SignalFunction}
+use Rattle.event_classes.specs.event_functions.Functions.{IsFunctionOf, signal_start}
+use Rattle.event_classes.specs.event_functions.Refused.{IsRefusal}
 use Rattle.edbf_unfold.specs.class_queries.Laws.{AreKept}
 use Rattle.event_form.specs.event_agreement.event_pairs.Functions.{IsEventFunction}
 use Rattle.event_form.proofs.event_agreement.event_pairs.Sides.{left_function, right_function}

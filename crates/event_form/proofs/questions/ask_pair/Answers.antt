@@ -4,7 +4,7 @@ use Rattle.std.proofs.lemmas.Result.{err_from_is_err_and}
 use Rattle.circuit_theory.specs.Joined.{Left}
 use Rattle.event_nodes.specs.View.{EventCircuitView}
 use Rattle.event_nodes.proofs.Growing.{grows_refl}
-use Rattle.event_functions.specs.Functions.{signal_start}
+use Rattle.event_classes.specs.event_functions.Functions.{signal_start}
 use Rattle.event_form.proofs.Asking.{function_on, later_refl, later_trans, more_is_later}
 use Rattle.event_form.proofs.Counted.{left_counted, none_counted, pair_counted, within_same}
 use Rattle.event_form.proofs.Refusing.{all_within, error_is, memory_refused, nothing_within, ok_refused, refused_later}

@@ -10,7 +10,7 @@ use Rattle.sec_setup.specs.declared.ports.pairs.SignalPair.{SignalPair}
 use Rattle.event_form.specs.event_agreement.pair_events.View.{side_of_both}
 use Rattle.event_form.specs.Asked.{AreAsked, IsPairOf}
 use Rattle.event_form.specs.Counted.{CountsOn, left_starts, right_starts}
-use Rattle.event_functions.specs.Functions.{signal_start}
+use Rattle.event_classes.specs.event_functions.Functions.{signal_start}
 use Rattle.event_form.proofs.Refusing.{error_is, front_within, memory_refused, ok_refused, one_within, refused_later}
 use Rattle.event_form.proofs.Asking.{asked_next, asked_queries, later_refl, later_trans, pair_on}
 use Rattle.event_form.proofs.Counted.{none_counted, counted_next}

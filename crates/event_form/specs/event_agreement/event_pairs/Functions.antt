@@ -10,8 +10,8 @@ use Rattle.class_search.specs.aig.Values.{value}
 use Rattle.event_nodes.specs.Nodes.{EventGraphView, named_places, path_of}
 use Rattle.class_search.specs.event_variables.Variables.{variables_of, AreInOrder}
 use Rattle.class_search.specs.event_variables.Laws.{IsSignalTree}
-use Rattle.event_functions.specs.declared.signals.SignalFunction.{SignalFunction}
-use Rattle.event_functions.specs.Laws.{AreCovered}
+use Rattle.event_classes.specs.declared.event_functions.signals.SignalFunction.{SignalFunction}
+use Rattle.event_classes.specs.event_functions.Laws.{AreCovered}
 use Rattle.edbf_unfold.specs.Laws.{TakesFrame}
 
 -- the numbers are exactly those of the event nodes that are reached from these latches, all of which were made

@@ -7,8 +7,8 @@ use Rattle.class_search.specs.aig.Values.{value}
 use Rattle.event_nodes.specs.Nodes.{EventGraphView, IsEventGraph, GrowsEvents}
 use Rattle.event_nodes.specs.View.{EventCircuitView}
 use Rattle.event_nodes.specs.Visited.{HoldsNodes}
-use Rattle.event_functions.specs.declared.signals.SignalFunction.{SignalFunction}
-use Rattle.event_functions.specs.Functions.{IsFunctionOf, signal_start}
+use Rattle.event_classes.specs.declared.event_functions.signals.SignalFunction.{SignalFunction}
+use Rattle.event_classes.specs.event_functions.Functions.{IsFunctionOf, signal_start}
 use Rattle.edbf_unfold.specs.Laws.{TakesFrame}
 use Rattle.edbf_unfold.specs.class_queries.Enables.{both_of}
 use Rattle.edbf_unfold.specs.class_queries.Laws.{AreKept}

@@ -12,7 +12,7 @@ use Rattle.event_nodes.specs.View.{side_of, Enabled}
 use Rattle.event_nodes.specs.Visited.{HasCounted, HoldsNodes}
 use Rattle.event_nodes.specs.declared.error.EventUnfoldError.{EventUnfoldError}
 use Rattle.event_nodes.specs.declared.error.EventUnfoldError.TheVariants as unfold_error
-use Rattle.event_functions.specs.Functions.{signal_start}
+use Rattle.event_classes.specs.event_functions.Functions.{signal_start}
 use Rattle.event_form.specs.event_agreement.pair_events.View.{EventsView, side_of_both, circuit_at}
 
 abbrev pub moved_latch : {P R : Type 0} → (P → R) → Option P → Option R

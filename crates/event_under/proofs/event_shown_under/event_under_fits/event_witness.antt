@@ -1,1 +1,1 @@
-pub use Rattle.event_findings.proofs.event_witness.InputLeaves
+pub use Rattle.event_form.proofs.event_findings.event_witness.InputLeaves

@@ -14,19 +14,19 @@ use Rattle.edbf_unfold.specs.class_queries.Enables.{both_of}
 use Rattle.event_nodes.specs.View.{EventCircuitView}
 use Rattle.sec_setup.specs.declared.ports.pairs.SignalPair.{SignalPair}
 use Rattle.witness_report.specs.declared.witness.Witness.{Witness}
-use Rattle.outcome.specs.declared.verdict.PairResult.{PairResult}
+use Rattle.obligations.specs.declared.outcome.verdict.PairResult.{PairResult}
 use Rattle.obligations.specs.Decided.{NoneIs}
-use Rattle.event_findings.specs.declared.event_witness.unshown.UnshownFrame.{UnshownFrame}
-use Rattle.event_findings.specs.unshown_pairs.Reached.{BothReachAlways}
-use Rattle.event_findings.specs.unshown_pairs.Separations.{AreToldApart}
-use Rattle.event_findings.specs.unshown_pairs.Told.{TellsBits}
-use Rattle.event_findings.specs.declared.findings.EventFindings.{EventFindings}
-use Rattle.event_findings.specs.declared.pairs.EventPairs.{EventPairs}
-use Rattle.event_findings.specs.declared.verdict.EventVerdict.{EventVerdict}
-use Rattle.event_findings.specs.declared.verdict.EventVerdict.TheVariants as verdict
-use Rattle.event_findings.specs.declared.verdict.UnshownPair.{UnshownPair}
-use Rattle.event_findings.specs.Compared.{IsEventDepth}
-use Rattle.event_findings.specs.Findings.{IsFirstWith, IsFirstLimit}
+use Rattle.event_form.specs.declared.event_findings.event_witness.unshown.UnshownFrame.{UnshownFrame}
+use Rattle.event_form.specs.event_findings.unshown_pairs.Reached.{BothReachAlways}
+use Rattle.event_form.specs.event_findings.unshown_pairs.Separations.{AreToldApart}
+use Rattle.event_form.specs.event_findings.unshown_pairs.Told.{TellsBits}
+use Rattle.event_form.specs.declared.event_findings.findings.EventFindings.{EventFindings}
+use Rattle.event_form.specs.declared.event_findings.pairs.EventPairs.{EventPairs}
+use Rattle.event_form.specs.declared.event_findings.verdict.EventVerdict.{EventVerdict}
+use Rattle.event_form.specs.declared.event_findings.verdict.EventVerdict.TheVariants as verdict
+use Rattle.event_form.specs.declared.event_findings.verdict.UnshownPair.{UnshownPair}
+use Rattle.event_form.specs.event_findings.Compared.{IsEventDepth}
+use Rattle.event_form.specs.event_findings.Findings.{IsFirstWith, IsFirstLimit}
 use Rattle.assume_laws.specs.Assume.{Assumption}
 use Rattle.assume_laws.specs.Sequences.{IsEventDifferenceUnder, IsUnshownFrameUnder, RowsMeet, filled_frame}
 use Rattle.event_under.specs.Answers.{PairFitsUnder}

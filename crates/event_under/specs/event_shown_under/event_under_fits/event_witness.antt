@@ -1,2 +1,2 @@
-pub use Rattle.event_findings.specs.event_witness.Sequences
-pub use Rattle.event_findings.specs.declared.event_witness.unshown.UnshownFrame
+pub use Rattle.event_form.specs.event_findings.event_witness.Sequences
+pub use Rattle.event_form.specs.declared.event_findings.event_witness.unshown.UnshownFrame

@@ -4,8 +4,8 @@ use Rattle.circuit_theory.specs.Joined.{Either}
 use Rattle.circuit_theory.specs.Frame.{EventSide}
 use Rattle.event_form.specs.event_agreement.pair_events.View.{side_of_both}
 use Rattle.event_form.specs.Asked.{AreAsked}
-use Rattle.event_findings.specs.unshown_pairs.class_events.Separated.{AreSeparated}
-use Rattle.event_findings.proofs.unshown_pairs.class_events.Telling.{separated_stay}
+use Rattle.event_form.specs.event_findings.unshown_pairs.class_events.Separated.{AreSeparated}
+use Rattle.event_form.proofs.event_findings.unshown_pairs.class_events.Telling.{separated_stay}
 use Rattle.event_form.proofs.Asking.{later_trans, side_same}
 use Rattle.event_form.proofs.Refusing.{error_is}
 use Rattle.event_comparison.specs.Asked.{AreAskedFrom}

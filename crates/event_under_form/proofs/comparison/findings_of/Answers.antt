@@ -1,7 +1,7 @@
 -- The parts fit together.
 use Rattle.std.proofs.Common.{List, refl, sym, subst}
 use Rattle.obligations.specs.declared.obligation.Obligation.{Obligation}
-use Rattle.outcome.specs.declared.verdict.PairResult.{PairResult}
+use Rattle.obligations.specs.declared.outcome.verdict.PairResult.{PairResult}
 use Rattle.obligations.specs.Asked as graph_level
 use Rattle.obligations.specs.Decided.{HaveDecided}
 use Rattle.obligations.specs.Verdict.{IsVerdictAt}

@@ -3,7 +3,7 @@ use Rattle.std.proofs.Common.{subst}
 use Rattle.event_nodes.specs.Nodes.{EventGraphView}
 use Rattle.event_nodes.proofs.Growing.{grows_refl}
 use Rattle.assume_queries.specs.assume_sequences.Filled.{bit_of}
-use Rattle.event_findings.proofs.event_witness.Showing.{if_ok}
+use Rattle.event_form.proofs.event_findings.event_witness.Showing.{if_ok}
 use Rattle.event_under_form.specs.event_under_verdicts.Shown.{IsWitnessUnder}
 use Rattle.event_under_form.specs.event_witness_under.Ready.{IsReadyAt}
 use Rattle.event_under_form.specs.event_witness_under.Shown.{IsSequenceAt}

@@ -2,11 +2,11 @@
 use Rattle.std.proofs.Common.{◌≡◌, ◌<◌, length, get_or, slice_get, Some, refl, sym, ap, subst}
 use Rattle.std.proofs.lemmas.Option.{slice_get-get_or}
 use Rattle.obligations.specs.declared.verdict.VerdictAt.{VerdictAt}
-use Rattle.outcome.specs.declared.verdict.PairResult.{PairResult}
+use Rattle.obligations.specs.declared.outcome.verdict.PairResult.{PairResult}
 use Rattle.sec_base.specs.declared.basics.PairAnswer.TheVariants as answer
 use Rattle.witness_report.specs.declared.witness.PairName.{PairName}
 use Rattle.assume_queries.specs.assume_sequences.Filled.{bit_of}
-use Rattle.event_findings.specs.declared.verdict.EventVerdict.TheVariants as verdict
+use Rattle.event_form.specs.declared.event_findings.verdict.EventVerdict.TheVariants as verdict
 use Rattle.event_under_form.specs.event_under_verdicts.Shown.{IsFoundUnder, IsShownUnder}
 use Rattle.event_under_form.proofs.verdict.show.Goals as goal
 

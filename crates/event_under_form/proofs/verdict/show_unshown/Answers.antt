@@ -6,8 +6,8 @@ use Rattle.event_nodes.specs.Nodes.{EventGraphView}
 use Rattle.event_form.specs.Counted.{left_starts, right_starts}
 use Rattle.event_form.proofs.Refusing.{error_is, memory_refused, ok_refused}
 use Rattle.event_form.specs.event_agreement.pair_events.View.{side_of_both}
-use Rattle.event_findings.specs.unshown_pairs.Reached.{BothReachAlways}
-use Rattle.event_findings.specs.unshown_pairs.Separations.{AreToldApart, AreToldFor}
+use Rattle.event_form.specs.event_findings.unshown_pairs.Reached.{BothReachAlways}
+use Rattle.event_form.specs.event_findings.unshown_pairs.Separations.{AreToldApart, AreToldFor}
 use Rattle.event_comparison.proofs.Showing.{refused_for_all, stay_counted}
 use Rattle.event_under_form.specs.event_witness_under.Ready.{IsReadyAt}
 use Rattle.event_under_form.specs.event_witness_under.Shown.{IsSequenceAt}

@@ -4,7 +4,7 @@ use Rattle.std.specs.List.{filter}
 use Rattle.std.proofs.lemmas.List.{take_all, append-nil}
 use Rattle.std.proofs.lemmas.List.Elements.{filter_more}
 use Rattle.std.proofs.lemmas.Option.{get_or_from_slice_get}
-use Rattle.connectivity.specs.declared.source.Source.{Source}
+use Rattle.flatten.specs.declared.connectivity.source.Source.{Source}
 use Rattle.flatten.specs.Graph.{IsSourceWithin, is_gate_by, is_gate_out}
 use Rattle.flatten.proofs.loops.gates_of.Goals as goal
 use Rattle.flatten.proofs.loops.gates_of.Goals.{then-is_gate+in_ok-push, else-is_gate}

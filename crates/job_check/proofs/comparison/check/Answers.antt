@@ -1,11 +1,11 @@
 use Rattle.std.proofs.Common.{ℕ, List, ◌∷◌, sym, subst, Result}
 use Rattle.std.proofs.lemmas.List.Elements.{All-head, All-tail, All-weaker}
 use Rattle.std.specs.Prelude.{option_map}
-use Rattle.check_meaning.specs.check_found.job_base.Finding.{Finding}
-use Rattle.check_meaning.specs.check_found.job_base.Stop.{Stop}
-use Rattle.check_meaning.specs.check_found.Check.{Check, assumed_paths}
-use Rattle.check_meaning.specs.check_found.Ends.{FoundOf}
-use Rattle.check_meaning.proofs.check_found.Finds.{left_ends, beside_before, beside_end}
+use Rattle.job_check.specs.check_meaning.check_found.job_base.Finding.{Finding}
+use Rattle.job_check.specs.check_meaning.check_found.job_base.Stop.{Stop}
+use Rattle.job_check.specs.check_meaning.check_found.Check.{Check, assumed_paths}
+use Rattle.job_check.specs.check_meaning.check_found.Ends.{FoundOf}
+use Rattle.job_check.proofs.check_meaning.check_found.Finds.{left_ends, beside_before, beside_end}
 use Rattle.job_check.proofs.comparison.check.Goals as goal
 
 pub returns-in-Ok-clause-found : goal.returns-in-Ok-clause-found

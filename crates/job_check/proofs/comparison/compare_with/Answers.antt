@@ -1,7 +1,7 @@
 use Rattle.std.proofs.Common.{ℕ, List, Option, Some, ap, sym, subst, inl, inr}
 use Rattle.std.specs.Prelude.{option_map}
-use Rattle.check_meaning.specs.check_found.Ends.{EndsBoth}
-use Rattle.check_meaning.proofs.check_found.Finds.{both_before}
+use Rattle.job_check.specs.check_meaning.check_found.Ends.{EndsBoth}
+use Rattle.job_check.proofs.check_meaning.check_found.Finds.{both_before}
 use Rattle.job_check.proofs.comparison.compare_with.Goals as goal
 
 -- without an assumption

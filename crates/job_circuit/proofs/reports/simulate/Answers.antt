@@ -3,9 +3,9 @@ use Rattle.std.proofs.Common.{List, [], ◌∷◌, sym, subst, Option, Result}
 use Rattle.sec_base.specs.base_shelves.Outside.{Rose}
 use Rattle.job_base.specs.declared.finding.Finding.{Finding}
 use Rattle.job_base.specs.declared.finding.Stop.{Stop}
-use Rattle.sec_files.specs.Stimuli.{IsStimulus}
-use Rattle.sec_files.specs.job_files.Reading.{ReadFailed}
-use Rattle.sec_files.proofs.job_files.Reading.{first_failed, is_loaded}
+use Rattle.job_base.specs.sec_files.Stimuli.{IsStimulus}
+use Rattle.job_base.specs.sec_files.job_files.Reading.{ReadFailed}
+use Rattle.job_base.proofs.sec_files.job_files.Reading.{first_failed, is_loaded}
 use Rattle.job_circuit.specs.Reports.{IsSimFound}
 use Rattle.job_circuit.specs.Ends.{SimFound}
 use Rattle.job_circuit.proofs.OneCircuit.{circuit_ends, sim_circuit, run_ends, stimulus_ends}

@@ -2,8 +2,8 @@ use Rattle.std.proofs.Common.{[], ◌∷◌, sym, subst, Result}
 use Rattle.sec_base.specs.base_shelves.Outside.{Rose}
 use Rattle.job_base.specs.declared.finding.Finding.{Finding}
 use Rattle.job_base.specs.declared.finding.Stop.{Stop}
-use Rattle.sec_files.specs.job_files.Reading.{ReadFailed}
-use Rattle.sec_files.proofs.job_files.Reading.{first_failed}
+use Rattle.job_base.specs.sec_files.job_files.Reading.{ReadFailed}
+use Rattle.job_base.proofs.sec_files.job_files.Reading.{first_failed}
 use Rattle.job_circuit.specs.Reports.{IsGraphFound}
 use Rattle.job_circuit.specs.Ends.{GraphFound}
 use Rattle.job_circuit.proofs.OneCircuit.{circuit_ends, graph_circuit, graph_ends}

@@ -1,6 +1,6 @@
 -- One obligation more.
 use Rattle.std.proofs.Common.{◌≡◌, ◌+◌, ◌<◌, List, length, take, slice_get, Some, sym, ◌∙◌, ap, arith, length-append}
-use Rattle.outcome.specs.Query.{Query}
+use Rattle.obligations.specs.outcome.Query.{Query}
 use Rattle.obligations.specs.declared.obligation.Obligation.{Obligation}
 use Rattle.obligations.specs.Asked.{queries_of}
 use Rattle.obligations.proofs.Listed.{item-at, queries-next, queries-within}

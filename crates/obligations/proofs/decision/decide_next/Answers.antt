@@ -1,8 +1,8 @@
 -- The queries of the obligation stand behind those before it, and its result behind the others.
 use Rattle.std.proofs.Common.{◌≡◌, ℕ, ◌+◌, ◌<◌, ◌++◌, ◌∷◌, [], Bool, List, length, take, slice_get, Option, Some, refl, sym, ◌∙◌, ap, subst, arith, length-take}
-use Rattle.outcome.specs.Query.{Query}
-use Rattle.outcome.specs.witness_report.PairName.{PairName}
-use Rattle.outcome.specs.declared.verdict.PairResult.{PairResult}
+use Rattle.obligations.specs.outcome.Query.{Query}
+use Rattle.obligations.specs.outcome.witness_report.PairName.{PairName}
+use Rattle.obligations.specs.declared.outcome.verdict.PairResult.{PairResult}
 use Rattle.obligations.specs.declared.obligation.Obligation.{Obligation}
 use Rattle.obligations.specs.declared.obligation.Difference.{Difference}
 use Rattle.obligations.specs.declared.found.Found.{Found}

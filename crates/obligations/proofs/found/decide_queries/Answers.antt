@@ -1,6 +1,6 @@
 -- The queries before agree, and the answer to this one ends the deciding or agrees too.
 use Rattle.std.proofs.Common.{◌≡◌, ◌<◌, length, slice_get, Some, None, refl, arith}
-use Rattle.outcome.specs.Query.{Query}
+use Rattle.obligations.specs.outcome.Query.{Query}
 use Rattle.obligations.proofs.Listed.{item-at}
 use Rattle.obligations.proofs.Steps.{ends-with, goes-on, all-agree}
 use Rattle.obligations.proofs.found.decide_queries.Goals as goal

@@ -1,6 +1,6 @@
 use Rattle.std.proofs.Common.{◌≡◌, ℕ, ◌<◌, slice_get, Some}
-use Rattle.outcome.specs.Query.{Query}
-use Rattle.outcome.specs.Queries.{IsSame}
+use Rattle.obligations.specs.outcome.Query.{Query}
+use Rattle.obligations.specs.outcome.Queries.{IsSame}
 use Rattle.obligations.proofs.found.decide_queries.Given as goal
 
 abbrev pub invariant-loop-i : goal.invariant-loop-i

@@ -1,6 +1,6 @@
 -- The queries of one obligation more.
 use Rattle.std.proofs.Common.{◌<◌, List, length, sym, ◌∙◌, ap, subst, arith}
-use Rattle.outcome.specs.Query.{Query}
+use Rattle.obligations.specs.outcome.Query.{Query}
 use Rattle.obligations.specs.declared.obligation.Obligation.{Obligation}
 use Rattle.obligations.specs.Asked.{HaveMore}
 use Rattle.obligations.proofs.Listed.{item-at}

@@ -1,6 +1,6 @@
 -- One query more.
 use Rattle.std.proofs.Common.{◌∷◌, [], ◌++◌, ◌<◌, List, length, take, sym, subst, arith}
-use Rattle.outcome.specs.Query.{Query}
+use Rattle.obligations.specs.outcome.Query.{Query}
 use Rattle.obligations.specs.Asked.{HaveMore}
 use Rattle.obligations.proofs.Listed.{item-at, take-next}
 use Rattle.obligations.proofs.Swept.{have-more}

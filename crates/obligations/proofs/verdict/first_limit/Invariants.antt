@@ -1,7 +1,7 @@
 use Rattle.std.proofs.Common.{◌≡◌, ◌<◌, ℕ, slice_get, Some}
 use Rattle.std.specs.Prelude.{◌≢◌}
-use Rattle.outcome.specs.sec_base.PairAnswer.TheVariants as answer
-use Rattle.outcome.specs.declared.verdict.PairResult.{PairResult}
+use Rattle.obligations.specs.outcome.sec_base.PairAnswer.TheVariants as answer
+use Rattle.obligations.specs.declared.outcome.verdict.PairResult.{PairResult}
 use Rattle.obligations.proofs.verdict.first_limit.Given as goal
 
 abbrev pub invariant-loop-i : goal.invariant-loop-i

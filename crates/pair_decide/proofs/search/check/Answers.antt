@@ -1,6 +1,6 @@
 -- A refutation has no fault.
 use Rattle.std.proofs.Common.{subst}
-use Rattle.cnf_encode.specs.proof_check.Chains.{CheckFails}
+use Rattle.pair_decide.specs.cnf_encode.proof_check.Chains.{CheckFails}
 use Rattle.pair_decide.proofs.Searched.{no-fault}
 use Rattle.pair_decide.proofs.search.check.Goals as goal
 

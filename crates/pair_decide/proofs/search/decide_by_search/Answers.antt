@@ -1,7 +1,7 @@
 -- A model shows a difference; clauses that are refuted show none.
 use Rattle.std.proofs.Common.{◌≡◌, ℕ, ◌<◌, Bool, List, length, sym, subst}
 use Rattle.std.specs.List.{All}
-use Rattle.lane_eval.specs.aig.Node.{Node}
+use Rattle.aig.specs.declared.node.Node.{Node}
 use Rattle.sat_search.specs.Found.{IsFound, assignment_of}
 use Rattle.sat_search.specs.declared.outcome.Found.TheVariants as found
 use Rattle.pair_decide.specs.Reading.{AreInputBits}

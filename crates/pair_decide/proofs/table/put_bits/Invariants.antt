@@ -1,5 +1,5 @@
 use Rattle.std.proofs.Common.{◌≡◌, ◌-◌, ◌++◌, length, take}
-use Rattle.lane_eval.specs.circuit_theory.Query.{bits_of}
+use Rattle.aig.specs.lane_eval.circuit_theory.Query.{bits_of}
 use Rattle.pair_decide.proofs.table.put_bits.Given as goal
 
 abbrev pub invariant-loop-bit : goal.invariant-loop-bit

@@ -7,7 +7,7 @@ use Rattle.sec_setup.specs.declared.ports.pairs.SignalPair.{SignalPair}
 use Rattle.sec_setup.specs.declared.setup.Setup.{Setup}
 use Rattle.plain_asked.specs.declared.functions.Functions.{Functions}
 use Rattle.plain_asked.specs.Asked.{AskedApart, AreAskedApart}
-use Rattle.shift_variables.proofs.Assignments.{take_next}
+use Rattle.cbf_unfold.proofs.shift_variables.Assignments.{take_next}
 use Rattle.plain_asked.proofs.PairAt.{element}
 use Rattle.plain_asked.proofs.questions.ask_apart.Goals as goal
 

@@ -7,7 +7,7 @@ use Rattle.plain_asked.specs.Apart.{IsPairAt}
 use Rattle.plain_asked.specs.Asked.{AskedApart, AsksWith}
 use Rattle.plain_asked.proofs.AskedPairs.{stand_at, asked_apart}
 use Rattle.plain_asked.proofs.PairAt.{element}
-use Rattle.shift_variables.proofs.Reading.{item_at}
+use Rattle.cbf_unfold.proofs.shift_variables.Reading.{item_at}
 use Rattle.plain_asked.proofs.questions.obligation_apart.Goals as goal
 
 pub index-requires : goal.index-requires

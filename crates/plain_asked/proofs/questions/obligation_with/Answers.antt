@@ -5,7 +5,7 @@ use Rattle.std.proofs.lemmas.Option.{same_Some}
 use Rattle.sec_setup.specs.declared.ports.pairs.SignalPair.{SignalPair}
 use Rattle.plain_asked.specs.Asked.{AsksWith}
 use Rattle.plain_asked.proofs.PairAt.{left_shown, right_shown, output_within}
-use Rattle.shift_variables.proofs.Reading.{item_at}
+use Rattle.cbf_unfold.proofs.shift_variables.Reading.{item_at}
 use Rattle.plain_asked.proofs.questions.obligation_with.Goals as goal
 
 pub pair_depth-size-requires-clause-left : goal.pair_depth-size-requires-clause-left

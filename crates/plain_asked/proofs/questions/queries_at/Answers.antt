@@ -2,7 +2,7 @@
 use Rattle.std.proofs.Common.{ℕ, Option, sym, subst, arith}
 use Rattle.std.proofs.lemmas.Option.{slice_get_within}
 use Rattle.std.proofs.lemmas.Result.{IfOk-weaker}
-use Rattle.unfold_places.specs.declared.signal_function.Unfolded.{Unfolded}
+use Rattle.cbf_unfold.specs.declared.unfold_places.signal_function.Unfolded.{Unfolded}
 use Rattle.plain_asked.specs.Asked.{AreAskedAt, IsOnlyQuery}
 use Rattle.plain_asked.specs.Variables.{AreInOrder}
 use Rattle.plain_asked.proofs.AskedPairs.{standing, read_left, read_right, asked_here}

@@ -4,7 +4,7 @@ use Rattle.std.specs.List.{All}
 use Rattle.circuit_theory.specs.Sequence.{sequence_rows}
 use Rattle.base_tables.specs.Table.{AreDistinct}
 use Rattle.plain_asked.specs.Sequences.{bits_at, IsSequence}
-use Rattle.shift_variables.proofs.CycleRows.{rows_fit}
+use Rattle.cbf_unfold.proofs.shift_variables.CycleRows.{rows_fit}
 use Rattle.plain_asked.proofs.PairQueries.{numbers_apart}
 use Rattle.plain_asked.proofs.witness.witness_of.Goals as goal
 

@@ -1,10 +1,10 @@
 -- The outcome of what is found by the setup, in which no latch is cut open.
 use Rattle.std.proofs.Common.{◌≡◌, ◌∙◌, [], length, sym, subst, Ok, None}
-use Rattle.outcome.specs.declared.verdict.Outcome.{Outcome}
+use Rattle.obligations.specs.declared.outcome.verdict.Outcome.{Outcome}
 use Rattle.plain_asked.specs.declared.findings.Findings.{Findings}
 use Rattle.sec_setup.proofs.Uncut.{uncut}
-use Rattle.under_base.specs.compare_base.Compared.{Compared}
-use Rattle.under_base.proofs.compare_base.Forms.{in_reset}
+use Rattle.plain_check.specs.under_base.compare_base.Compared.{Compared}
+use Rattle.plain_check.proofs.under_base.compare_base.Forms.{in_reset}
 use Rattle.plain_check.proofs.ResetSetups.{too_large_from, outcome_is_compared_from}
 use Rattle.plain_check.proofs.comparison.compare_from.Goals as goal
 

@@ -1,8 +1,8 @@
 -- A cycle, or no latch that is cut open: the nets are those of the circuits.
 use Rattle.std.proofs.Common.{◌∙◌, sym}
 use Rattle.sec_setup.proofs.Uncut.{uncut, no_names}
-use Rattle.under_base.specs.compare_base.Compared.{Compared, refusal_of}
-use Rattle.under_base.proofs.compare_base.Refusals.{refused_by, unchosen}
+use Rattle.plain_check.specs.under_base.compare_base.Compared.{Compared, refusal_of}
+use Rattle.plain_check.proofs.under_base.compare_base.Refusals.{refused_by, unchosen}
 use Rattle.plain_check.proofs.comparison.compare_matching.Goals as goal
 
 pub returns-in_err-exposure : goal.returns-in_err-exposure

@@ -1,8 +1,8 @@
 -- The outcome of what is found by the setup.
 use Rattle.std.proofs.Common.{sym, subst, Ok}
-use Rattle.outcome.specs.declared.verdict.Outcome.{Outcome}
-use Rattle.under_base.specs.compare_base.Compared.{Compared}
-use Rattle.under_base.proofs.compare_base.Forms.{in_always}
+use Rattle.obligations.specs.declared.outcome.verdict.Outcome.{Outcome}
+use Rattle.plain_check.specs.under_base.compare_base.Compared.{Compared}
+use Rattle.plain_check.proofs.under_base.compare_base.Forms.{in_always}
 use Rattle.plain_check.proofs.Outcomes.{outcome_is_compared, too_large}
 use Rattle.plain_check.proofs.comparison.compare_nets.Goals as goal
 

@@ -1,6 +1,6 @@
 -- Interfaces that don't match.
-use Rattle.under_base.specs.compare_base.Compared.{Compared, refusal_of}
-use Rattle.under_base.proofs.compare_base.Refusals.{refused_by, unmatched}
+use Rattle.plain_check.specs.under_base.compare_base.Compared.{Compared, refusal_of}
+use Rattle.plain_check.proofs.under_base.compare_base.Refusals.{refused_by, unmatched}
 use Rattle.plain_check.proofs.comparison.compare_plainly.Goals as goal
 
 pub returns-in_err-shared : goal.returns-in_err-shared

@@ -13,12 +13,12 @@ use Rattle.flat_net.specs.declared.parts.Port.{Port}
 use Rattle.flat_net.specs.View.{NetView, named, circuit_of}
 use Rattle.net_assembly.specs.net_alike.FlatCircuit.{IsFlatCircuit}
 use Rattle.flatten.specs.DesignFaults.{IsClocked, IsFlatOf}
-use Rattle.sec_files.specs.Formats.{Blif}
-use Rattle.sec_files.specs.Loading.{Loads}
-use Rattle.sec_files.proofs.Texts.{text_net}
+use Rattle.job_base.specs.sec_files.Formats.{Blif}
+use Rattle.job_base.specs.sec_files.Loading.{Loads}
+use Rattle.job_base.proofs.sec_files.Texts.{text_net}
 use Rattle.assume_laws.specs.Assume.{RowMeets}
 use Rattle.assume_queries.specs.assume_sequences.assume_taken.Taken.{IsAssumed, assumed_by}
-use Rattle.check_meaning.proofs.design_rows.Spelling.{net_is_small}
+use Rattle.job_check.proofs.check_meaning.design_rows.Spelling.{net_is_small}
 use Rattle.premise_rows.specs.event_assume_rows.assume_rows.SameInputs.{same, same_cover, same_design, small_same}
 use Rattle.premise_rows.proofs.event_assume_rows.assume_rows.Spelled.{same_spells}
 

@@ -13,10 +13,10 @@ use Rattle.flat_net.specs.View.{NetView, named, circuit_of}
 use Rattle.assume_laws.specs.declared.assume_shape.shape.ShapeFault.{ShapeFault}
 use Rattle.assume_laws.specs.declared.assume_shape.shape.ShapeFault.TheVariants as fault
 use Rattle.assume_queries.specs.assume_sequences.assume_taken.Taken.{IsFirstFault}
-use Rattle.under_base.specs.Met.{shared_by}
-use Rattle.check_meaning.specs.design_rows.Small.{IsSmall, small_and}
-use Rattle.check_meaning.proofs.design_rows.Spelling.{ports_are}
-use Rattle.check_meaning.proofs.check_texts.Uncut.{uncut_is}
+use Rattle.plain_check.specs.under_base.Met.{shared_by}
+use Rattle.job_check.specs.check_meaning.design_rows.Small.{IsSmall, small_and}
+use Rattle.job_check.proofs.check_meaning.design_rows.Spelling.{ports_are}
+use Rattle.job_check.proofs.check_meaning.check_texts.Uncut.{uncut_is}
 use Rattle.premise_rows.specs.event_assume_rows.assume_rows.SameInputs.{small_or, small_same}
 
 -- the places of the outputs

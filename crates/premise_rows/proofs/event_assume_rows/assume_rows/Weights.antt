@@ -12,14 +12,14 @@ use Rattle.flat_net.specs.View.{NetView, named, circuit_of}
 use Rattle.witness_report.specs.declared.witness.PairName.TheVariants as pair
 use Rattle.sec_base.specs.declared.settings.Settings.{Settings}
 use Rattle.sec_setup.specs.ports.Pairs.{NamedPair, named_pairs, pair_called}
-use Rattle.under_base.specs.compare_base.Compared.{ByReset}
+use Rattle.plain_check.specs.under_base.compare_base.Compared.{ByReset}
 use Rattle.assume_laws.specs.Assume.{HasVariableAt}
 use Rattle.assume_laws.specs.declared.assume_shape.shape.ShapeFault.{ShapeFault}
 use Rattle.assume_laws.specs.declared.assume_shape.shape.ShapeFault.TheVariants as fault
-use Rattle.under_base.specs.under_fits.Places.{IsReadAt, ArePairPlaces, IsOverAtPairs}
-use Rattle.under_base.specs.Sizes.{IsOverCut, IsOverFromReset, IsTooLargeUnder}
-use Rattle.check_meaning.specs.design_rows.Small.{IsSmall, small_and}
-use Rattle.check_meaning.proofs.check_texts.Latchless.{cut_latchless, visits_now, none_chosen}
+use Rattle.plain_check.specs.under_base.under_fits.Places.{IsReadAt, ArePairPlaces, IsOverAtPairs}
+use Rattle.plain_check.specs.under_base.Sizes.{IsOverCut, IsOverFromReset, IsTooLargeUnder}
+use Rattle.job_check.specs.check_meaning.design_rows.Small.{IsSmall, small_and}
+use Rattle.job_check.proofs.check_meaning.check_texts.Latchless.{cut_latchless, visits_now, none_chosen}
 use Rattle.premise_rows.specs.event_assume_rows.assume_rows.SameInputs.{small_or, small_same}
 use Rattle.premise_rows.proofs.event_assume_rows.assume_rows.Shape.{weighs_few}
 

@@ -5,10 +5,10 @@ use Rattle.circuit_theory.specs.Cover.{Cover}
 use Rattle.sec_base.specs.declared.settings.Settings.{Settings}
 use Rattle.blif_read.specs.declared.design.BlifModel.{BlifModel}
 use Rattle.blif_read.specs.declared.design.Statement.TheVariants.{Names}
-use Rattle.check_meaning.specs.Answer.{AreComparableUnder}
-use Rattle.check_meaning.specs.design_rows.Designs.{one_model}
-use Rattle.check_meaning.specs.design_rows.Small.{Small, small_and}
-use Rattle.check_meaning.specs.design_rows.Texts.{on_and}
+use Rattle.job_check.specs.check_meaning.Answer.{AreComparableUnder}
+use Rattle.job_check.specs.check_meaning.design_rows.Designs.{one_model}
+use Rattle.job_check.specs.check_meaning.design_rows.Small.{Small, small_and}
+use Rattle.job_check.specs.check_meaning.design_rows.Texts.{on_and}
 
 -- an or by its two rows
 abbrev pub on_or : List ℕ

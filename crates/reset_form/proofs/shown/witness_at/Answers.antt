@@ -5,10 +5,10 @@ use Rattle.pair_decide.specs.declared.query.Query.{Query}
 use Rattle.obligations.specs.declared.obligation.Obligation.{Obligation}
 use Rattle.obligations.specs.declared.obligation.Difference.{Difference}
 use Rattle.sec_setup.specs.declared.setup.Setup.{Setup}
-use Rattle.shift_variables.specs.cycle_variables.Cycles.{AreInCycles}
+use Rattle.cbf_unfold.specs.shift_variables.cycle_variables.Cycles.{AreInCycles}
 use Rattle.reset_form.specs.declared.reset_functions.bases.Bases.{Bases}
 use Rattle.reset_form.specs.declared.reset_functions.functions.Functions.{Functions}
-use Rattle.outcome.specs.declared.verdict.ResetWitness.{ResetWitness}
+use Rattle.obligations.specs.declared.outcome.verdict.ResetWitness.{ResetWitness}
 use Rattle.reset_form.specs.Shown.{IsShowable, IsWitnessOf, IsWitnessAt}
 use Rattle.reset_form.proofs.shown.witness_at.Goals as goal
 

@@ -3,7 +3,7 @@ use Rattle.std.proofs.Common.{◌≡◌, ◌∙◌, ℕ, Bool, List, ap}
 use Rattle.circuit_theory.specs.Circuit.{Circuit}
 use Rattle.flat_net.specs.View.{circuit_of}
 use Rattle.circuit_laws.specs.reset_laws.Reset.{powers}
-use Rattle.shift_variables.specs.Sequences.{bits_at}
+use Rattle.cbf_unfold.specs.shift_variables.Sequences.{bits_at}
 use Rattle.reset_form.proofs.witness.witness_of.Goals as goal
 
 powers_as : (c : Circuit ℕ) (base : ℕ) (places : List (ℕ × ℕ)) (read vars : List ℕ) (taken bits : List Bool) → read ≡ vars → taken ≡ bits → powers c base (bits_at places read taken) ≡ powers c base (bits_at places vars bits)

@@ -1,7 +1,7 @@
 use Rattle.std.proofs.Common.{◌≡◌, ◌+◌, ◌-◌, ◌++◌, ◌∷◌, [], Some, None, sym, ◌∙◌, ap, arith}
-use Rattle.aiger_records.specs.declared.header.Header.{Header}
-use Rattle.aiger_records.specs.Records.{Taken, record_at, body_length}
-use Rattle.aiger_records.specs.Faults.{fault_of}
+use Rattle.aiger_read.specs.declared.aiger_records.header.Header.{Header}
+use Rattle.aiger_read.specs.aiger_records.Records.{Taken, record_at, body_length}
+use Rattle.aiger_read.specs.aiger_records.Faults.{fault_of}
 use Rattle.aiger_read.specs.aiger_file.Reading.{body_of}
 use Rattle.aiger_read.proofs.aiger_file.Bodies.{body_begins, body_goes_on, body_breaks, body_is_faulty, refused}
 use Rattle.aiger_read.proofs.aiger_file.reader.read_body.Goals as goal

@@ -1,5 +1,5 @@
 use Rattle.std.proofs.Common.{◌≡◌, ◌+◌, ◌-◌, ◌≤◌, length}
-use Rattle.aiger_records.specs.Records.{body_length}
+use Rattle.aiger_read.specs.aiger_records.Records.{body_length}
 use Rattle.aiger_read.specs.aiger_file.Reading.{body_from, body_of}
 use Rattle.aiger_read.specs.aiger_file.State.{BodyTo}
 use Rattle.aiger_read.proofs.aiger_file.reader.read_body.Given as goal

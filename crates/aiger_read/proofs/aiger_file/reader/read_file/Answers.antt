@@ -1,9 +1,9 @@
 use Rattle.std.proofs.Common.{rules, ◌≡◌, false, List, [], ◌∷◌, length, arith, refl, sym, ◌∙◌, ap, subst, suc}
 use Rattle.std.specs.List.{All}
 use Rattle.std.proofs.lemmas.Grind.{common_steps}
-use Rattle.aiger_records.specs.declared.header.Header.{Header}
-use Rattle.aiger_records.specs.declared.record.Record.{Record}
-use Rattle.aiger_records.specs.Faults.{has_bad_literal, DefinesOnce}
+use Rattle.aiger_read.specs.declared.aiger_records.header.Header.{Header}
+use Rattle.aiger_read.specs.declared.aiger_records.record.Record.{Record}
+use Rattle.aiger_read.specs.aiger_records.Faults.{has_bad_literal, DefinesOnce}
 use Rattle.aiger_read.specs.declared.aiger_file.symbol.Named.{Named}
 use Rattle.aiger_read.specs.aiger_file.Symbols.{Symbol}
 use Rattle.aiger_read.specs.aiger_file.Reading.{named_by}

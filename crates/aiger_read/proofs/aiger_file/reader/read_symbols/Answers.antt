@@ -1,5 +1,5 @@
 use Rattle.std.proofs.Common.{◌≡◌, List, ◌∷◌, Option, Some, None, false, sym, ◌∙◌, ap, subst, arith}
-use Rattle.aiger_records.specs.Lines.{Cut}
+use Rattle.aiger_read.specs.aiger_records.Lines.{Cut}
 use Rattle.aiger_read.specs.aiger_file.Symbols.{Symbol, the_symbol, symbols_of, symbol_fault, is_end}
 use Rattle.aiger_read.specs.aiger_file.Reading.{first_symbol_fault}
 use Rattle.aiger_read.specs.aiger_file.State.{SymbolsTo}

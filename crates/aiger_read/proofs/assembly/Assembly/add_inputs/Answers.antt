@@ -1,7 +1,7 @@
 use Rattle.std.proofs.Common.{◌∙◌, ◌≤◌, ◌∷◌, [], ℕ, List, take, length, get_or, Some, refl, sym, ap, subst, arith}
 use Rattle.flat_net.specs.Makes.{MakerView}
-use Rattle.aiger_records.specs.declared.record.Record.{Record}
-use Rattle.aiger_records.specs.declared.record.Record.TheVariants.{Input}
+use Rattle.aiger_read.specs.declared.aiger_records.record.Record.{Record}
+use Rattle.aiger_read.specs.declared.aiger_records.record.Record.TheVariants.{Input}
 use Rattle.aiger_read.specs.aiger_file.aiger_graph.Circuit.{input_of, input_literals}
 use Rattle.std.proofs.lemmas.List.{length-append, take_all}
 use Rattle.aiger_read.specs.aiger_file.Names.{name_of}

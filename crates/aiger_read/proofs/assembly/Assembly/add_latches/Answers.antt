@@ -2,8 +2,8 @@ use Rattle.std.proofs.Common.{◌∙◌, ◌≤◌, ◌∷◌, [], ℕ, List, ta
 use Rattle.std.proofs.lemmas.List.{length-append, take_all}
 use Rattle.sec_base.specs.declared.basics.Init.{Init}
 use Rattle.flat_net.specs.Makes.{MakerView, with_latch}
-use Rattle.aiger_records.specs.declared.record.Record.{Record}
-use Rattle.aiger_records.specs.declared.record.Record.TheVariants.{Input, Latch}
+use Rattle.aiger_read.specs.declared.aiger_records.record.Record.{Record}
+use Rattle.aiger_read.specs.declared.aiger_records.record.Record.TheVariants.{Input, Latch}
 use Rattle.aiger_read.specs.aiger_file.Names.{name_of}
 use Rattle.aiger_read.specs.aiger_file.aiger_graph.Circuit.{LatchLine, latch_of, input_literals, latches_in}
 use Rattle.aiger_read.specs.Made.{IsMade}

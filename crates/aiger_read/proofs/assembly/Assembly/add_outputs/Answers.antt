@@ -5,8 +5,8 @@ use Rattle.aiger_read.specs.Signals.{is_gate}
 use Rattle.flat_net.specs.declared.signals.Signal.{Signal}
 use Rattle.flat_net.specs.Makes.{MakerView, with_output}
 use Rattle.aiger_read.proofs.aiger_file.aiger_graph.net_assembly.Nexts.{read_at}
-use Rattle.aiger_records.specs.declared.record.Record.{Record}
-use Rattle.aiger_records.specs.declared.record.Record.TheVariants.{Input, Output}
+use Rattle.aiger_read.specs.declared.aiger_records.record.Record.{Record}
+use Rattle.aiger_read.specs.declared.aiger_records.record.Record.TheVariants.{Input, Output}
 use Rattle.aiger_read.specs.aiger_file.Names.{name_of}
 use Rattle.aiger_read.specs.aiger_file.aiger_graph.Circuit.{output_of, input_literals, latches_in, output_literals}
 use Rattle.aiger_read.specs.Made.{HasOutputs}

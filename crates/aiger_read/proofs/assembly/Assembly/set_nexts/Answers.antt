@@ -3,8 +3,8 @@ use Rattle.flat_net.specs.declared.signals.Signal.{Signal}
 use Rattle.flat_net.specs.View.{NetView}
 use Rattle.aiger_read.specs.aiger_file.aiger_graph.net_assembly.Shown.{with_nexts}
 use Rattle.aiger_read.proofs.aiger_file.aiger_graph.net_assembly.Nexts.{take_whole, read_at}
-use Rattle.aiger_records.specs.declared.record.Record.{Record}
-use Rattle.aiger_records.specs.declared.record.Record.TheVariants.{Input, Latch}
+use Rattle.aiger_read.specs.declared.aiger_records.record.Record.{Record}
+use Rattle.aiger_read.specs.declared.aiger_records.record.Record.TheVariants.{Input, Latch}
 use Rattle.aiger_read.specs.aiger_file.aiger_graph.Circuit.{LatchLine, latch_of, latches_in, output_literals}
 use Rattle.aiger_read.specs.Signals.{all_literals}
 use Rattle.aiger_read.specs.Made.{nexts_of}

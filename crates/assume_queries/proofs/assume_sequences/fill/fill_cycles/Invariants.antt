@@ -2,7 +2,7 @@ use Rattle.std.proofs.Common.{◌≡◌, ◌-◌, ℕ, Bool, length}
 use Rattle.circuit_theory.specs.Query.{same_shift}
 use Rattle.circuit_theory.specs.Sequence.{sequence_rows_from}
 use Rattle.circuit_laws.specs.reset_laws.Reset.{reset_rows}
-use Rattle.shift_variables.specs.Variables.{variables_of}
+use Rattle.cbf_unfold.specs.shift_variables.Variables.{variables_of}
 use Rattle.assume_laws.specs.Sequences.{filled}
 use Rattle.assume_queries.specs.assume_sequences.Filled.{bit_of}
 use Rattle.assume_queries.proofs.assume_sequences.fill.fill_cycles.Given as goal

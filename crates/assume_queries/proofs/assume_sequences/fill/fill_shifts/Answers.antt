@@ -4,8 +4,8 @@ use Rattle.std.proofs.lemmas.Option.{get_or_from_slice_get}
 use Rattle.std.specs.List.{list_any}
 use Rattle.circuit_theory.specs.Query.{Variable, same_shift}
 use Rattle.circuit_theory.specs.Sequence.{sequence_rows_from}
-use Rattle.shift_variables.specs.Variables.{variables_of}
-use Rattle.shift_variables.proofs.Reading.{item_at}
+use Rattle.cbf_unfold.specs.shift_variables.Variables.{variables_of}
+use Rattle.cbf_unfold.proofs.shift_variables.Reading.{item_at}
 use Rattle.assume_laws.specs.Sequences.{filled}
 use Rattle.assume_queries.specs.assume_sequences.Filled.{bit_of}
 use Rattle.assume_queries.proofs.assume_sequences.FilledRows.{rows_size, shifts_more}

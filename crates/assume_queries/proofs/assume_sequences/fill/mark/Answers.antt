@@ -3,7 +3,7 @@ use Rattle.std.proofs.Common.{◌≡◌, ◌≢◌, ◌∙◌, ◌==◌, ◌<◌
 use Rattle.std.specs.Prelude.{◌||◌, ◌⊎◌}
 use Rattle.circuit_theory.proofs.Inputs.{test_refl}
 use Rattle.circuit_theory.proofs.Sums.{same_or_not}
-use Rattle.shift_variables.proofs.Assignments.{test_differs}
+use Rattle.cbf_unfold.proofs.shift_variables.Assignments.{test_differs}
 use Rattle.assume_queries.proofs.assume_sequences.fill.mark.Goals as goal
 
 or_true : (b : Bool) → (b || true) ≡ true

@@ -4,8 +4,8 @@ use Rattle.std.specs.Prelude.{◌||◌}
 use Rattle.std.specs.List.{list_any}
 use Rattle.std.proofs.lemmas.List.{map-append, take_more, take_all, length-replicate, get_or-replicate}
 use Rattle.circuit_theory.specs.Query.{Variable, same_shift}
-use Rattle.shift_variables.specs.Variables.{variable_of, variables_of}
-use Rattle.shift_variables.proofs.Reading.{pair_is}
+use Rattle.cbf_unfold.specs.shift_variables.Variables.{variable_of, variables_of}
+use Rattle.cbf_unfold.proofs.shift_variables.Reading.{pair_is}
 use Rattle.assume_queries.specs.assume_sequences.Filled.{has_place}
 use Rattle.assume_queries.proofs.assume_sequences.FilledRows.{any_push}
 use Rattle.assume_queries.proofs.assume_sequences.fill.places_met.Goals as goal

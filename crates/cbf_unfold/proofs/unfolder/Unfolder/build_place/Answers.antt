@@ -1,7 +1,7 @@
 -- The place was met before, it weighs too much, or its literal is kept.
 use Rattle.std.proofs.Common.{◌+◌, ℕ, List, sym, subst, arith, ap}
 use Rattle.aig.specs.declared.node.Lit.{Lit}
-use Rattle.unfold_places.proofs.Lists.{not_both}
+use Rattle.cbf_unfold.proofs.unfold_places.Lists.{not_both}
 use Rattle.cbf_unfold.specs.Building.{IsLater}
 use Rattle.cbf_unfold.specs.View.{UnfolderView}
 use Rattle.cbf_unfold.proofs.Going.{later_none, ready_weight, holds_at, ready_as, room_at, over_at, weight_later, put_holds, put_met, put_later}

@@ -5,7 +5,7 @@ use Rattle.std.proofs.lemmas.List.{take_all}
 use Rattle.flat_net.specs.declared.signals.Signal.{Signal}
 use Rattle.flat_net.specs.View.{circuit_of}
 use Rattle.cbf_unfold.specs.Unfolded.{Fits}
-use Rattle.unfold_places.specs.Visitors.{AreLinks, AreInputNumbers}
+use Rattle.cbf_unfold.specs.unfold_places.Visitors.{AreLinks, AreInputNumbers}
 use Rattle.cbf_unfold.specs.Found.{IsFound}
 use Rattle.cbf_unfold.proofs.unfolder.Unfolder.functions.Goals as goal
 

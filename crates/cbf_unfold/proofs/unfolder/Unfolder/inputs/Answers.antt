@@ -5,7 +5,7 @@ use Rattle.flat_net.specs.View.{circuit_of}
 use Rattle.flat_net.specs.Sound.{IsSound}
 use Rattle.aig.specs.declared.node.Lit.{Lit}
 use Rattle.cbf_unfold.specs.View.{IsOrderOf}
-use Rattle.unfold_places.specs.Visitors.{AreInputNumbers}
+use Rattle.cbf_unfold.specs.unfold_places.Visitors.{AreInputNumbers}
 use Rattle.cbf_unfold.proofs.Going.{entries_within}
 use Rattle.cbf_unfold.proofs.Finish.{from_own, to_own}
 use Rattle.cbf_unfold.proofs.unfolder.Unfolder.inputs.Goals as goal

@@ -4,8 +4,8 @@ use Rattle.std.specs.List.{All}
 use Rattle.flat_net.specs.View.{circuit_of}
 use Rattle.flat_net.specs.Sound.{IsSound}
 use Rattle.aig.specs.declared.node.Lit.{Lit}
-use Rattle.unfold_places.specs.Planned.{IsPlanned}
-use Rattle.unfold_places.specs.Visitors.{AreLinks}
+use Rattle.cbf_unfold.specs.unfold_places.Planned.{IsPlanned}
+use Rattle.cbf_unfold.specs.unfold_places.Visitors.{AreLinks}
 use Rattle.cbf_unfold.proofs.Going.{entries_within}
 use Rattle.cbf_unfold.proofs.Finish.{from_own, to_own}
 use Rattle.cbf_unfold.proofs.Listing.{few_entries}

@@ -4,10 +4,10 @@ use Rattle.std.specs.List.{Contains}
 use Rattle.std.proofs.lemmas.Result.{IfOk-weaker}
 use Rattle.flat_net.specs.declared.signals.Signal.{Signal}
 use Rattle.flat_net.specs.View.{circuit_of}
-use Rattle.unfold_places.specs.Visitors.{AreLinks, AreInputNumbers, AreVisitors}
+use Rattle.cbf_unfold.specs.unfold_places.Visitors.{AreLinks, AreInputNumbers, AreVisitors}
 use Rattle.cbf_unfold.specs.Building.{AreNumbered}
 use Rattle.cbf_unfold.proofs.Listing.{single}
-use Rattle.unfold_places.proofs.Candidates.{candidates_all}
+use Rattle.cbf_unfold.proofs.unfold_places.Candidates.{candidates_all}
 use Rattle.cbf_unfold.proofs.unfolder.Unfolder.list_of.Goals as goal
 
 pub inputs-requires : goal.inputs-requires

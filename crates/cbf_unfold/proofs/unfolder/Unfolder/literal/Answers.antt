@@ -7,11 +7,11 @@ use Rattle.flat_net.specs.View.{NetView, circuit_of}
 use Rattle.flat_net.specs.Sound.{IsSound}
 use Rattle.aig.specs.declared.node.Lit.{Lit}
 use Rattle.flat_net.specs.Weights.{driver_weight, gate_weight, weight_at}
-use Rattle.unfold_places.specs.Places.{Steps}
-use Rattle.unfold_places.specs.Reach.{IsMet}
-use Rattle.unfold_places.specs.Literals.{IsGateLit}
+use Rattle.cbf_unfold.specs.unfold_places.Places.{Steps}
+use Rattle.cbf_unfold.specs.unfold_places.Reach.{IsMet}
+use Rattle.cbf_unfold.specs.unfold_places.Literals.{IsGateLit}
 use Rattle.flat_net.proofs.Drivers.{driven_gate, driven_latch}
-use Rattle.unfold_places.proofs.PlaceLits.{gate_met, gate_counts}
+use Rattle.cbf_unfold.proofs.unfold_places.PlaceLits.{gate_met, gate_counts}
 use Rattle.cbf_unfold.proofs.PlaceLits.{input_is, gate_is, gate_grown, grown_as, grown_none, latch_met, latch_is}
 use Rattle.cbf_unfold.proofs.unfolder.Unfolder.literal.Goals as goal
 

@@ -4,7 +4,7 @@ use Rattle.std.specs.List.{All}
 use Rattle.std.proofs.lemmas.List.Elements.{All-filter}
 use Rattle.std.proofs.lemmas.Nat.{one_shl}
 use Rattle.aig.specs.declared.node.Lit.{Lit}
-use Rattle.unfold_places.specs.Visitors.{ArePlacesAt, has_bit, with_bits}
+use Rattle.cbf_unfold.specs.unfold_places.Visitors.{ArePlacesAt, has_bit, with_bits}
 use Rattle.cbf_unfold.proofs.unfolder.Unfolder.places_with.Goals as goal
 
 pub with_bits-requires : goal.with_bits-requires

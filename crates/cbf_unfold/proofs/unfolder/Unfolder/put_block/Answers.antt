@@ -9,8 +9,8 @@ use Rattle.flat_net.specs.View.{circuit_of}
 use Rattle.aig.specs.declared.node.Lit.{Lit}
 use Rattle.cbf_unfold.specs.Unfolded.{Fits}
 use Rattle.cbf_unfold.specs.Building.{AreNumbered}
-use Rattle.unfold_places.specs.Visitors.{AreVisitors, AreCandidates, with_bits}
-use Rattle.unfold_places.proofs.Candidates.{candidates_near}
+use Rattle.cbf_unfold.specs.unfold_places.Visitors.{AreVisitors, AreCandidates, with_bits}
+use Rattle.cbf_unfold.proofs.unfold_places.Candidates.{candidates_near}
 use Rattle.cbf_unfold.proofs.Listing.{part_at, part_length, drop_at, take_at, found_more, found_push}
 use Rattle.cbf_unfold.proofs.unfolder.Unfolder.put_block.Goals as goal
 

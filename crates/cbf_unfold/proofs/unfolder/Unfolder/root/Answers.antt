@@ -3,7 +3,7 @@ use Rattle.std.proofs.Common.{◌≡◌, ◌∙◌, ◌<◌, ℕ, length, sym, a
 use Rattle.std.specs.List.{Contains}
 use Rattle.flat_net.specs.View.{NetView}
 use Rattle.flat_net.specs.Sound.{IsSound}
-use Rattle.unfold_places.proofs.Lists.{not_both}
+use Rattle.cbf_unfold.proofs.unfold_places.Lists.{not_both}
 use Rattle.cbf_unfold.specs.View.{UnfolderView}
 use Rattle.cbf_unfold.specs.Building.{IsMet, IsLater}
 use Rattle.cbf_unfold.proofs.Going.{later_none, met_later}

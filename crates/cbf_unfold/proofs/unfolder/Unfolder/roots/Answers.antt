@@ -6,7 +6,7 @@ use Rattle.std.proofs.lemmas.List.Elements.{All-get_or}
 use Rattle.flat_net.specs.declared.signals.Signal.{Signal}
 use Rattle.flat_net.specs.View.{NetView}
 use Rattle.aig.specs.declared.node.Lit.{Lit}
-use Rattle.unfold_places.proofs.Lists.{not_both}
+use Rattle.cbf_unfold.proofs.unfold_places.Lists.{not_both}
 use Rattle.cbf_unfold.proofs.Going.{later_none, later_trans, room_later}
 use Rattle.cbf_unfold.proofs.Finish.{done_more, roots_more, over_some}
 use Rattle.cbf_unfold.proofs.unfolder.Unfolder.roots.Goals as goal

@@ -3,7 +3,7 @@ use Rattle.std.proofs.Common.{◌∙◌, ℕ, List, sym, subst, arith}
 use Rattle.std.specs.List.{Contains}
 use Rattle.std.proofs.lemmas.List.Elements.{Contains-push}
 use Rattle.flat_net.specs.Sound.{IsSound}
-use Rattle.unfold_places.proofs.Lists.{not_both}
+use Rattle.cbf_unfold.proofs.unfold_places.Lists.{not_both}
 use Rattle.cbf_unfold.specs.Unfolded.{IsUnfolded, Fits}
 use Rattle.cbf_unfold.specs.Building.{IsLater}
 use Rattle.cbf_unfold.proofs.Finish.{room_first, unfolded_from}

@@ -4,8 +4,8 @@ use Rattle.std.specs.List.{AllZip, Contains}
 use Rattle.flat_net.specs.declared.signals.Signal.{Signal}
 use Rattle.flat_net.specs.Sound.{IsSound}
 use Rattle.circuit_theory.proofs.Lists.{zip_weaker}
-use Rattle.unfold_places.specs.declared.signal_function.Unfolded.{Unfolded}
-use Rattle.unfold_places.proofs.Lists.{not_both}
+use Rattle.cbf_unfold.specs.declared.unfold_places.signal_function.Unfolded.{Unfolded}
+use Rattle.cbf_unfold.proofs.unfold_places.Lists.{not_both}
 use Rattle.cbf_unfold.specs.Unfolded.{IsUnfolded, Fits}
 use Rattle.cbf_unfold.specs.Building.{IsLater}
 use Rattle.cbf_unfold.specs.Found.{IsFound}

@@ -5,8 +5,8 @@ use Rattle.std.proofs.lemmas.Result.{IfOk-weaker}
 use Rattle.flat_net.specs.declared.signals.Signal.{Signal}
 use Rattle.flat_net.specs.View.{NetView, circuit_of}
 use Rattle.flat_net.specs.Sound.{IsSound}
-use Rattle.unfold_places.specs.Reach.{AreInputsOf}
-use Rattle.unfold_places.specs.Visitors.{AreVisitors}
+use Rattle.cbf_unfold.specs.unfold_places.Reach.{AreInputsOf}
+use Rattle.cbf_unfold.specs.unfold_places.Visitors.{AreVisitors}
 use Rattle.cbf_unfold.specs.View.{IsOrderOf}
 use Rattle.cbf_unfold.specs.Building.{AreNumbered}
 use Rattle.cbf_unfold.proofs.Finish.{from_own, to_own}

@@ -1,8 +1,8 @@
 -- The net and the places are the unfolder's own.
 use Rattle.std.proofs.Common.{ℕ, refl, sym, subst, IfOk}
 use Rattle.flat_net.specs.View.{circuit_of}
-use Rattle.unfold_places.specs.Planned.{IsPlanned}
-use Rattle.unfold_places.specs.Visitors.{AreMet, AreLinks, AreVisitors}
+use Rattle.cbf_unfold.specs.unfold_places.Planned.{IsPlanned}
+use Rattle.cbf_unfold.specs.unfold_places.Visitors.{AreMet, AreLinks, AreVisitors}
 use Rattle.cbf_unfold.proofs.Finish.{from_own, to_own}
 use Rattle.cbf_unfold.proofs.Listing.{are_met}
 use Rattle.cbf_unfold.proofs.unfolder.Unfolder.visitors.Goals as goal

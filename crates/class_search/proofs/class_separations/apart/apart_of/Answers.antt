@@ -5,7 +5,7 @@ use Rattle.std.proofs.lemmas.Option.{slice_get-get_or, slice_get_within}
 use Rattle.class_search.proofs.flat_net.Places.{one_at}
 use Rattle.aig.specs.declared.node.Node.{Node}
 use Rattle.aig.specs.Values.{value}
-use Rattle.lane_eval.specs.Tables.{Covers}
+use Rattle.aig.specs.lane_eval.Tables.{Covers}
 use Rattle.pair_decide.specs.Queries.{assigned_to}
 use Rattle.class_search.specs.declared.compare.Enable.{Enable}
 use Rattle.class_search.proofs.class_separations.apart.apart_of.Goals as goal

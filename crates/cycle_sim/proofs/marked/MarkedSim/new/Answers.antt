@@ -20,3 +20,15 @@ invariant_of-result c = (
 pub returns-clause-run : goal.returns-clause-run
 returns-clause-run c =
     begins_marked _ _ _ (subst IsSound (sym c.in_ok-sim.ensures.net) c.keeps.ensures.sound) c.in_ok-sim.ensures.run (ap (λ (n : NetView). length n.latches) (sym c.in_ok-sim.ensures.net)) c.in_ok-tried.ensures.ahead
+
+pub returns-clause-cycles : goal.returns-clause-cycles
+returns-clause-cycles c = c.in_ok-sim.ensures.cycles
+
+pub returns-clause-net : goal.returns-clause-net
+returns-clause-net c = c.in_ok-sim.ensures.net
+
+pub cones_of-requires : goal.cones_of-requires
+cones_of-requires c = ap length c.as_slice.ensures ∙ c.requires.enabled
+
+pub returns-clause-enabled : goal.returns-clause-enabled
+returns-clause-enabled c = c.in_ok-bits.ensures

@@ -3,7 +3,11 @@ use Rattle.flat_net.specs.declared.parts.Port.{Port}
 use Rattle.cycle_sim.proofs.Lists.{item_at}
 use Rattle.cycle_sim.specs.pair_runs.Feeding.{IsColumn}
 use Rattle.cycle_sim.proofs.pair_runs.Places.{each_more}
+use Rattle.std.proofs.lemmas.Option.{slice_get_within}
 use Rattle.cycle_sim.proofs.pair_runs.feed.columns_of.Goals as goal
+
+none_in : {X : Type 0} (i : ℕ) (x : X) → slice_get [] i ≡ Some x → ⊥
+none_in {X} i x h = let l = slice_get_within [] i x h in omega arith
 
 pub loop-port-preserved : goal.loop-port-preserved
 loop-port-preserved c =
@@ -19,3 +23,14 @@ loop-port-preserved c =
       λ i p q at_p at_q. each_more (λ (j : ℕ) (p : Port) (q : Option ℕ). IsColumn c.args.header.now p.name q) inputs columns port column (ap (slice_get inputs) c.loop-port.invariant.0 ∙ at) named
           c.loop-port.invariant.1 i p q at_p (sym (ap (λ (cs : List (Option ℕ)). slice_get cs i) grown) ∙ at_q),
     )
+
+pub returns : goal.returns
+returns c =
+    let all : length c.loop-port.columns.items ≡ length c.args.net.now.inputs = omega (arith, c.loop-port.invariant.0, c.loop-port-test.false, c.loop-port.auto.port-index-end, ap length c.inputs-port-items.ensures) in
+    record { each = all; named = c.loop-port.invariant.1 }
+
+pub loop-port-init : goal.loop-port-init
+loop-port-init c = (
+  ap length c.new-columns.ensures.items,
+  λ i port column at there. absurd (none_in i column (sym (ap (λ (cs : List (Option ℕ)). slice_get cs i) c.new-columns.ensures.items) ∙ there)),
+)

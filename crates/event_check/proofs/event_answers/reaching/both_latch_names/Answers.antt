@@ -1,6 +1,6 @@
 -- The names of the latches of both nets.
 use Rattle.std.proofs.Common.{◌∙◌, ap}
-use Rattle.event_meaning.specs.event_names.event_fits.Named.{latch_names}
+use Rattle.event_setup.specs.event_meaning.event_names.event_fits.Named.{latch_names}
 use Rattle.event_check.proofs.event_answers.reaching.both_latch_names.Goals as goal
 
 pub returns : goal.returns

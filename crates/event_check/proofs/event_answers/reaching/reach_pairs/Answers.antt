@@ -1,6 +1,6 @@
 -- Enables that aren't known.
 use Rattle.std.proofs.Common.{List, ℕ, sym, subst}
-use Rattle.under_base.proofs.compare_base.Refusals.{refused_by}
+use Rattle.plain_check.proofs.under_base.compare_base.Refusals.{refused_by}
 use Rattle.event_check.specs.event_answers.Reached.{ReachesPairs, StopsAtLimit}
 use Rattle.event_check.proofs.event_answers.Stopping.{unknown_stops}
 use Rattle.event_check.proofs.event_answers.Refusals.{unknown_refused}

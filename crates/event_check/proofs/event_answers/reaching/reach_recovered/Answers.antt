@@ -1,6 +1,6 @@
 -- A cycle is refused.
-use Rattle.under_base.specs.compare_base.Compared.{refusal_of}
-use Rattle.under_base.proofs.compare_base.Refusals.{refused_by}
+use Rattle.plain_check.specs.under_base.compare_base.Compared.{refusal_of}
+use Rattle.plain_check.proofs.under_base.compare_base.Refusals.{refused_by}
 use Rattle.event_check.specs.event_answers.Reached.{ReachesPairs}
 use Rattle.event_check.proofs.event_answers.Refusals.{cycle_refused}
 use Rattle.event_check.proofs.event_answers.reaching.reach_recovered.Goals as goal

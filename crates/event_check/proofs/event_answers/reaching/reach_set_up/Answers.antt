@@ -1,6 +1,6 @@
 -- The class map is made; or why not.
 use Rattle.std.proofs.Common.{refl}
-use Rattle.under_base.proofs.compare_base.Refusals.{refused_by}
+use Rattle.plain_check.proofs.under_base.compare_base.Refusals.{refused_by}
 use Rattle.event_check.specs.event_answers.Laws.{HaveClassesGiven}
 use Rattle.event_check.specs.event_answers.Reached.{ReachesPairs}
 use Rattle.event_check.proofs.event_answers.Stopping.{reached_first, reached_then, setup_askable, unclassed_stops}

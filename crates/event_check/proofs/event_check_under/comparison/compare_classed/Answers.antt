@@ -1,12 +1,12 @@
 -- The outcome by the pairs, or why they can't be compared.
 use Rattle.std.proofs.Common.{◌∙◌, ◌+◌, ℕ, List, length, Some, refl, sym, ap, subst, arith, inr}
-use Rattle.under_base.proofs.compare_base.Refusals.{refused_by}
+use Rattle.plain_check.proofs.under_base.compare_base.Refusals.{refused_by}
 use Rattle.assume_queries.specs.assume_sequences.assume_taken.Premises.{IsPremiseOf}
 use Rattle.event_check.proofs.event_answers.Told.{told_outcome, outcome_by}
-use Rattle.event_meaning.specs.event_meaning_under.Answered.{ComparedInEventsUnder, IsComparedInEventsUnder}
+use Rattle.event_setup.specs.event_meaning.event_meaning_under.Answered.{ComparedInEventsUnder, IsComparedInEventsUnder}
 use Rattle.event_check.proofs.event_check_under.event_answers_under.Answering.{can_be_premise, met, pairs_compared}
 use Rattle.event_check.proofs.event_check_under.event_answers_under.Refusals.{pairs_refused_under}
-use Rattle.under_base.specs.Met.{shared_by}
+use Rattle.plain_check.specs.under_base.Met.{shared_by}
 use Rattle.event_check.proofs.event_check_under.comparison.compare_classed.Goals as goal
 
 pub compare_pairs-requires-clause-premise : goal.compare_pairs-requires-clause-premise

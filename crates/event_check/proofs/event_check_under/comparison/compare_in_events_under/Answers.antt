@@ -1,15 +1,15 @@
 -- Interfaces that don't match, what is taken, and the outcome where that wasn't decided.
 use Rattle.std.proofs.Common.{◌∙◌, ℕ, List, length, sym, ap, subst, arith, Some, Err, inl}
 use Rattle.sec_setup.proofs.ports.Numbering.{few_shared}
-use Rattle.outcome.specs.declared.verdict.LimitAt.TheVariants as limit_at
+use Rattle.obligations.specs.declared.outcome.verdict.LimitAt.TheVariants as limit_at
 use Rattle.assume_queries.specs.assume_sequences.assume_taken.Premises.{IsTaken}
-use Rattle.event_meaning.specs.event_meaning_under.Taken.{IsUndecidedBy}
-use Rattle.event_meaning.specs.event_meaning_under.CompareError.{CompareError}
-use Rattle.under_base.specs.compare_base.Compared.{refusal_of}
-use Rattle.under_base.proofs.compare_base.Refusals.{refused_by}
-use Rattle.under_base.specs.Met.{IsAssumptionLimit}
+use Rattle.event_setup.specs.event_meaning.event_meaning_under.Taken.{IsUndecidedBy}
+use Rattle.event_setup.specs.event_meaning.event_meaning_under.CompareError.{CompareError}
+use Rattle.plain_check.specs.under_base.compare_base.Compared.{refusal_of}
+use Rattle.plain_check.proofs.under_base.compare_base.Refusals.{refused_by}
+use Rattle.plain_check.specs.under_base.Met.{IsAssumptionLimit}
 use Rattle.event_check.proofs.event_answers.Told.{told_outcome, outcome_by, limit_at as found_limit}
-use Rattle.event_meaning.specs.event_meaning_under.Answered.{ComparedInEventsUnder}
+use Rattle.event_setup.specs.event_meaning.event_meaning_under.Answered.{ComparedInEventsUnder}
 use Rattle.event_check.proofs.event_check_under.event_answers_under.Answering.{assumption_limit}
 use Rattle.event_check.proofs.event_check_under.event_answers_under.Refusals.{unmatched_under, untaken_under}
 use Rattle.event_check.proofs.event_check_under.comparison.compare_in_events_under.Goals as goal

@@ -1,14 +1,14 @@
 -- The limit of an enable or of a class, or what is refused before the pairs.
 use Rattle.std.proofs.Common.{◌+◌, ℕ, List, length, Some, Ok, sym, ap, subst, arith, inr}
-use Rattle.under_base.proofs.compare_base.Refusals.{refused_by}
+use Rattle.plain_check.proofs.under_base.compare_base.Refusals.{refused_by}
 use Rattle.assume_queries.specs.assume_sequences.assume_taken.Premises.{IsPremiseOf}
 use Rattle.event_check.specs.event_answers.Reached.{ReachesPairs}
 use Rattle.event_check.specs.declared.event_answers.reaching.Reached.{Reached}
 use Rattle.event_check.proofs.event_answers.Told.{limit_at, told_outcome}
-use Rattle.event_meaning.specs.event_meaning_under.Answered.{ComparedInEventsUnder, IsComparedInEventsUnder}
+use Rattle.event_setup.specs.event_meaning.event_meaning_under.Answered.{ComparedInEventsUnder, IsComparedInEventsUnder}
 use Rattle.event_check.proofs.event_check_under.event_answers_under.Answering.{limit_compared, met}
 use Rattle.event_check.proofs.event_check_under.event_answers_under.Refusals.{refused_under}
-use Rattle.under_base.specs.Met.{shared_by}
+use Rattle.plain_check.specs.under_base.Met.{shared_by}
 use Rattle.event_check.proofs.event_check_under.comparison.compare_met.Goals as goal
 
 pub returns-in_err-classed : goal.returns-in_err-classed

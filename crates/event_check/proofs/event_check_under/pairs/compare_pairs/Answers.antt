@@ -1,7 +1,7 @@
 -- What is found, or why the pairs can't be compared.
 use Rattle.std.proofs.Common.{length, refl, sym, subst, Err}
 use Rattle.std.specs.List.{All}
-use Rattle.event_meaning.specs.event_meaning_under.CompareError.{CompareError}
+use Rattle.event_setup.specs.event_meaning.event_meaning_under.CompareError.{CompareError}
 use Rattle.event_check.specs.event_answers.Asked.{IsPairOf}
 use Rattle.event_check.specs.event_answers.Finding.{IsNamedFound}
 use Rattle.event_check.specs.event_check_under.event_answers_under.Pairs.{FindsPairsUnder}

@@ -6,7 +6,7 @@ use Rattle.circuit_theory.specs.Sequence.{sequence_rows}
 use Rattle.circuit_theory.specs.EventFrames.{frame_of}
 use Rattle.circuit_theory.specs.Frame.{bits_as_shifts}
 use Rattle.event_nodes.specs.event_variables.Variables.{variables_of}
-use Rattle.shift_variables.specs.Variables as shift
+use Rattle.cbf_unfold.specs.shift_variables.Variables as shift
 use Rattle.assume_laws.specs.Sequences.{filled, filled_frame}
 use Rattle.assume_queries.specs.assume_sequences.Filled.{bit_of}
 use Rattle.event_under.proofs.event_shown_under.Shifts.{filled_same}

@@ -3,7 +3,7 @@ use Rattle.std.proofs.Common.{◌≡◌, ◌∙◌, ◌<◌, List, length, get_o
 use Rattle.std.proofs.lemmas.Option.{same_Some, slice_get-get_or, slice_get_within}
 use Rattle.obligations.specs.declared.obligation.Obligation.{Obligation}
 use Rattle.pair_decide.specs.declared.query.Query.{Query}
-use Rattle.event_findings.proofs.event_witness.Showing.{if_ok}
+use Rattle.event_form.proofs.event_findings.event_witness.Showing.{if_ok}
 use Rattle.event_under_form.specs.event_witness_under.Shown.{IsSequenceAt, IsSequenceOf}
 use Rattle.event_under_form.proofs.event_witness_under.sequence.sequence_of.Goals as goal
 

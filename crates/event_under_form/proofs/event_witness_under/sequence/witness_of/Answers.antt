@@ -7,7 +7,7 @@ use Rattle.circuit_theory.specs.Frame.{bits_as_shifts}
 use Rattle.event_nodes.specs.event_variables.Variables.{variables_of}
 use Rattle.assume_laws.specs.Sequences.{filled_frame}
 use Rattle.event_under.specs.event_shown_under.assume_sequences.Filled.{bit_of}
-use Rattle.event_findings.proofs.event_witness.Told.{rows_fit}
+use Rattle.event_form.proofs.event_findings.event_witness.Told.{rows_fit}
 use Rattle.event_under_form.proofs.event_witness_under.sequence.witness_of.Goals as goal
 
 pub rows_under-requires-clause-each : goal.rows_under-requires-clause-each

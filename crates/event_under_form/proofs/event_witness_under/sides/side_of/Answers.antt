@@ -1,8 +1,8 @@
 -- The value over the cone.
 use Rattle.std.proofs.Common.{◌≢◌, ◌∙◌, ℕ, [], ◌∷◌, length, refl, sym, ap, subst}
 use Rattle.std.specs.List.{AllPairs}
-use Rattle.lane_eval.specs.Tables.{Covers}
-use Rattle.event_findings.proofs.event_witness.Covering.{bit_told}
+use Rattle.aig.specs.lane_eval.Tables.{Covers}
+use Rattle.event_form.proofs.event_findings.event_witness.Covering.{bit_told}
 use Rattle.event_under_form.proofs.event_witness_under.sides.side_of.Goals as goal
 
 pub value_in_cone-requires-clause-each : goal.value_in_cone-requires-clause-each

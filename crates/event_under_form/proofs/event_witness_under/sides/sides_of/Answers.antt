@@ -1,5 +1,5 @@
 -- The variables of the query are all that each side reads.
-use Rattle.event_findings.proofs.event_witness.Covering.{left_covered, right_covered}
+use Rattle.event_form.proofs.event_findings.event_witness.Covering.{left_covered, right_covered}
 use Rattle.event_under_form.proofs.event_witness_under.sides.sides_of.Goals as goal
 
 pub side_of-requires-clause-covers : goal.side_of-requires-clause-covers

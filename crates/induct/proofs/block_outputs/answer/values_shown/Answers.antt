@@ -2,7 +2,7 @@
 use Rattle.std.proofs.Common.{◌≢◌, ◌∙◌, ℕ, Bool, List, [], ◌∷◌, length, sym, ap, subst, arith}
 use Rattle.std.specs.List.{AllPairs}
 use Rattle.aig.specs.Values.{value}
-use Rattle.lane_eval.specs.Tables.{Covers, assigned_to}
+use Rattle.aig.specs.lane_eval.Tables.{Covers, assigned_to}
 use Rattle.induct.proofs.block_outputs.answer.values_shown.Goals as goal
 
 pub value_in_cone-requires-clause-each : goal.value_in_cone-requires-clause-each

@@ -1,11 +1,11 @@
 -- The outcome of what is found by the setup, in which no latch is cut open.
 use Rattle.std.proofs.Common.{◌≡◌, ◌∙◌, [], length, sym, subst, Some, Ok, Err, inr}
-use Rattle.outcome.specs.declared.verdict.Outcome.{Outcome}
-use Rattle.outcome.specs.declared.verdict.Verdict.{Verdict}
+use Rattle.obligations.specs.declared.outcome.verdict.Outcome.{Outcome}
+use Rattle.obligations.specs.declared.outcome.verdict.Verdict.{Verdict}
 use Rattle.sec_setup.proofs.Uncut.{uncut}
-use Rattle.under_base.specs.declared.compare_base.error.CompareError.{CompareError}
-use Rattle.under_base.proofs.compare_base.Forms.{in_reset}
-use Rattle.under_base.specs.Compared.{ComparedUnder}
+use Rattle.plain_check.specs.declared.under_base.compare_base.error.CompareError.{CompareError}
+use Rattle.plain_check.proofs.under_base.compare_base.Forms.{in_reset}
+use Rattle.plain_check.specs.under_base.Compared.{ComparedUnder}
 use Rattle.job_check.proofs.compare_under.CutOutcomes.{over_shared, can_be_premise}
 use Rattle.job_check.proofs.compare_under.ResetOutcomes.{is_refused_from, outcome_is_compared_from_under}
 use Rattle.job_check.proofs.compare_under.comparison.compare_from.Goals as goal

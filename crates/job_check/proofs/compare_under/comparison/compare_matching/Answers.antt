@@ -1,11 +1,11 @@
 -- What is taken, and the outcome where that wasn't decided.
 use Rattle.std.proofs.Common.{ℕ, List, sym, subst, arith, Err, inl}
 use Rattle.sec_setup.proofs.ports.Numbering.{few_shared}
-use Rattle.under_base.specs.declared.compare_base.error.CompareError.{CompareError}
+use Rattle.plain_check.specs.declared.under_base.compare_base.error.CompareError.{CompareError}
 use Rattle.assume_queries.specs.assume_sequences.assume_taken.Premises.{IsTaken}
-use Rattle.under_base.specs.Taken.{IsUndecidedBy}
-use Rattle.under_base.specs.Compared.{ComparedUnder}
-use Rattle.under_base.proofs.Refusals.{untaken_under}
+use Rattle.plain_check.specs.under_base.Taken.{IsUndecidedBy}
+use Rattle.plain_check.specs.under_base.Compared.{ComparedUnder}
+use Rattle.plain_check.proofs.under_base.Refusals.{untaken_under}
 use Rattle.job_check.proofs.compare_under.CutOutcomes.{limit_of}
 use Rattle.job_check.proofs.compare_under.comparison.compare_matching.Goals as goal
 

@@ -2,10 +2,10 @@
 use Rattle.std.proofs.Common.{ℕ, ◌+◌, List, length, sym, ◌∙◌, subst}
 use Rattle.sec_setup.proofs.Uncut.{uncut, no_names}
 use Rattle.assume_queries.specs.assume_sequences.assume_taken.Premises.{IsPremiseOf}
-use Rattle.under_base.specs.compare_base.Compared.{refusal_of}
-use Rattle.under_base.proofs.compare_base.Refusals.{refused_by}
-use Rattle.under_base.specs.Compared.{ComparedUnder}
-use Rattle.under_base.proofs.Refusals.{unchosen_under}
+use Rattle.plain_check.specs.under_base.compare_base.Compared.{refusal_of}
+use Rattle.plain_check.proofs.under_base.compare_base.Refusals.{refused_by}
+use Rattle.plain_check.specs.under_base.Compared.{ComparedUnder}
+use Rattle.plain_check.proofs.under_base.Refusals.{unchosen_under}
 use Rattle.job_check.proofs.compare_under.CutOutcomes.{is_met}
 use Rattle.job_check.proofs.compare_under.comparison.compare_met.Goals as goal
 

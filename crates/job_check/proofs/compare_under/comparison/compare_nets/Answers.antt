@@ -1,9 +1,9 @@
 -- The outcome of what is found by the setup.
 use Rattle.std.proofs.Common.{length, sym, subst, Ok, Err, inr}
-use Rattle.outcome.specs.declared.verdict.Outcome.{Outcome}
-use Rattle.under_base.specs.declared.compare_base.error.CompareError.{CompareError}
-use Rattle.under_base.proofs.compare_base.Forms.{in_always}
-use Rattle.under_base.specs.Compared.{ComparedUnder}
+use Rattle.obligations.specs.declared.outcome.verdict.Outcome.{Outcome}
+use Rattle.plain_check.specs.declared.under_base.compare_base.error.CompareError.{CompareError}
+use Rattle.plain_check.proofs.under_base.compare_base.Forms.{in_always}
+use Rattle.plain_check.specs.under_base.Compared.{ComparedUnder}
 use Rattle.job_check.proofs.compare_under.CutOutcomes.{over_shared, can_be_premise, is_refused, outcome_is_compared_under}
 use Rattle.job_check.proofs.compare_under.comparison.compare_nets.Goals as goal
 

@@ -1,8 +1,8 @@
 -- Interfaces that don't match.
-use Rattle.under_base.specs.compare_base.Compared.{refusal_of}
-use Rattle.under_base.proofs.compare_base.Refusals.{refused_by}
-use Rattle.under_base.specs.Compared.{ComparedUnder}
-use Rattle.under_base.proofs.Refusals.{unmatched_under}
+use Rattle.plain_check.specs.under_base.compare_base.Compared.{refusal_of}
+use Rattle.plain_check.proofs.under_base.compare_base.Refusals.{refused_by}
+use Rattle.plain_check.specs.under_base.Compared.{ComparedUnder}
+use Rattle.plain_check.proofs.under_base.Refusals.{unmatched_under}
 use Rattle.job_check.proofs.compare_under.comparison.compare_under.Goals as goal
 
 pub returns-in_err-shared : goal.returns-in_err-shared

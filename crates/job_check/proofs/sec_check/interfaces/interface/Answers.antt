@@ -1,7 +1,7 @@
 -- The refusal is that of the setup.
 use Rattle.std.specs.Prelude.{IfErr}
-use Rattle.plain_check.specs.Compared.{InterfaceFails, refusal_of}
-use Rattle.plain_check.proofs.Refusals.{interface_fails, refused_by}
+use Rattle.plain_check.specs.under_base.compare_base.Compared.{InterfaceFails, refusal_of}
+use Rattle.plain_check.proofs.under_base.compare_base.Refusals.{interface_fails, refused_by}
 use Rattle.job_check.proofs.sec_check.interfaces.interface.Goals as goal
 
 pub returns-in_err-orders-clause-err : goal.returns-in_err-orders-clause-err

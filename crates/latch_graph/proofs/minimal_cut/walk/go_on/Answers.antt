@@ -1,11 +1,11 @@
 -- One reading more.
-use Rattle.std.proofs.Common.{◌≡◌, List, Bool, length, get_or, Some, refl, sym, subst, arith}
+use Rattle.std.proofs.Common.{◌≡◌, List, Bool, length, get_or, Some, refl, sym, subst, arith, true≢false, ap}
 use Rattle.std.specs.Prelude.{slice_get}
 use Rattle.std.proofs.lemmas.Option.{slice_get-get_or, slice_get_read}
 use Rattle.latch_graph.specs.minimal_cut.graph_components.flat_net.Signal.{Signal}
 use Rattle.latch_graph.specs.minimal_cut.Readers.{NodeReads}
 use Rattle.latch_graph.specs.declared.minimal_cut.marks.Mark.{Mark}
-use Rattle.latch_graph.specs.minimal_cut.Walk.{IsLater, Meets}
+use Rattle.latch_graph.specs.minimal_cut.Walk.{IsLater, Meets, unseen_count}
 use Rattle.latch_graph.proofs.minimal_cut.Marking.{later_refl, later_then}
 use Rattle.latch_graph.proofs.minimal_cut.Walks.{met_within, going_begins, going_found, going_more, going_ends}
 use Rattle.latch_graph.proofs.minimal_cut.walk.go_on.Goals as goal
@@ -71,3 +71,20 @@ pub returns-then-found-clause-later : goal.returns-then-found-clause-later
 returns-then-found-clause-later c =
     let same = subst (λ (b : Bool). Meets c.loop-k.marks c.meet.new.marks c.loop-k.met.items c.meet.new.met.items (get_or c.as_slice-reads.result.now c.loop-k.k (record { 0 = 0 })).0 c.args.way c.args.root c.args.turn b) c.if-found.true c.in_ok-found.ensures in
     subst (λ (z : List Mark). IsLater c.args.way c.args.turn c.args.marks.now z) (sym same.0) c.loop-k.invariant.later
+
+pub returns-then-found-clause-no : goal.returns-then-found-clause-no
+returns-then-found-clause-no c = λ e. absurd (true≢false e)
+
+pub returns-then-found-clause-room : goal.returns-then-found-clause-room
+returns-then-found-clause-room c =
+    let same = subst (λ (b : Bool). Meets c.loop-k.marks c.meet.new.marks c.loop-k.met.items c.meet.new.met.items (get_or c.as_slice-reads.result.now c.loop-k.k (record { 0 = 0 })).0 c.args.way c.args.root c.args.turn b) c.if-found.true c.in_ok-found.ensures in
+    omega (arith, ap length same.1, ap (unseen_count c.args.turn) same.0, c.loop-k.invariant.room)
+
+pub returns-clause-yes : goal.returns-clause-yes
+returns-clause-yes c = λ e. absurd (true≢false (sym e))
+
+pub returns-clause-room : goal.returns-clause-room
+returns-clause-room c = c.loop-k.invariant.room
+
+pub returns-clause-later : goal.returns-clause-later
+returns-clause-later c = c.loop-k.invariant.later

@@ -1,12 +1,12 @@
 -- The two walks from their beginning until they meet, or one ends.
-use Rattle.std.proofs.Common.{◌+◌, ◌<◌, ◌≤◌, List, length, sym, subst, arith}
+use Rattle.std.proofs.Common.{◌+◌, ◌<◌, ◌≤◌, List, length, sym, subst, arith, true≢false}
 use Rattle.latch_graph.specs.declared.minimal_cut.marks.Direction.TheVariants.{Back, Ahead}
 use Rattle.std.proofs.lemmas.Option.{slice_get_within}
 use Rattle.latch_graph.specs.declared.minimal_cut.marks.Mark.{Mark}
 use Rattle.latch_graph.specs.declared.minimal_cut.marks.Mark.TheVariants.{Out}
 use Rattle.latch_graph.specs.minimal_cut.Marks.{IsPutBack}
 use Rattle.latch_graph.proofs.minimal_cut.Turned.{read_within, reader_within}
-use Rattle.latch_graph.proofs.minimal_cut.Marking.{same_out_refl, same_out_then, later_same, later_table, back_put, back_along}
+use Rattle.latch_graph.proofs.minimal_cut.Marking.{same_out_refl, same_out_then, later_same, later_table, back_put, back_along, met_free, met_stays}
 use Rattle.latch_graph.proofs.minimal_cut.Walks.{walks_begin, walks_on, ahead_stays, walk_ends, ahead_ends, back_meets, ahead_meets, walk_other, back_ahead}
 use Rattle.latch_graph.proofs.minimal_cut.walk.walk_both.Goals as goal
 
@@ -102,3 +102,39 @@ pub go_on-requires-in-loop-at-clause-root : goal.go_on-requires-in-loop-at-claus
 go_on-requires-in-loop-at-clause-root c =
     let within = slice_get_within c.args.marks.now c.args.root Out c.requires.root in
     subst (λ n. c.args.root < n) (sym c.requires.readers.size) (subst (λ n. c.args.root < n) c.requires.marks.size within)
+
+pub go_on-requires-in-loop-at-clause-free : goal.go_on-requires-in-loop-at-clause-free
+go_on-requires-in-loop-at-clause-free c = met_free c.go_on.new.marks c.args.root c.args.turn Back (met_stays Back c.args.turn c.loop-at.marks c.go_on.new.marks c.in_ok-met.ensures.later Back c.args.root c.loop-at.invariant.walks.back)
+
+pub go_on-requires-in-loop-at-clause-size : goal.go_on-requires-in-loop-at-clause-size
+go_on-requires-in-loop-at-clause-size c = omega (arith, c.in_ok-met.ensures.later.size, c.loop-at.invariant.walks.table.size, c.requires.readers.size)
+
+pub loop-at-smaller : goal.loop-at-smaller
+loop-at-smaller c = omega (arith, c.in_ok-met.ensures.room, c.in_ok-met_ahead.ensures.room, c.loop-at-test.true, c.len.ensures)
+
+pub overflow_add-at : goal.overflow_add-at
+overflow_add-at c = omega (arith, c.loop-at-test.true, c.len.type_inv)
+
+pub go_on-requires-in-loop-at-clause-at : goal.go_on-requires-in-loop-at-clause-at
+go_on-requires-in-loop-at-clause-at c = omega (arith, c.if-at-len.false, c.len-in-loop-at.ensures)
+
+pub returns-then-at-len-clause-yes : goal.returns-then-at-len-clause-yes
+returns-then-at-len-clause-yes c = λ e. absurd (true≢false (sym e))
+
+pub returns-clause-yes : goal.returns-clause-yes
+returns-clause-yes c = λ e. absurd (true≢false (sym e))
+
+pub go_on-requires-clause-size : goal.go_on-requires-clause-size
+go_on-requires-clause-size c = c.loop-at.invariant.walks.table.size
+
+pub go_on-requires-clause-free : goal.go_on-requires-clause-free
+go_on-requires-clause-free c = met_free c.loop-at.marks c.args.root c.args.turn Back c.loop-at.invariant.walks.back
+
+pub go_on-requires-clause-at : goal.go_on-requires-clause-at
+go_on-requires-clause-at c = omega (arith, c.loop-at-test.true, c.len.ensures)
+
+pub returns-then-met_ahead-clause-no : goal.returns-then-met_ahead-clause-no
+returns-then-met_ahead-clause-no c = λ e. absurd (true≢false e)
+
+pub returns-then-met-clause-no : goal.returns-then-met-clause-no
+returns-then-met-clause-no c = λ e. absurd (true≢false e)

@@ -1,5 +1,5 @@
-use Rattle.std.proofs.Common.{arith}
-use Rattle.net_assembly.proofs.Searching.{last_within, turn_leaves, read_fits, turn_enters, turn_looks, turn_closes}
+use Rattle.std.proofs.Common.{arith, length, ◌-◌}
+use Rattle.net_assembly.proofs.Searching.{last_within, turn_leaves, read_fits, turn_enters, turn_looks, turn_closes, way_within}
 use Rattle.net_assembly.proofs.search.Search.turn.Goals as goal
 
 pub returns-then-looked-reads-clause-goes_on : goal.returns-then-looked-reads-clause-goes_on
@@ -31,3 +31,14 @@ pub returns-in-Done-clause-goes_on : goal.returns-in-Done-clause-goes_on
 returns-in-Done-clause-goes_on c =
     turn_looks c.args.graph.now c.args.self.now.marks.items c.args.self.now.way.items c.args.self.now.order.items c.requires.search c.requires.within c.args.last c.looked-looked.result c.index-graph-last.result c.as_slice-reads.result.now c.requires.last c.looked-looked.ensures c.index-graph-last.is c.as_slice-reads.ensures
     c.if-looked-reads.false c.index.result.now c.index.ensures c.in-Done.is
+
+pub leave-requires : goal.leave-requires
+leave-requires c = way_within c.args.graph.now c.args.self.now.marks.items c.args.self.now.way.items c.args.self.now.order.items c.requires.search (length c.args.self.now.way.items - 1) c.args.last c.requires.last
+
+pub bounds-graph-last : goal.bounds-graph-last
+bounds-graph-last c =
+    let l = way_within c.args.graph.now c.args.self.now.marks.items c.args.self.now.way.items c.args.self.now.order.items c.requires.search (length c.args.self.now.way.items - 1) c.args.last c.requires.last in
+    omega (arith, l, c.requires.search.size)
+
+pub looked-looked-requires : goal.looked-looked-requires
+looked-looked-requires c = way_within c.args.graph.now c.args.self.now.marks.items c.args.self.now.way.items c.args.self.now.order.items c.requires.search (length c.args.self.now.way.items - 1) c.args.last c.requires.last

@@ -2,10 +2,10 @@
 use Rattle.std.proofs.Common.{◌≡◌, ◌<◌, length, get_or, slice_get, Some, refl, sym, ap, subst}
 use Rattle.std.proofs.lemmas.Option.{slice_get-get_or}
 use Rattle.witness_report.specs.declared.witness.PairName.{PairName}
-use Rattle.outcome.specs.declared.verdict.PairResult.{PairResult}
-use Rattle.outcome.specs.declared.verdict.Verdict.TheVariants as verdict
-use Rattle.outcome.specs.declared.verdict.Why.TheVariants as why
-use Rattle.outcome.specs.declared.verdict.LimitAt.TheVariants as limit_at
+use Rattle.obligations.specs.declared.outcome.verdict.PairResult.{PairResult}
+use Rattle.obligations.specs.declared.outcome.verdict.Verdict.TheVariants as verdict
+use Rattle.obligations.specs.declared.outcome.verdict.Why.TheVariants as why
+use Rattle.obligations.specs.declared.outcome.verdict.LimitAt.TheVariants as limit_at
 use Rattle.obligations.specs.declared.verdict.VerdictAt.{VerdictAt}
 use Rattle.plain_check.specs.plain_form.Shown.{CanBeShown, IsShown}
 use Rattle.plain_check.proofs.plain_form.shown.show.Goals as goal

@@ -9,7 +9,7 @@ use Rattle.sec_setup.specs.declared.setup.Setup.{Setup}
 use Rattle.reset_form.specs.declared.reset_functions.bases.Bases.{Bases}
 use Rattle.reset_form.specs.declared.reset_functions.functions.Functions.{Functions}
 use Rattle.reset_form.specs.reset_asked.Asked.{AskedOf, AreAsked}
-use Rattle.shift_variables.proofs.Assignments.{take_next}
+use Rattle.cbf_unfold.proofs.shift_variables.Assignments.{take_next}
 use Rattle.reset_form.proofs.reset_asked.questions.ask.Goals as goal
 
 asked_more : (s : Setup) (b : Bases) (f : Functions) (pairs : List SignalPair) (i : ℕ) (asked made : List Obligation) (o : Obligation) → i < length pairs → ((p : SignalPair) → slice_get pairs i ≡ Some p → AskedOf s b f p o) → made ≡ asked ++ o ∷ [] →

@@ -3,9 +3,9 @@ use Rattle.std.proofs.Common.{◌∙◌, ◌+◌, ◌<◌, [], length, slice_get
 use Rattle.std.proofs.lemmas.Option.{slice_get_within}
 use Rattle.flat_net.proofs.Growth.{length-push}
 use Rattle.flat_net.proofs.Places.{All-at}
-use Rattle.unfold_places.specs.declared.signal_function.Unfolded.{Unfolded}
-use Rattle.shift_variables.proofs.Reading.{item_at}
-use Rattle.shift_variables.specs.cycle_variables.Cycles.{AreInCycles}
+use Rattle.cbf_unfold.specs.declared.unfold_places.signal_function.Unfolded.{Unfolded}
+use Rattle.cbf_unfold.proofs.shift_variables.Reading.{item_at}
+use Rattle.cbf_unfold.specs.shift_variables.cycle_variables.Cycles.{AreInCycles}
 use Rattle.reset_form.proofs.reset_asked.PairAt.{query_next}
 use Rattle.reset_form.proofs.reset_asked.questions.queries_of.Goals as goal
 

@@ -1,6 +1,6 @@
 -- The variables are those of both functions.
 use Rattle.std.proofs.Common.{sym, subst}
-use Rattle.shift_variables.specs.cycle_variables.Cycles.{AreInCycles}
+use Rattle.cbf_unfold.specs.shift_variables.cycle_variables.Cycles.{AreInCycles}
 use Rattle.reset_form.proofs.reset_asked.questions.query_of.Goals as goal
 
 pub merge_cycles-requires-clause-left : goal.merge_cycles-requires-clause-left

@@ -3,9 +3,9 @@ use Rattle.std.proofs.Common.{◌≡◌, ◌∙◌, ◌-◌, ℕ, suc, Bool, Lis
 use Rattle.std.specs.List.{All}
 use Rattle.circuit_theory.specs.Sequence.{sequence_rows}
 use Rattle.base_tables.specs.Table.{AreDistinct}
-use Rattle.shift_variables.specs.Sequences.{bits_at}
-use Rattle.shift_variables.specs.cycle_variables.Cycles.{AreInCycles}
-use Rattle.shift_variables.proofs.CycleRows.{rows_fit}
+use Rattle.cbf_unfold.specs.shift_variables.Sequences.{bits_at}
+use Rattle.cbf_unfold.specs.shift_variables.cycle_variables.Cycles.{AreInCycles}
+use Rattle.cbf_unfold.proofs.shift_variables.CycleRows.{rows_fit}
 use Rattle.reset_form.proofs.reset_asked.CycleQueries.{numbers_apart}
 use Rattle.reset_form.proofs.reset_asked.sequence.sequence_of.Goals as goal
 

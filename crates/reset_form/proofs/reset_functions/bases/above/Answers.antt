@@ -4,7 +4,7 @@ use Rattle.std.specs.List.{All}
 use Rattle.std.proofs.lemmas.List.{take_all}
 use Rattle.std.proofs.lemmas.List.Elements.{All-push, All-weaker}
 use Rattle.std.proofs.lemmas.Option.{slice_get-get_or}
-use Rattle.shift_variables.proofs.Assignments.{take_next}
+use Rattle.cbf_unfold.proofs.shift_variables.Assignments.{take_next}
 use Rattle.reset_form.proofs.reset_functions.bases.above.Goals as goal
 
 below_next : (xs : List ℕ) (i d above made x : ℕ) → i < length xs → x ≡ get_or xs i d → made ≡ max above (x + 1) → All (λ y. y < above) (take i xs) → All (λ y. y < made) (take (i + 1) xs)

@@ -3,7 +3,7 @@ use Rattle.std.proofs.Common.{◌≡◌, ◌≤◌, List, length, slice_get, Som
 use Rattle.std.proofs.lemmas.List.{take_all}
 use Rattle.circuit_theory.proofs.Lists.{of_at}
 use Rattle.sec_setup.specs.declared.ports.pairs.SignalPair.{SignalPair}
-use Rattle.shift_variables.proofs.Reading.{item_at}
+use Rattle.cbf_unfold.proofs.shift_variables.Reading.{item_at}
 use Rattle.reset_form.specs.reset_functions.Pairs.{AreTops}
 use Rattle.reset_form.proofs.reset_functions.OwnPairs.{own_pairs, output_within}
 use Rattle.reset_form.proofs.reset_functions.Growing.{tops_next}

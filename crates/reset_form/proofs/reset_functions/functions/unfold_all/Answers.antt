@@ -6,12 +6,12 @@ use Rattle.std.proofs.lemmas.List.{take_all}
 use Rattle.std.proofs.lemmas.List.Elements.{All-get_or}
 use Rattle.flat_net.specs.View.{NetView, circuit_of}
 use Rattle.circuit_laws.specs.reset_laws.Weight.{IsResetWeight}
-use Rattle.unfold_places.specs.declared.signal_function.Unfolded.{Unfolded}
+use Rattle.cbf_unfold.specs.declared.unfold_places.signal_function.Unfolded.{Unfolded}
 use Rattle.aig.proofs.Growth.{Grows-trans}
-use Rattle.unfold_places.proofs.Lists.{adds_trans}
-use Rattle.unfold_places.proofs.Zips.{zip_more_left}
-use Rattle.reset_unfold.specs.Places.{starts_of}
-use Rattle.reset_unfold.proofs.Going.{later_none, later_trans}
+use Rattle.cbf_unfold.proofs.unfold_places.Lists.{adds_trans}
+use Rattle.cbf_unfold.proofs.unfold_places.Zips.{zip_more_left}
+use Rattle.reset_form.specs.reset_unfold.Places.{starts_of}
+use Rattle.reset_form.proofs.reset_unfold.Going.{later_none, later_trans}
 use Rattle.reset_form.specs.reset_functions.Pairs.{AreCyclesOf, IsAmong}
 use Rattle.reset_form.proofs.reset_functions.Growing.{all_later, cycles_of, among_none, among_next, over_among}
 use Rattle.reset_form.proofs.reset_functions.functions.unfold_all.Goals as goal

@@ -1,8 +1,8 @@
 use Rattle.std.proofs.Common.{ℕ, take}
 use Rattle.std.specs.Prelude.{◌↔◌}
 use Rattle.std.specs.List.{AllZip, Contains}
-use Rattle.reset_unfold.specs.Unfolded.{FitsReset}
-use Rattle.reset_unfold.specs.Building.{IsLaterReset}
+use Rattle.reset_form.specs.reset_unfold.Unfolded.{FitsReset}
+use Rattle.reset_form.specs.reset_unfold.Building.{IsLaterReset}
 use Rattle.reset_form.specs.reset_functions.Pairs.{AreCyclesOf, IsAmong}
 use Rattle.reset_form.proofs.reset_functions.functions.unfold_all.Given as goal
 

@@ -4,10 +4,10 @@ use Rattle.std.proofs.lemmas.Option.{slice_get_within}
 use Rattle.circuit_laws.specs.reset_laws.Weight.{IsResetOver}
 use Rattle.flat_net.specs.View.{circuit_of}
 use Rattle.flat_net.proofs.Growth.{length-push}
-use Rattle.unfold_places.specs.declared.signal_function.Unfolded.{Unfolded}
-use Rattle.reset_unfold.specs.Places.{starts_of}
-use Rattle.reset_unfold.specs.Unfolded.{IsResetUnfolded}
-use Rattle.reset_unfold.proofs.Going.{later_none, later_trans}
+use Rattle.cbf_unfold.specs.declared.unfold_places.signal_function.Unfolded.{Unfolded}
+use Rattle.reset_form.specs.reset_unfold.Places.{starts_of}
+use Rattle.reset_form.specs.reset_unfold.Unfolded.{IsResetUnfolded}
+use Rattle.reset_form.proofs.reset_unfold.Going.{later_none, later_trans}
 use Rattle.reset_form.proofs.reset_functions.Growing.{cycle_next, unfolded_of, done_none, done_next, done_below, over_first, over_next}
 use Rattle.reset_form.proofs.reset_functions.functions.unfold_cycles.Goals as goal
 

@@ -1,8 +1,8 @@
 use Rattle.std.proofs.Common.{◌≡◌, ℕ, length, slice_get, Some}
-use Rattle.unfold_places.specs.declared.signal_function.Unfolded.{Unfolded}
-use Rattle.reset_unfold.specs.Unfolded.{IsResetUnfolded, FitsReset}
-use Rattle.reset_unfold.specs.Building.{IsLaterReset}
-use Rattle.reset_unfold.specs.Cone.{IsCone}
+use Rattle.cbf_unfold.specs.declared.unfold_places.signal_function.Unfolded.{Unfolded}
+use Rattle.reset_form.specs.reset_unfold.Unfolded.{IsResetUnfolded, FitsReset}
+use Rattle.reset_form.specs.reset_unfold.Building.{IsLaterReset}
+use Rattle.reset_form.specs.reset_unfold.Cone.{IsCone}
 use Rattle.reset_form.proofs.reset_functions.Growing.{HasDone}
 use Rattle.reset_form.proofs.reset_functions.functions.unfold_cycles.Given as goal
 

@@ -3,8 +3,8 @@ use Rattle.std.proofs.Common.{◌≡◌, ◌<◌, ℕ, List, length, refl, sym, 
 use Rattle.std.specs.Prelude.{OnOk}
 use Rattle.std.specs.List.{All, AllZip}
 use Rattle.flat_net.specs.View.{NetView}
-use Rattle.unfold_places.specs.declared.error.UnfoldError.TheVariants as unfold_error
-use Rattle.unfold_places.proofs.Lists.{adds_none}
+use Rattle.cbf_unfold.specs.declared.unfold_places.error.UnfoldError.TheVariants as unfold_error
+use Rattle.cbf_unfold.proofs.unfold_places.Lists.{adds_none}
 use Rattle.reset_form.specs.reset_functions.Pairs.{AreCyclesOf, IsAmong, IsLight, IsTooLarge}
 use Rattle.reset_form.proofs.reset_functions.functions.unfold_tops.Goals as goal
 

@@ -3,7 +3,7 @@ use Rattle.std.proofs.Common.{◌≡◌, ◌∙◌, ℕ, List, get_or, slice_get
 use Rattle.std.proofs.lemmas.Option.{get_or_from_slice_get}
 use Rattle.aig.specs.declared.node.Lit.{Lit}
 use Rattle.aig.proofs.Insert.{push-cases}
-use Rattle.node_agreement.specs.Standing.{literal_in}
+use Rattle.swept_queries.specs.node_agreement.Standing.{literal_in}
 use Rattle.swept_queries.proofs.sweep.graph.literals_for.Goals as goal
 
 pub literal_for-requires : goal.literal_for-requires

@@ -1,6 +1,6 @@
 use Rattle.std.proofs.Common.{◌≡◌, ℕ, length, slice_get, Some}
 use Rattle.aig.specs.declared.node.Lit.{Lit}
-use Rattle.node_agreement.specs.Standing.{literal_in}
+use Rattle.swept_queries.specs.node_agreement.Standing.{literal_in}
 use Rattle.swept_queries.proofs.sweep.graph.literals_for.Given as goal
 
 abbrev pub invariant-loop-i : goal.invariant-loop-i

@@ -2,7 +2,7 @@
 use Rattle.std.proofs.Common.{◌≡◌, List, sym, subst}
 use Rattle.aig.specs.declared.node.Lit.{Lit}
 use Rattle.swept_queries.specs.sweep.Swept.{AreLiteralsFor}
-use Rattle.node_agreement.specs.Leads.{AreLeads}
+use Rattle.swept_queries.specs.node_agreement.Leads.{AreLeads}
 use Rattle.swept_queries.proofs.sweep.Whole.{is_swept}
 use Rattle.swept_queries.proofs.sweep.graph.sweep_across.Goals as goal
 

@@ -1,6 +1,6 @@
 use Rattle.std.proofs.Common.{◌/◌}
-use Rattle.node_agreement.specs.Standing.{plainly}
-use Rattle.node_agreement.proofs.Stood.{chosen-at, stands-itself}
+use Rattle.swept_queries.specs.node_agreement.Standing.{plainly}
+use Rattle.swept_queries.proofs.node_agreement.Stood.{chosen-at, stands-itself}
 use Rattle.swept_queries.proofs.sweep.growth.follow.Goals as goal
 
 pub returns-then-n-chosen : goal.returns-then-n-chosen

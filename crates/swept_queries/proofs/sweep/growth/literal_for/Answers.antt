@@ -1,6 +1,6 @@
 use Rattle.std.proofs.Common.{◌/◌, ◌<◌, length, arith}
-use Rattle.node_agreement.specs.Standing.{plainly}
-use Rattle.node_agreement.proofs.Stood.{stand_in-at}
+use Rattle.swept_queries.specs.node_agreement.Standing.{plainly}
+use Rattle.swept_queries.proofs.node_agreement.Stood.{stand_in-at}
 use Rattle.swept_queries.proofs.sweep.growth.literal_for.Goals as goal
 
 pub returns-clause-stands : goal.returns-clause-stands

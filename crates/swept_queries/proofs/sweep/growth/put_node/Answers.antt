@@ -2,8 +2,8 @@ use Rattle.std.proofs.Common.{◌*◌, arith}
 use Rattle.aig.specs.declared.node.Lit.{Lit}
 use Rattle.aig.specs.declared.node.Node.TheVariants.{Input}
 use Rattle.aig.proofs.Insert.{vars_of-member}
-use Rattle.node_agreement.specs.Standing.{plainly}
-use Rattle.node_agreement.proofs.Stood.{stands-and, IfOk-both}
+use Rattle.swept_queries.specs.node_agreement.Standing.{plainly}
+use Rattle.swept_queries.proofs.node_agreement.Stood.{stands-and, IfOk-both}
 use Rattle.swept_queries.proofs.sweep.growth.put_node.Goals as goal
 
 pub input-requires-clause-small : goal.input-requires-clause-small

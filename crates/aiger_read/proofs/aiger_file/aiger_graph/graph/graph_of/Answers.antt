@@ -1,7 +1,7 @@
 use Rattle.std.proofs.Common.{◌≡◌, ℕ, ◌∙◌, ◌+◌, ◌*◌, ◌-◌, ◌<◌, ap, sym, subst, arith, length, drop, get_or}
 use Rattle.std.proofs.lemmas.List.FromFn.{length-map-range_with_len}
 use Rattle.std.proofs.lemmas.Option.{slice_get-get_or, get_or_from_slice_get}
-use Rattle.aiger_records.specs.declared.record.Record.TheVariants.{Input}
+use Rattle.aiger_read.specs.declared.aiger_records.record.Record.TheVariants.{Input}
 use Rattle.aiger_read.specs.aiger_file.aiger_graph.Literals.{reads_among, graph_among, AreUsed}
 use Rattle.aiger_read.proofs.aiger_file.aiger_graph.ReadLiterals.{all_well}
 use Rattle.aiger_read.proofs.aiger_file.aiger_graph.GraphSteps.{reads_start, reads_step}

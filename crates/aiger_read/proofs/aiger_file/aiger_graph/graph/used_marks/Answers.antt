@@ -1,8 +1,8 @@
 use Rattle.std.proofs.Common.{◌+◌, ◌*◌, List, get_or, refl, subst}
 use Rattle.std.proofs.lemmas.Option.{slice_get-get_or}
 use Rattle.std.proofs.lemmas.List.{take_all}
-use Rattle.aiger_records.specs.declared.record.Record.{Record}
-use Rattle.aiger_records.specs.declared.record.Record.TheVariants.{Input}
+use Rattle.aiger_read.specs.declared.aiger_records.record.Record.{Record}
+use Rattle.aiger_read.specs.declared.aiger_records.record.Record.TheVariants.{Input}
 use Rattle.aiger_read.specs.aiger_file.aiger_graph.Literals.{AreUsed}
 use Rattle.aiger_read.proofs.aiger_file.aiger_graph.ReadLiterals.{all_well}
 use Rattle.aiger_read.proofs.aiger_file.aiger_graph.Marking.{marks_start, marks_step}

@@ -2,8 +2,8 @@
 use Rattle.std.proofs.Common.{ℕ, ◌≤◌, List, [], length, refl, sym, subst, arith}
 use Rattle.std.proofs.lemmas.List.{take_all}
 use Rattle.aig.proofs.Growth.{Grows-refl, Grows-trans}
-use Rattle.unfold_places.specs.declared.signal_function.Unfolded.{Unfolded}
-use Rattle.unfold_places.proofs.Lists.{adds_none, adds_trans}
+use Rattle.cbf_unfold.specs.declared.unfold_places.signal_function.Unfolded.{Unfolded}
+use Rattle.cbf_unfold.proofs.unfold_places.Lists.{adds_none, adds_trans}
 use Rattle.assume_queries.specs.assume_functions.assume_places.Placed.{ArePut}
 use Rattle.assume_queries.proofs.assume_functions.assume_places.Placing.{nodes_few, nodes_step, entries_few, entries_step, put_more}
 use Rattle.assume_queries.proofs.assume_functions.assume_places.functions.functions_at.Goals as goal

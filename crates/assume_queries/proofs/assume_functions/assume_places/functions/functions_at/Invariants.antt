@@ -1,7 +1,7 @@
 use Rattle.std.proofs.Common.{ℕ, ◌+◌, ◌*◌, ◌≤◌, List, length, take}
 use Rattle.flat_net.specs.View.{NetView}
 use Rattle.aig.specs.Graph.{Grows}
-use Rattle.unfold_places.specs.Reach.{Adds}
+use Rattle.cbf_unfold.specs.unfold_places.Reach.{Adds}
 use Rattle.assume_queries.specs.assume_functions.Functions.{IsOwnFunction, HasNoLatch}
 use Rattle.assume_queries.specs.assume_functions.assume_places.Placed.{ArePut}
 use Rattle.assume_queries.proofs.assume_functions.assume_places.functions.functions_at.Given as goal

@@ -1,8 +1,8 @@
 -- The query's places are few, and what is gathered has them.
 use Rattle.std.proofs.Common.{◌∙◌, ◌+◌, ◌-◌, ◌^◌, ◌<◌, min, ℕ, List, length, sym, ap, subst, arith}
 use Rattle.std.specs.List.{All}
-use Rattle.shift_variables.specs.query_places.Places.{AreGrouped, ArePlacesOf, ComeInTurn}
-use Rattle.unfold_places.specs.Reach.{Adds}
+use Rattle.cbf_unfold.specs.shift_variables.query_places.Places.{AreGrouped, ArePlacesOf, ComeInTurn}
+use Rattle.cbf_unfold.specs.unfold_places.Reach.{Adds}
 use Rattle.assume_queries.specs.assume_functions.assume_places.Gathered.{IsAmong}
 use Rattle.assume_queries.specs.declared.assume_functions.assume_places.gathered.QueryPlaces.{QueryPlaces}
 use Rattle.assume_queries.proofs.assume_functions.assume_places.Gathering.{own_few, all_few, gathered_more}

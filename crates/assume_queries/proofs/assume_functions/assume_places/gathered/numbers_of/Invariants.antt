@@ -1,5 +1,5 @@
 use Rattle.std.proofs.Common.{◌≡◌, ◌+◌, ◌<◌, ◌≤◌, map, length, take, All}
-use Rattle.unfold_places.specs.Reach.{Adds}
+use Rattle.cbf_unfold.specs.unfold_places.Reach.{Adds}
 use Rattle.assume_queries.specs.assume_functions.assume_places.Gathered.{IsAmong, place_at}
 use Rattle.assume_queries.proofs.assume_functions.assume_places.gathered.numbers_of.Given as goal
 

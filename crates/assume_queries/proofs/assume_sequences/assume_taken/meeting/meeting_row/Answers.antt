@@ -8,7 +8,7 @@ use Rattle.pair_decide.specs.declared.query.SameBy.TheVariants as same
 use Rattle.pair_decide.specs.declared.query.Decision.TheVariants as decision
 use Rattle.pair_decide.specs.Queries.{IsQuery, IsSame}
 use Rattle.pair_decide.specs.Answers.{Decides, IsDifference}
-use Rattle.shift_variables.specs.Variables.{variable_of}
+use Rattle.cbf_unfold.specs.shift_variables.Variables.{variable_of}
 use Rattle.assume_queries.specs.assume_sequences.assume_taken.Meeting.{meeting_query}
 use Rattle.assume_queries.proofs.assume_sequences.assume_taken.Rows.{is_query, is_sequence, never, row_meets}
 use Rattle.assume_queries.proofs.assume_sequences.assume_taken.meeting.meeting_row.Goals as goal

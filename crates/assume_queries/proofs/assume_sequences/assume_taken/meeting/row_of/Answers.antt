@@ -1,6 +1,6 @@
 -- The sequence of one cycle is one row.
 use Rattle.std.proofs.Common.{ℕ, Bool, List, sym, subst}
-use Rattle.shift_variables.specs.Sequences.{IsSequence}
+use Rattle.cbf_unfold.specs.shift_variables.Sequences.{IsSequence}
 use Rattle.assume_queries.proofs.assume_sequences.assume_taken.Rows.{is_sequence}
 use Rattle.assume_queries.proofs.assume_sequences.assume_taken.meeting.row_of.Goals as goal
 

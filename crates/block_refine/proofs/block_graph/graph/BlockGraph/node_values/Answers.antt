@@ -6,7 +6,7 @@ use Rattle.aig.specs.declared.node.Node.{Node}
 use Rattle.aig.specs.Graph.{vars_of, IsOrdered}
 use Rattle.aig.specs.Values.{node_bits, assigned}
 use Rattle.aig.proofs.Meaning.{length-node_bits}
-use Rattle.lane_eval.proofs.Signed.{whole}
+use Rattle.aig.proofs.lane_eval.Signed.{whole}
 use Rattle.pair_decide.specs.Queries.{assigned_to}
 use Rattle.block_refine.proofs.block_graph.graph.BlockGraph.node_values.Goals as goal
 

@@ -1,7 +1,7 @@
 use Rattle.std.proofs.Common.{◌≡◌, ◌*◌, ◌<◌, List, [], ◌∷◌, ◌++◌, length, ap, sym, subst, arith}
 use Rattle.aig.specs.declared.node.Lit.{Lit}
 use Rattle.aig.specs.declared.node.Node.{Node}
-use Rattle.node_agreement.specs.Standing.{AreChosen}
+use Rattle.swept_queries.specs.node_agreement.Standing.{AreChosen}
 use Rattle.swept_queries.proofs.sweep.Whole.{stand-step, each-step, vars-step}
 use Rattle.swept_queries.proofs.sweep.growth.Growth.put.Goals as goal
 

@@ -1,0 +1,1 @@
+pub use Rattle.circuit_theory.proofs.Lists

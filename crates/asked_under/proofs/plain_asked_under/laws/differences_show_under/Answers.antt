@@ -1,5 +1,0 @@
-use Rattle.asked_under.proofs.plain_asked_under.Witnesses.{differences_show_under}
-use Rattle.asked_under.proofs.plain_asked_under.laws.differences_show_under.Goals as goal
-
-pub returns : goal.returns
-returns c = differences_show_under

@@ -1,5 +1,0 @@
-use Rattle.asked_under.proofs.plain_asked_under.PairsUnder.{pairs_fit_under}
-use Rattle.asked_under.proofs.plain_asked_under.laws.pairs_fit_under.Goals as goal
-
-pub returns : goal.returns
-returns c = pairs_fit_under

@@ -1,5 +1,0 @@
-use Rattle.asked_under.proofs.plain_asked_under.under_meaning.Meaning.{different_shows_under}
-use Rattle.asked_under.proofs.plain_asked_under.under_meaning.laws.different_shows_under.Goals as goal
-
-pub returns : goal.returns
-returns c = different_shows_under

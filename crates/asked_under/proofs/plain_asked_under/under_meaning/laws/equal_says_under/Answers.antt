@@ -1,5 +1,0 @@
-use Rattle.asked_under.proofs.plain_asked_under.under_meaning.Meaning.{equal_says_under}
-use Rattle.asked_under.proofs.plain_asked_under.under_meaning.laws.equal_says_under.Goals as goal
-
-pub returns : goal.returns
-returns c = equal_says_under

@@ -1,5 +1,0 @@
-use Rattle.asked_under.proofs.plain_asked_under.under_meaning.under_reset_meaning.Meaning.{equal_resets_say_under}
-use Rattle.asked_under.proofs.plain_asked_under.under_meaning.under_reset_meaning.laws.equal_resets_say_under.Goals as goal
-
-pub returns : goal.returns
-returns c = equal_resets_say_under

@@ -1,5 +1,0 @@
-use Rattle.asked_under.proofs.reset_asked_under.CyclesUnder.{cycles_fit_under}
-use Rattle.asked_under.proofs.reset_asked_under.laws.cycles_fit_under.Goals as goal
-
-pub returns : goal.returns
-returns c = cycles_fit_under

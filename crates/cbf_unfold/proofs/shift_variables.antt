@@ -1,0 +1,5 @@
+pub mod Assignments
+pub mod MergeLists
+pub mod Reading
+pub mod Standing
+pub mod CycleRows

@@ -1,1 +1,0 @@
-pub use Rattle.design_laws.proofs.text_circuits.Circuits

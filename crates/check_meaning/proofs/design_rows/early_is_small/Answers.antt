@@ -1,5 +1,0 @@
-use Rattle.check_meaning.proofs.design_rows.Examples.{early_is_small}
-use Rattle.check_meaning.proofs.design_rows.early_is_small.Goals as goal
-
-pub returns : goal.returns
-returns c = early_is_small

@@ -1,6 +1,0 @@
-pub mod Check
-pub mod Found
-pub mod Ends
-pub mod job_base
-pub use Rattle.event_meaning.specs.event_names.event_fits.Compared
-pub use Rattle.event_meaning.specs.event_meaning_under.Answered

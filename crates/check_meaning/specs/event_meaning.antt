@@ -1,1 +1,0 @@
-pub use Rattle.event_meaning.specs.event_meaning_under.Heavy

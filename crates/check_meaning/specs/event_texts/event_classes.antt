@@ -1,2 +1,0 @@
-pub use Rattle.event_classes.specs.Refused
-pub use Rattle.event_classes.specs.Totals

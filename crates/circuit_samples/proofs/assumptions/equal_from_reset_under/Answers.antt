@@ -1,5 +1,0 @@
-use Rattle.circuit_samples.proofs.UnderExamples.{reset_sides_under, reset_agree_under}
-use Rattle.circuit_samples.proofs.assumptions.equal_from_reset_under.Goals as goal
-
-pub returns : goal.returns
-returns c = record { sides = reset_sides_under; agree = reset_agree_under }

@@ -1,5 +1,0 @@
-use Rattle.circuit_samples.proofs.UnderExamples.{exposed_sides, exposed_agree}
-use Rattle.circuit_samples.proofs.assumptions.exposed_under.Goals as goal
-
-pub returns : goal.returns
-returns c = record { sides = exposed_sides; agree = exposed_agree.0; onward = exposed_agree.1 }

@@ -1,4 +1,0 @@
-use Rattle.circuit_samples.proofs.cells.+is_settled.Given as goal
-
-abbrev pub decreases-is_settled : goal.decreases-is_settled
-decreases-is_settled l = l.signal

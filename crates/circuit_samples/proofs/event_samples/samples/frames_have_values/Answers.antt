@@ -1,5 +1,0 @@
-use Rattle.circuit_samples.proofs.event_samples.Reached.{frames_have_values}
-use Rattle.circuit_samples.proofs.event_samples.samples.frames_have_values.Goals as goal
-
-pub returns : goal.returns
-returns c = frames_have_values

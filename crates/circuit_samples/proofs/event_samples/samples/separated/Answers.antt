@@ -1,5 +1,0 @@
-use Rattle.circuit_samples.proofs.event_samples.Separated.{separation, separation_from_always}
-use Rattle.circuit_samples.proofs.event_samples.samples.separated.Goals as goal
-
-pub returns : goal.returns
-returns c = record { classes = separation; always = separation_from_always }

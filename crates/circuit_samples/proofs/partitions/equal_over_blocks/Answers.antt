@@ -1,5 +1,0 @@
-use Rattle.circuit_samples.proofs.PartitionExample.{outputs_equal, from_reset, equal_latches, queries}
-use Rattle.circuit_samples.proofs.partitions.equal_over_blocks.Goals as goal
-
-pub returns : goal.returns
-returns c = record { equal = outputs_equal; agree = from_reset; runs = equal_latches; queries = queries }

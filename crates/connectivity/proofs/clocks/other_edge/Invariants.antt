@@ -1,8 +1,0 @@
-use Rattle.std.proofs.Common.{[], take}
-use Rattle.elaborate.specs.Flat.{kind_of}
-use Rattle.connectivity.specs.Wiring.{joined, typed_by}
-use Rattle.connectivity.proofs.ClockTables.{HaveEdge}
-use Rattle.connectivity.proofs.clocks.other_edge.Given as goal
-
-abbrev pub invariant-loop-statement : goal.invariant-loop-statement
-invariant-loop-statement l = HaveEdge (joined (λ s. typed_by s.out (kind_of [] s.kind)) (take l.statement-index l.flat.statements)) l.first

@@ -1,6 +1,0 @@
-use Rattle.std.proofs.Common.{◌≡◌, map, take}
-use Rattle.connectivity.specs.Steps.{net_at}
-use Rattle.connectivity.proofs.sources.ended.Given as goal
-
-abbrev pub invariant-loop-place : goal.invariant-loop-place
-invariant-loop-place l = l.nets.items ≡ map (net_at l.froms) (take l.place-index l.at)

@@ -1,5 +1,0 @@
-use Rattle.design_laws.proofs.event_designs.Kept.{enabled_are_kept}
-use Rattle.design_laws.proofs.event_designs.enabled_are_kept.Goals as goal
-
-pub returns : goal.returns
-returns c = enabled_are_kept

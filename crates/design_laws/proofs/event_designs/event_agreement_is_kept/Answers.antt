@@ -1,5 +1,0 @@
-use Rattle.design_laws.proofs.event_designs.Kept.{event_agreement_is_kept}
-use Rattle.design_laws.proofs.event_designs.event_agreement_is_kept.Goals as goal
-
-pub returns : goal.returns
-returns c = event_agreement_is_kept

@@ -1,5 +1,0 @@
-use Rattle.design_laws.proofs.event_designs.Kept.{event_cuts_are_kept}
-use Rattle.design_laws.proofs.event_designs.event_cuts_are_kept.Goals as goal
-
-pub returns : goal.returns
-returns c = event_cuts_are_kept

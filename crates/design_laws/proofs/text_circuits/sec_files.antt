@@ -1,1 +1,0 @@
-pub use Rattle.sec_files.proofs.Texts

@@ -1,0 +1,24 @@
+-- The nodes that were made tell which number is passed.
+use Rattle.std.proofs.Common.{◌∙◌, sym, arith}
+use Rattle.event_nodes.proofs.Growing.{grows_refl}
+use Rattle.event_classes.proofs.event_functions.event_reach.Making.{no_nodes}
+use Rattle.edbf_unfold.specs.event_literals.event_walk.Walk.{enable_start}
+use Rattle.event_classes.proofs.event_functions.Refusing.{from_ok, many_or_large}
+use Rattle.event_classes.proofs.event_functions.class_totals.enable_refusal.enable_nodes.Goals as goal
+
+pub returns-clause-many : goal.returns-clause-many
+returns-clause-many c = λ is. (let k = c.refusal.ensures.many is in omega (arith, k, c.nodes-2.ensures))
+
+pub returns-clause-large : goal.returns-clause-large
+returns-clause-large c = λ is l at.
+    let k = c.refusal.ensures.large is in
+    record { few = omega (arith, k.0, c.nodes-2.ensures); all = from_ok c.reached_others.result (sym c.is_ok-told.ensures.value ∙ k.1) c.reached_others.ensures.nodes l at }
+
+pub returns-then-nodes-ge-NODES-clause-made : goal.returns-then-nodes-ge-NODES-clause-made
+returns-then-nodes-ge-NODES-clause-made c = λ l at. no_nodes c.args.circuit.now c.args.events.now.children (enable_start l)
+
+pub returns-then-nodes-ge-NODES-clause-grows : goal.returns-then-nodes-ge-NODES-clause-grows
+returns-then-nodes-ge-NODES-clause-grows c = grows_refl c.args.events.now
+
+pub returns-then-nodes-ge-NODES-clause-large : goal.returns-then-nodes-ge-NODES-clause-large
+returns-then-nodes-ge-NODES-clause-large c = λ is. many_or_large is

@@ -1,5 +1,0 @@
-use Rattle.event_findings.proofs.event_witness.Differing.{always_differences}
-use Rattle.event_findings.proofs.event_witness.laws.always_differences_make_differ.Goals as goal
-
-pub returns : goal.returns
-returns c = always_differences

@@ -1,5 +1,0 @@
-use Rattle.event_findings.proofs.event_witness.Growing.{differences_later}
-use Rattle.event_findings.proofs.event_witness.laws.differences_grow.Goals as goal
-
-pub returns : goal.returns
-returns c = differences_later

@@ -1,9 +1,0 @@
-pub mod Made
-pub mod Begin
-pub mod Counted
-pub mod Pairs
-pub mod Telling
-pub mod Refused
-pub use Rattle.event_form.proofs.event_agreement.pair_events.Starts
-pub use Rattle.event_form.proofs.event_agreement.pair_events.Counting
-pub use Rattle.event_form.proofs.event_agreement.event_pairs.Unions

@@ -1,5 +1,0 @@
-use Rattle.event_findings.proofs.unshown_pairs.class_events.Begin.{begins}
-use Rattle.event_findings.proofs.unshown_pairs.class_events.laws.counting_begins.Goals as goal
-
-pub returns : goal.returns
-returns c = begins

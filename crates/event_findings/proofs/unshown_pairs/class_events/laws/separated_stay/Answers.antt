@@ -1,5 +1,0 @@
-use Rattle.event_findings.proofs.unshown_pairs.class_events.Telling.{separated_stay}
-use Rattle.event_findings.proofs.unshown_pairs.class_events.laws.separated_stay.Goals as goal
-
-pub returns : goal.returns
-returns c = separated_stay

@@ -1,6 +1,0 @@
-use Rattle.std.proofs.Common.{take}
-use Rattle.event_findings.proofs.unshown_pairs.Entering.{HaveEntered}
-use Rattle.event_findings.proofs.unshown_pairs.classes.classes_into.Given as goal
-
-abbrev pub invariant-loop-i : goal.invariant-loop-i
-invariant-loop-i l = HaveEntered l.events.children (take l.i l.nodes) l.classes.items

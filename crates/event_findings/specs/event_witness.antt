@@ -1,5 +1,0 @@
-pub mod Sequences
-pub mod Unshown
-pub mod Shown
-pub mod Laws
-pub use Rattle.event_form.specs.Asked

@@ -1,0 +1,4 @@
+pub mod Sequences
+pub mod Unshown
+pub mod Shown
+pub mod Laws

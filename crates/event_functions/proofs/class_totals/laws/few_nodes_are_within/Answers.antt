@@ -1,5 +1,0 @@
-use Rattle.event_functions.proofs.class_totals.Over.{few_nodes_are_within}
-use Rattle.event_functions.proofs.class_totals.laws.few_nodes_are_within.Goals as goal
-
-pub returns : goal.returns
-returns c = few_nodes_are_within

@@ -1,5 +1,0 @@
-use Rattle.event_functions.proofs.class_totals.Over.{totals_are_within}
-use Rattle.event_functions.proofs.class_totals.laws.totals_are_within.Goals as goal
-
-pub returns : goal.returns
-returns c = totals_are_within

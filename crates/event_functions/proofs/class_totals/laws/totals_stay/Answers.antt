@@ -1,5 +1,0 @@
-use Rattle.event_functions.proofs.class_totals.Going.{totals_stay}
-use Rattle.event_functions.proofs.class_totals.laws.totals_stay.Goals as goal
-
-pub returns : goal.returns
-returns c = totals_stay

@@ -1,0 +1,12 @@
+pub mod Laws
+pub mod Fitted
+pub mod Framed
+pub mod Saying
+pub mod Heavy
+pub mod Answered
+pub use Rattle.event_under.specs.event_shown_under.event_under_fits.Findings
+pub use Rattle.event_form.specs.declared.event_findings.pairs.EventPairs
+pub use Rattle.event_form.specs.declared.event_findings.verdict.UnshownPair
+pub use Rattle.plain_check.specs.under_base.Met
+pub use Rattle.plain_check.specs.under_base.Taken
+pub use Rattle.plain_check.specs.declared.under_base.compare_base.error.CompareError

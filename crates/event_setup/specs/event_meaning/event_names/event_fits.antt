@@ -1,0 +1,17 @@
+pub mod Named
+pub mod Fitting
+pub mod Shown
+pub mod Compared
+pub mod Circuits
+pub mod Totals
+pub use Rattle.event_form.specs.declared.event_findings.pairs.EventPairs
+pub use Rattle.event_form.specs.event_findings.Findings
+pub use Rattle.event_form.specs.declared.event_findings.verdict.UnshownPair
+pub use Rattle.event_form.specs.declared.event_findings.verdict.EventVerdict
+pub use Rattle.event_form.specs.Answers
+pub use Rattle.event_form.specs.Asked
+pub use Rattle.event_form.specs.declared.frames.FrameBit
+pub use Rattle.event_form.specs.event_findings.unshown_pairs.Told
+pub use Rattle.event_form.specs.event_findings.unshown_pairs.Separations
+pub use Rattle.event_form.specs.declared.event_findings.unshown_pairs.separations.ToldSeparation
+pub use Rattle.event_form.specs.declared.error.EventFormError

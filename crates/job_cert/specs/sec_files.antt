@@ -1,1 +1,0 @@
-pub use Rattle.sec_files.specs.job_files.Reading

@@ -1,0 +1,1 @@
+pub use Rattle.event_setup.specs.event_meaning.event_meaning_under.Heavy

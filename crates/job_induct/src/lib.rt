@@ -1,8 +1,0 @@
-//! The job that compares two circuits from their initial values by blocks of latches.
-#![tactic(auto)]
-
-mod comparison;
-pub mod induct_meaning;
-mod judging;
-
-pub use comparison::{BlockComparison, compare_by_blocks};

@@ -1,1 +1,0 @@
-pub use Rattle.aig.proofs.circuit_theory.Lists

@@ -1,6 +1,0 @@
-use Rattle.std.proofs.Common.{◌≡◌, take}
-use Rattle.lane_eval.specs.root_classes.Inputs.{inputs_of}
-use Rattle.lane_eval.proofs.root_classes.inputs.variables.Given as goal
-
-abbrev pub invariant-loop-n : goal.invariant-loop-n
-invariant-loop-n l = l.vars.items ≡ inputs_of (take l.n l.nodes)

@@ -1,1 +1,0 @@
-pub use Rattle.aig.specs.circuit_theory.Query

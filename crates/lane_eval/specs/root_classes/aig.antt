@@ -1,4 +1,0 @@
-pub use Rattle.aig.specs.Graph
-pub use Rattle.aig.specs.Values
-pub use Rattle.aig.specs.declared.node.Lit
-pub use Rattle.aig.specs.declared.node.Node

@@ -1,1 +1,0 @@
-pub use Rattle.lane_eval.proofs.Numbered

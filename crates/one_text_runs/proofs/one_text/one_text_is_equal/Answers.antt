@@ -1,5 +1,0 @@
-use Rattle.one_text_runs.proofs.one_text.OneText.{one_text_is_equal}
-use Rattle.one_text_runs.proofs.one_text.one_text_is_equal.Goals as goal
-
-pub returns : goal.returns
-returns c = one_text_is_equal

@@ -1,1 +1,0 @@
-pub use Rattle.check_meaning.specs.check_texts.Texts

@@ -1,7 +1,0 @@
-use Rattle.std.specs.Prelude.{◌≡◌, ◌++◌, take}
-use Rattle.std.specs.List.{flat_map}
-use Rattle.outcome.specs.Report.{separation_text}
-use Rattle.outcome.proofs.text.put_separations.Given as goal
-
-abbrev pub invariant-loop-separation : goal.invariant-loop-separation
-invariant-loop-separation l = l.text.items ≡ l.initial.text.items ++ flat_map separation_text (take l.separation-index l.apart)

@@ -1,0 +1,31 @@
+-- Each verdict is shown by what was made for it.
+use Rattle.std.proofs.Common.{◌≡◌, ◌<◌, length, get_or, slice_get, Some, refl, sym, ap, subst}
+use Rattle.std.proofs.lemmas.Option.{slice_get-get_or}
+use Rattle.witness_report.specs.declared.witness.PairName.{PairName}
+use Rattle.obligations.specs.declared.outcome.verdict.PairResult.{PairResult}
+use Rattle.obligations.specs.declared.outcome.verdict.Verdict.TheVariants as verdict
+use Rattle.obligations.specs.declared.outcome.verdict.Why.TheVariants as why
+use Rattle.obligations.specs.declared.outcome.verdict.LimitAt.TheVariants as limit_at
+use Rattle.obligations.specs.declared.verdict.VerdictAt.{VerdictAt}
+use Rattle.plain_check.specs.asked_under.plain_asked_under.Shown.{CanBeShownUnder, IsShownUnder}
+use Rattle.plain_check.proofs.asked_under.plain_asked_under.shown.show_under.Goals as goal
+
+pub returns-in_ok-witness-in-Different : goal.returns-in_ok-witness-in-Different
+returns-in_ok-witness-in-Different c =
+    let w = c.in_ok-witness-in-Different.witness in
+    subst (λ (x : VerdictAt). IsShownUnder c.args.functions.now c.args.columns.now c.args.asked.now c.args.under.now c.args.meeting.now c.args.results.now x (verdict.Different w)) (sym c.in-Different.is) (w, refl, c.in_ok-witness-in-Different.ensures)
+
+pub returns-in_ok-witness-in-NotShown : goal.returns-in_ok-witness-in-NotShown
+returns-in_ok-witness-in-NotShown c =
+    let w = c.in_ok-witness-in-NotShown.witness in
+    subst (λ (x : VerdictAt). IsShownUnder c.args.functions.now c.args.columns.now c.args.asked.now c.args.under.now c.args.meeting.now c.args.results.now x (verdict.NotShown (why.Cut w))) (sym c.in-NotShown.is) (w, refl, c.in_ok-witness-in-NotShown.ensures)
+
+pub returns-in_ok-name-in-Limit : goal.returns-in_ok-name-in-Limit
+returns-in_ok-name-in-Limit c =
+    let rs = c.args.results.now in
+    let place = c.in-Limit.place in
+    let r : PairResult = c.index-results-place.result in
+    let inside : place < length rs = subst (CanBeShownUnder c.args.functions.now c.args.columns.now c.args.asked.now c.args.under.now rs) c.in-Limit.is c.requires.shown in
+    let at : slice_get rs place ≡ Some (get_or rs place r) = slice_get-get_or rs place r inside in
+    subst (λ (x : VerdictAt). IsShownUnder c.args.functions.now c.args.columns.now c.args.asked.now c.args.under.now c.args.meeting.now rs x (verdict.Limit (limit_at.Pair c.in_ok-name-in-Limit.name))) (sym c.in-Limit.is)
+    (get_or rs place r, at, ap (λ (n : PairName). verdict.Limit (limit_at.Pair n)) c.in_ok-name-in-Limit.ensures)

@@ -1,0 +1,117 @@
+//! Comparing the pairs of two circuits from their initial values under an assumption.
+
+ghost use Rattle.std.specs.Prelude.{◌≡◌, ◌≤◌, length, map, IfOk};
+ghost use Rattle.assume_laws.specs.Assume.{Assumption};
+ghost use Rattle.assume_queries.specs.assume_sequences.Assumed.{CanBeAssumed};
+ghost use Rattle.assume_queries.specs.assume_sequences.Filled.{bit_of};
+ghost use Rattle.sec_setup.specs.ports.Pairs.{places_of};
+ghost use Rattle.sec_setup.specs.Setup.{IsSetup};
+ghost use Rattle.reset_form.specs.reset_functions.Bases.{AreBases};
+ghost use Rattle.reset_form.specs.reset_asked.Numbers.{numbered};
+ghost use Rattle.plain_check.specs.asked_under.reset_asked_under.Asked.{AreAskedUnder, CanBeDecided};
+ghost use Rattle.plain_check.specs.asked_under.reset_asked_under.Formed.{FormedUnder};
+ghost use Rattle.plain_check.specs.asked_under.reset_asked_under.Verdict.{FindingsFitUnder};
+
+use crate::asked_under::error::CompareUnderError;
+use crate::asked_under::reset_asked_under::shown::show_under;
+use assume_queries::asked_under;
+use assume_queries::assume_answers::VariableOrder;
+use assume_queries::assume_sequences::Premise;
+use obligations::{Decided, Obligation, decide_all, greatest_size, verdict_at};
+use reset_form::reset_asked::{ResetFindings, ask};
+use reset_form::reset_functions::{Bases, Functions, bases_of, unfold_pairs};
+use sec_base::{Bits, MAX_CONFLICTS, NoMemory};
+use sec_setup::Setup;
+use std::alloc::Global;
+
+/// Compares the pairs from the latches' initial values as without an assumption, each query with the assumption as its care in the cycles of
+/// the query's variables. Where the functions of a pair differ under it, the sequence has the premise's row in each cycle in which the pair
+/// has no variable. `TooLarge` comes as without it, and then `AssumptionTooLarge` exactly where the assumption weighs more than 2,000,000 in
+/// all cycles of the pairs' variables, with one more for each of these of each pair in each cycle up to its depth.
+pub fn compare_reset_under(
+    alloc: Global,
+    setup: &Setup<'_>,
+    premise: &Premise,
+    conflicts: u32,
+) -> Result<ResetFindings, CompareUnderError>
+    requires setup { IsSetup setup.now }
+    requires premise { CanBeAssumed premise.now (length setup.now.columns) }
+    requires conflicts { conflicts ≤ MAX_CONFLICTS }
+    ensures { FormedUnder setup.now premise.now conflicts result }
+{
+    setup.left.keeps();
+    setup.right.keeps();
+    let bases = bases_of(setup)?;
+    let mut functions = unfold_pairs(alloc, setup, bases)?;
+    functions.aig.keeps();
+    functions.places.keeps();
+    let asked = ask(alloc, setup, bases, &functions)?;
+    let under = asked_under(
+        alloc,
+        VariableOrder::Cycles,
+        &premise.own,
+        premise.weight,
+        &mut functions.aig,
+        &mut functions.places,
+        asked.as_slice(),
+    )?;
+    let findings = findings_under(
+        alloc,
+        setup,
+        bases,
+        &functions,
+        asked.as_slice(),
+        under.as_slice(),
+        &premise.meeting,
+        conflicts,
+    )?;
+    Ok(findings)
+}
+
+/// What is found of the pairs by what is asked of them without the assumption and under it.
+fn findings_under(
+    alloc: Global,
+    setup: &Setup<'_>,
+    bases: Bases,
+    functions: &Functions,
+    asked: &[Obligation],
+    under: &[Obligation],
+    meeting: &Bits,
+    conflicts: u32,
+) -> Result<ResetFindings, NoMemory>
+    requires setup { IsSetup setup.now }
+    requires bases { AreBases setup.now bases }
+    requires asked { CanBeDecided setup.now bases functions.now asked.now under.now meeting.now }
+    requires bits { length meeting.now ≡ length setup.now.columns }
+    requires conflicts { conflicts ≤ MAX_CONFLICTS }
+    ensures { IfOk result (λ f. (c : Assumption) → AreAskedUnder setup.now bases functions.now asked.now under.now meeting.now c → FindingsFitUnder c (numbered setup.now bases) (bit_of meeting.now) conflicts (map places_of setup.now.pairs) f) }
+{
+    setup.left.keeps();
+    setup.right.keeps();
+    functions.aig.keeps();
+    functions.places.keeps();
+    let decided = decide_all(alloc, &functions.aig, under, conflicts)?;
+    let Decided {
+        results,
+        different,
+        not_shown,
+    } = decided;
+    let at = verdict_at(different, not_shown, results.as_slice());
+    let verdict = show_under(
+        alloc,
+        setup,
+        bases,
+        functions,
+        asked,
+        under,
+        meeting,
+        results.as_slice(),
+        at,
+    )?;
+    let through = greatest_size(results.as_slice());
+    Ok(ResetFindings {
+        pairs: results,
+        through,
+        verdict,
+    })
+}

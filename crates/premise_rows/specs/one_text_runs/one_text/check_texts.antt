@@ -1,0 +1,1 @@
+pub use Rattle.job_check.specs.check_meaning.check_texts.Texts

@@ -1,6 +1,0 @@
-use Rattle.std.proofs.Common.{◌≡◌, ◌+◌, length}
-use Rattle.reset_unfold.proofs.CycleLeaves.{IsFront}
-use Rattle.reset_unfold.proofs.cone.block_of.Given as goal
-
-abbrev pub invariant-loop-i : goal.invariant-loop-i
-invariant-loop-i l = record { size : l.from + length l.block.items ≡ l.i; front : IsFront l.visited l.from l.block.items }

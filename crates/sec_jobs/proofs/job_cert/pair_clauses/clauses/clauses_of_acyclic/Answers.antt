@@ -1,0 +1,119 @@
+-- Nothing is refused before the name is looked for.
+use Rattle.std.proofs.Common.{◌≡◌, ◌<◌, List, Err, length, refl, sym, subst, arith}
+use Rattle.std.specs.List.{All}
+use Rattle.circuit_theory.specs.Interface.{shared_inputs}
+use Rattle.flat_net.specs.View.{ports_of}
+use Rattle.sec_setup.specs.declared.ports.pairs.SignalPair.{SignalPair}
+use Rattle.plain_asked.specs.Pairs.{Unfolds, AreFunctions, AreLight, left_signals, right_signals}
+use Rattle.plain_asked.proofs.Refusals.{lefts_within, rights_within}
+use Rattle.plain_asked.proofs.PairAt.{left_within, right_within, left_here, right_here}
+use Rattle.sec_jobs.specs.job_cert.pair_clauses.Clauses.{PairGives, IsPairNamed, size_refusal_of}
+use Rattle.witness_report.specs.declared.witness.PairName.TheVariants.{Output}
+use Rattle.sec_jobs.specs.declared.job_cert.pair_clauses.error.CertError.TheVariants.{Compare}
+use Rattle.sec_jobs.proofs.job_cert.pair_clauses.Given.{is_order, paired, unfolded, are_clauses}
+use Rattle.sec_jobs.proofs.job_cert.pair_clauses.Refused.{refused_by, unfolding_refused}
+use Rattle.sec_jobs.proofs.job_cert.pair_clauses.Outputs.{no_left, no_right}
+use Rattle.sec_jobs.proofs.job_cert.pair_clauses.Differing.{told}
+use Rattle.sec_jobs.proofs.job_cert.pair_clauses.Few.{clauses_few, true_within}
+use Rattle.sec_jobs.proofs.job_cert.pair_clauses.clauses.clauses_of_acyclic.Goals as goal
+
+pub unfold_pairs-requires-clause-left_order : goal.unfold_pairs-requires-clause-left_order
+unfold_pairs-requires-clause-left_order c =
+    let n = c.args.nets.now in
+    is_order n.left.now (shared_inputs (ports_of n.left.now) (ports_of n.right.now)) c.args.orders.now.left c.args.orders.now.right c.requires.orders.left_is
+
+pub unfold_pairs-requires-clause-right_order : goal.unfold_pairs-requires-clause-right_order
+unfold_pairs-requires-clause-right_order c =
+    let n = c.args.nets.now in
+    is_order n.right.now (shared_inputs (ports_of n.left.now) (ports_of n.right.now)) c.args.orders.now.right c.args.orders.now.left c.requires.orders.right_is
+
+pub unfold_pairs-requires-clause-left : goal.unfold_pairs-requires-clause-left
+unfold_pairs-requires-clause-left c =
+    let n = c.args.nets.now in
+    let own = paired n.left.now n.right.now c.args.exposure.now c.in_ok-pairs.pairs c.requires.chosen c.requires.matches c.requires.right c.in_ok-pairs.ensures in
+    subst (λ (ps : List SignalPair). All (λ x. x < length n.left.now.drivers) (left_signals ps)) (sym c.as_slice.ensures) (lefts_within n.left.now n.right.now c.in_ok-pairs.pairs own c.keeps.ensures.sound)
+
+pub unfold_pairs-requires-clause-right : goal.unfold_pairs-requires-clause-right
+unfold_pairs-requires-clause-right c =
+    let n = c.args.nets.now in
+    let own = paired n.left.now n.right.now c.args.exposure.now c.in_ok-pairs.pairs c.requires.chosen c.requires.matches c.requires.right c.in_ok-pairs.ensures in
+    subst (λ (ps : List SignalPair). All (λ x. x < length n.right.now.drivers) (right_signals ps)) (sym c.as_slice.ensures) (rights_within n.left.now n.right.now c.in_ok-pairs.pairs own c.keeps-2.ensures.sound)
+
+pub returns-in_err-functions : goal.returns-in_err-functions
+returns-in_err-functions c =
+    let n = c.args.nets.now in
+    let o = c.args.orders.now in
+    let error = c.in_err-functions.field-0.0 in
+    let own = paired n.left.now n.right.now c.args.exposure.now c.in_ok-pairs.pairs c.requires.chosen c.requires.matches c.requires.right c.in_ok-pairs.ensures in
+    refused_by (PairGives n.left.now n.right.now c.args.pair.now) c.from_residual-in_err-functions.result (Compare (size_refusal_of error)) c.from_residual-in_err-functions.ensures.1
+    (unfolding_refused n.left.now n.right.now c.args.exposure.now o.left o.right c.in_ok-pairs.pairs c.args.pair.now error c.requires.matches c.requires.chosen own
+    (subst (λ (ps : List SignalPair). Unfolds n.left.now n.right.now o.left o.right ps (Err error)) c.as_slice.ensures c.in_err-functions.ensures.unfolds))
+
+pub returns-in_default : goal.returns-in_default
+returns-in_default c =
+    let n = c.args.nets.now in
+    let pairs = c.in_ok-pairs.pairs in
+    let e = c.args.exposure.now in
+    let own = paired n.left.now n.right.now e pairs c.requires.chosen c.requires.matches c.requires.right c.in_ok-pairs.ensures in
+    let other = subst (λ (ps : List SignalPair). All (λ (p : SignalPair). p.name ≡ Output c.args.pair.now → ⊥) ps) c.as_slice-2.ensures c.in_default.ensures in
+    let none = c.requires.chosen.closed refl in (
+      c.in_ok-word_of.ensures,
+      unfolded n.left.now n.right.now e pairs c.requires.matches c.requires.chosen own (subst (λ (ps : List SignalPair). AreLight n.left.now (left_signals ps)) c.as_slice.ensures c.in_ok-functions.ensures.unfolds.0)
+          (subst (λ (ps : List SignalPair). AreLight n.right.now (right_signals ps)) c.as_slice.ensures c.in_ok-functions.ensures.unfolds.1),
+      no_left n.left.now n.right.now e.names e.left e.right pairs c.in_ok-pairs.ensures none c.args.pair.now other,
+      no_right n.left.now n.right.now e.names e.left e.right pairs c.in_ok-pairs.ensures none c.args.pair.now c.requires.matches other,
+    )
+
+pub index-requires : goal.index-requires
+index-requires c =
+    let n = c.args.nets.now in
+    let o = c.args.orders.now in
+    let f = c.in_ok-functions.functions in
+    let named = subst (λ (ps : List SignalPair). IsPairNamed ps c.args.pair.now c.in-Some.place) c.as_slice-2.ensures c.in-Some.ensures in
+    let are = subst (λ (ps : List SignalPair). AreFunctions n.left.now n.right.now o.left o.right ps f) c.as_slice.ensures c.in_ok-functions.ensures.unfolds.2 in
+    let h = left_within n.left.now n.right.now c.in_ok-pairs.pairs c.in-Some.place named.0 named.1 o.left o.right f are in
+    omega (arith, h, f.left.ok.0)
+
+pub index-requires-2 : goal.index-requires-2
+index-requires-2 c =
+    let n = c.args.nets.now in
+    let o = c.args.orders.now in
+    let f = c.in_ok-functions.functions in
+    let named = subst (λ (ps : List SignalPair). IsPairNamed ps c.args.pair.now c.in-Some.place) c.as_slice-2.ensures c.in-Some.ensures in
+    let are = subst (λ (ps : List SignalPair). AreFunctions n.left.now n.right.now o.left o.right ps f) c.as_slice.ensures c.in_ok-functions.ensures.unfolds.2 in
+    let h = right_within n.left.now n.right.now c.in_ok-pairs.pairs c.in-Some.place named.0 named.1 o.left o.right f are in
+    omega (arith, h, f.right.ok.0)
+
+pub encode-requires : goal.encode-requires
+encode-requires c =
+    let n = c.args.nets.now in
+    let o = c.args.orders.now in
+    let f = c.in_ok-functions.functions in
+    let named = subst (λ (ps : List SignalPair). IsPairNamed ps c.args.pair.now c.in-Some.place) c.as_slice-2.ensures c.in-Some.ensures in
+    let are = subst (λ (ps : List SignalPair). AreFunctions n.left.now n.right.now o.left o.right ps f) c.as_slice.ensures c.in_ok-functions.ensures.unfolds.2 in
+    record {
+      left = (left_here n.left.now n.right.now c.in_ok-pairs.pairs c.in-Some.place named.0 named.1 o.left o.right f are c.index.result.now c.index.ensures).within;
+      right = (right_here n.left.now n.right.now c.in_ok-pairs.pairs c.in-Some.place named.0 named.1 o.left o.right f are c.index-2.result.now c.index-2.ensures).within;
+      care = true_within f.aig c.keeps-3.ensures.graph;
+    }
+
+pub returns : goal.returns
+returns c =
+    let n = c.args.nets.now in
+    let o = c.args.orders.now in
+    let e = c.args.exposure.now in
+    let pairs = c.in_ok-pairs.pairs in
+    let f = c.in_ok-functions.functions in
+    let cnf = c.in_ok-cnf.cnf in
+    let own = paired n.left.now n.right.now e pairs c.requires.chosen c.requires.matches c.requires.right c.in_ok-pairs.ensures in
+    let named = subst (λ (ps : List SignalPair). IsPairNamed ps c.args.pair.now c.in-Some.place) c.as_slice-2.ensures c.in-Some.ensures in
+    let are = subst (λ (ps : List SignalPair). AreFunctions n.left.now n.right.now o.left o.right ps f) c.as_slice.ensures c.in_ok-functions.ensures.unfolds.2 in
+    let left = left_here n.left.now n.right.now pairs c.in-Some.place named.0 named.1 o.left o.right f are c.index.result.now c.index.ensures in
+    let right = right_here n.left.now n.right.now pairs c.in-Some.place named.0 named.1 o.left o.right f are c.index-2.result.now c.index-2.ensures in
+    let can =
+    unfolded n.left.now n.right.now e pairs c.requires.matches c.requires.chosen own (subst (λ (ps : List SignalPair). AreLight n.left.now (left_signals ps)) c.as_slice.ensures c.in_ok-functions.ensures.unfolds.0)
+    (subst (λ (ps : List SignalPair). AreLight n.right.now (right_signals ps)) c.as_slice.ensures c.in_ok-functions.ensures.unfolds.1) in
+    let few = clauses_few f.aig c.index.result.now.lit.0 c.index-2.result.now.lit.0 cnf c.keeps-3.ensures.graph left.within right.within (omega (arith, c.in_ok-functions.ensures.small)) c.in_ok-cnf.ensures.encoding c.in_ok-cnf.ensures.small in
+    are_clauses n.left.now n.right.now e o.left o.right pairs c.args.pair.now c.in-Some.place cnf can c.requires.orders c.in_ok-pairs.ensures (c.requires.chosen.closed refl) named
+    (told n.left.now n.right.now o.left o.right f.aig f.places named.0.left.0 named.0.right.0 c.index.result.now c.index-2.result.now c.keeps.ensures.net c.keeps-2.ensures.net c.keeps-3.ensures.graph c.keeps-4.ensures c.keeps-3.ensures.values
+    left right cnf c.in_ok-cnf.ensures.meaning c.in_ok-cnf.ensures.small few)

@@ -1,0 +1,3 @@
+pub mod job_gen
+pub mod job_cert
+pub mod job_induct

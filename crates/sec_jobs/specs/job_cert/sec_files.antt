@@ -1,0 +1,1 @@
+pub use Rattle.job_base.specs.sec_files.job_files.Reading

@@ -1,0 +1,95 @@
+//! The report of a generated pair.
+
+ghost use Rattle.std.specs.Prelude.{◌≡◌, ◌++◌, ◌∷◌, [], length, codes, IfOk, OnOk};
+ghost use Rattle.std.specs.Fmt.{decimal};
+ghost use Rattle.sec_jobs.specs.job_gen.gen_meaning.Report.{gen_text, title_text, verdict_word};
+
+use crate::job_gen::gen_meaning::generation::Generation;
+use crate::job_gen::pair_gen::Twins;
+use obligations::outcome::Verdict;
+use sec_base::{NoMemory, Seq, Text, put, put_number};
+use std::alloc::Global;
+
+/// The report: the number, how many inputs, outputs, gates and latches there are, and the verdict.
+pub fn summary(
+    alloc: Global,
+    generation: &Generation,
+    twins: &Twins,
+    verdict: &Verdict,
+) -> Result<Text, NoMemory>
+    ensures { IfOk result (λ text. text ≡ gen_text generation.now twins.now.a twins.now.b verdict.now) }
+{
+    let mut text = Vec::new(alloc);
+    put_title(alloc, &mut text, generation)?;
+    put_count(alloc, &mut text, b"inputs ", twins.a.inputs().len())?;
+    put_count(alloc, &mut text, b"outputs ", twins.a.outputs().len())?;
+    put_counts(
+        alloc,
+        &mut text,
+        b"gates ",
+        twins.a.gates().len(),
+        twins.b.gates().len(),
+    )?;
+    put_counts(
+        alloc,
+        &mut text,
+        b"latches ",
+        twins.a.latches().len(),
+        twins.b.latches().len(),
+    )?;
+    put(&mut text, b"verdict ")?;
+    put(&mut text, verdict_word(verdict).as_bytes())?;
+    put(&mut text, b"\n")?;
+    Ok(Seq::from_vec(text))
+}
+
+/// The line of the number.
+fn put_title(alloc: Global, text: &mut Vec<u8>, generation: &Generation) -> Result<(), NoMemory>
+    ensures { OnOk result (text.new.items ≡ text.old.items ++ title_text generation.now) }
+{
+    put(text, b"gen ")?;
+    put_number(alloc, text, generation.seed)?;
+    if generation.regroup {
+        put(text, b" regroup\n")
+    } else {
+        put(text, b"\n")
+    }
+}
+
+/// A line with a number.
+fn put_count(alloc: Global, text: &mut Vec<u8>, front: &[u8], count: usize) -> Result<(), NoMemory>
+    ensures { OnOk result (text.new.items ≡ text.old.items ++ (front.now ++ decimal count ++ 10 ∷ [])) }
+{
+    put(text, front)?;
+    put_number(alloc, text, count as u64)?;
+    put(text, b"\n")
+}
+
+/// A line with two numbers.
+fn put_counts(
+    alloc: Global,
+    text: &mut Vec<u8>,
+    front: &[u8],
+    left: usize,
+    right: usize,
+) -> Result<(), NoMemory>
+    ensures { OnOk result (text.new.items ≡ text.old.items ++ (front.now ++ decimal left ++ 32 ∷ [] ++ decimal right ++ 10 ∷ [])) }
+{
+    put(text, front)?;
+    put_number(alloc, text, left as u64)?;
+    put(text, b" ")?;
+    put_number(alloc, text, right as u64)?;
+    put(text, b"\n")
+}
+
+fn verdict_word(verdict: &Verdict) -> &'static str
+    ensures { result.now ≡ verdict_word verdict.now }
+{
+    match verdict {
+        Verdict::Equal => "equal",
+        Verdict::Different(_) => "different",
+        Verdict::DifferentFrom(_) => "different",
+        Verdict::NotShown(_) => "not-shown",
+        Verdict::Limit(_) => "limit",
+    }
+}

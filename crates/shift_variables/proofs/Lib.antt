@@ -1,4 +1,0 @@
-pub mod Assignments
-pub mod MergeLists
-pub mod Reading
-pub mod CycleRows

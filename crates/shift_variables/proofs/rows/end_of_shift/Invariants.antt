@@ -1,6 +1,0 @@
-use Rattle.std.proofs.Common.{◌≡◌, ◌<◌, ◌≤◌, ℕ, slice_get, Some}
-use Rattle.shift_variables.specs.Variables.{variable_of}
-use Rattle.shift_variables.proofs.rows.end_of_shift.Given as goal
-
-abbrev pub invariant-loop-k : goal.invariant-loop-k
-invariant-loop-k l = (j v : ℕ) → l.from ≤ j → j < l.k → slice_get l.vars j ≡ Some v → (variable_of l.places v).at ≡ l.shift

@@ -1,0 +1,225 @@
+//! Proving that two literals of a graph agree.
+
+ghost use Rattle.std.specs.Prelude.{◌≡◌, ℕ, ◌*◌, ◌<◌, ◌≤◌, List, length, IfOk, IfSome};
+ghost use Rattle.aig.specs.declared.node.Node.{Node};
+ghost use Rattle.aig.specs.lane_eval.root_classes.Agreeing.{Agree};
+ghost use Rattle.sweep_candidates.specs.declared.models.Model.{Model};
+ghost use Rattle.swept_queries.specs.declared.node_agreement.proof.Proved.TheVariants as proved;
+ghost use Rattle.swept_queries.specs.node_agreement.Answers.{DifferAt, IsToldOf, IsProved};
+
+use crate::node_agreement::budget::Budget;
+use crate::node_agreement::models::model_of;
+use crate::node_agreement::question::{Tried, ask};
+use crate::node_agreement::small::{find, small_graph};
+use aig::lane_eval::root_classes::{Aig, Lit, NoMemory};
+use std::alloc::Global;
+use sweep_candidates::case_split::agree_by_cases;
+use sweep_candidates::{Model, cut_of, small_cone_of, window_of};
+
+/// After how many steps windows end.
+const WINDOWS: [usize; 2] = [100, 300];
+
+/// What came of all attempts.
+#[derive(Drop)]
+pub enum Proved {
+    Same,
+    /// They differ where the graph's variables have these bits, and others 0.
+    Apart(Model),
+    Open,
+}
+
+impl Proved {
+    /// Whether something was found.
+    fn is_told(&self) -> bool {
+        !matches!(self, Proved::Open)
+    }
+}
+
+/// Tries to prove that two literals agree: over a cut of few leaves, by cases, over windows, and over their whole cones. Where they differ over the
+/// whole cones, it tells where.
+pub fn prove(
+    alloc: Global,
+    graph: &Aig,
+    levels: &[u32],
+    x: Lit,
+    k: Lit,
+    budget: &mut Budget,
+) -> Result<Proved, NoMemory>
+    requires x { x.0 < 2 * length graph.now }
+    requires k { k.0 < 2 * length graph.now }
+    ensures same { IfOk result (λ p. p ≡ proved.Same → Agree graph.now x.0 k.0) }
+    ensures apart { IfOk result (λ p. (m : Model) → p ≡ proved.Apart m → DifferAt graph.now x.0 k.0 m.vars.items m.bits.items) }
+{
+    attempt(alloc, graph, levels, x, k, budget)
+}
+
+/// The same as one relation.
+fn attempt(
+    alloc: Global,
+    graph: &Aig,
+    levels: &[u32],
+    x: Lit,
+    k: Lit,
+    budget: &mut Budget,
+) -> Result<Proved, NoMemory>
+    requires x { x.0 < 2 * length graph.now }
+    requires k { k.0 < 2 * length graph.now }
+    ensures { IfOk result (IsProved graph.now x.0 k.0) }
+{
+    let near = prove_nearby(alloc, graph, levels, x, k, budget)?;
+    if near.is_told() || !budget.may_search() {
+        return Ok(near);
+    }
+    prove_wholly(alloc, graph, x, k, budget)
+}
+
+/// Tries it over a cut, by cases, and over windows. Where no conflicts are allowed there is none.
+fn prove_nearby(
+    alloc: Global,
+    graph: &Aig,
+    levels: &[u32],
+    x: Lit,
+    k: Lit,
+    budget: &mut Budget,
+) -> Result<Proved, NoMemory>
+    ensures { IfOk result (IsProved graph.now x.0 k.0) }
+{
+    if budget.each == 0 {
+        return Ok(Proved::Open);
+    }
+    let cut = cut_of(alloc, graph, levels, x, k)?;
+    let told = prove_in(alloc, graph, cut.as_slice(), x, k, budget)?;
+    if told.is_told() || !budget.may_search() {
+        return Ok(told);
+    }
+    let cases = prove_by_cases(alloc, graph, x, k, budget)?;
+    if cases.is_told() {
+        return Ok(cases);
+    }
+    prove_in_window(alloc, graph, levels, x, k, budget)
+}
+
+/// Tries it by cases of the variables that most nodes read. An attempt that fails costs a walk over the graph: where 16 failed one
+/// after the other, one of 16 is made.
+fn prove_by_cases(
+    alloc: Global,
+    graph: &Aig,
+    x: Lit,
+    k: Lit,
+    budget: &mut Budget,
+) -> Result<Proved, NoMemory>
+    ensures { IfOk result (IsProved graph.now x.0 k.0) }
+{
+    let may_split = budget.in_vain < 16 || budget.in_vain % 16 == 0;
+    if !may_split {
+        budget.note_split(false, 0);
+        return Ok(Proved::Open);
+    }
+    let same = agree_by_cases(alloc, graph, x, k)?;
+    budget.note_split(same, graph.size());
+    if same {
+        return Ok(Proved::Same);
+    }
+    Ok(Proved::Open)
+}
+
+/// Tries it over some windows, each wider than the one before.
+fn prove_in_window(
+    alloc: Global,
+    graph: &Aig,
+    levels: &[u32],
+    x: Lit,
+    k: Lit,
+    budget: &mut Budget,
+) -> Result<Proved, NoMemory>
+    ensures { IfOk result (IsProved graph.now x.0 k.0) }
+{
+    for i in 0..WINDOWS.len() {
+        let window = window_of(alloc, graph, levels, x, k, WINDOWS[i])?;
+        let told = prove_in(alloc, graph, window.as_slice(), x, k, budget)?;
+        if told.is_told() {
+            return Ok(told);
+        }
+    }
+    Ok(Proved::Open)
+}
+
+/// Tries it over the whole cones. Where no conflicts are allowed these are looked at only if they are small.
+fn prove_wholly(
+    alloc: Global,
+    graph: &Aig,
+    x: Lit,
+    k: Lit,
+    budget: &mut Budget,
+) -> Result<Proved, NoMemory>
+    requires x { x.0 < 2 * length graph.now }
+    requires k { k.0 < 2 * length graph.now }
+    ensures { IfOk result (IsProved graph.now x.0 k.0) }
+{
+    if budget.each == 0 {
+        return match small_cone_of(alloc, graph, &[], x, k)? {
+            Some(cone) => prove_in(alloc, graph, cone.as_slice(), x, k, budget),
+            None => Ok(Proved::Open),
+        };
+    }
+    let cone = graph.cone(alloc, &[x, k])?;
+    budget.charge(cone.len());
+    prove_in(alloc, graph, cone.as_slice(), x, k, budget)
+}
+
+/// Tries it over the small graph of these nodes. Where the literals differ there, so they do in the graph if its variables are the
+/// graph's own. A search that fails is paid for.
+fn prove_in(
+    alloc: Global,
+    graph: &Aig,
+    numbers: &[u32],
+    x: Lit,
+    k: Lit,
+    budget: &mut Budget,
+) -> Result<Proved, NoMemory>
+    ensures { IfOk result (IsProved graph.now x.0 k.0) }
+{
+    let conflicts = budget.conflicts();
+    let tried = try_small(alloc, graph, numbers, x, k, conflicts)?;
+    budget.note(&tried, conflicts);
+    match tried {
+        Tried::Same(_) => Ok(Proved::Same),
+        Tried::Differs(vars, bits) => {
+            let found = model_of(alloc, graph, vars.as_slice(), bits)?;
+            Ok(apart_by(found))
+        }
+        _ => Ok(Proved::Open),
+    }
+}
+
+/// They differ by the model, if there is one.
+fn apart_by(found: Option<Model>) -> Proved
+    ensures { (g : List Node) (x y : ℕ) → IfSome found (λ m. DifferAt g x y m.vars.items m.bits.items) → IsProved g x y result }
+{
+    match found {
+        Some(model) => Proved::Apart(model),
+        None => Proved::Open,
+    }
+}
+
+/// Tries to prove that two literals agree over the small graph of these nodes.
+fn try_small(
+    alloc: Global,
+    graph: &Aig,
+    numbers: &[u32],
+    x: Lit,
+    k: Lit,
+    conflicts: u32,
+) -> Result<Tried, NoMemory>
+    requires { conflicts ≤ 200000 }
+    ensures { IfOk result (IsToldOf graph.now x.0 k.0) }
+{
+    graph.keeps();
+    let small = small_graph(alloc, graph, numbers)?;
+    small.graph.keeps();
+    let lits = small.lits.as_slice();
+    let (Some(left), Some(right)) = (find(numbers, lits, x), find(numbers, lits, k)) else {
+        return Ok(Tried::Open);
+    };
+    ask(alloc, &small.graph, left, right, conflicts)
+}

@@ -1,7 +1,0 @@
-use Rattle.std.proofs.Common.{take}
-use Rattle.std.specs.List.{Contains}
-use Rattle.unfold_places.specs.Visitors.{Gives}
-use Rattle.unfold_places.proofs.visitors.give_all.Given as goal
-
-abbrev pub invariant-loop-number : goal.invariant-loop-number
-invariant-loop-number l = Gives (Contains (take l.number-index l.numbers)) l.word l.initial.words l.words
