@@ -17,10 +17,10 @@ use Rattle.aig.proofs.CoverMeaning.{value-one}
 use Rattle.cbf_unfold.specs.declared.unfold_places.signal_function.Unfolded.{Unfolded}
 use Rattle.proof_check.specs.Clauses.{Unsatisfiable}
 use Rattle.pair_decide.specs.declared.cnf_encode.cnf.Cnf.{Cnf}
-use Rattle.pair_decide.specs.cnf_encode.Encoding.{MeansDifference, ShowsDifference, IsSmall}
+use Rattle.pair_decide.specs.cnf_encode.Encoding.{MeansDifference, ShowsDifference, IsSmall, IsEncoding}
 use Rattle.plain_asked.specs.outcome_fits.Outcome.{HaveDifferentFunctions}
 use Rattle.plain_asked.specs.Pairs.{IsFunctionOf}
-use Rattle.sec_jobs.specs.job_cert.pair_clauses.Clauses.{CanBeMet, TellDifference}
+use Rattle.sec_jobs.specs.job_cert.pair_clauses.Clauses.{CanBeMet, TellDifference, AreEncoded}
 
 -- the bit of the variable that stands for an input at a shift
 by_place : (ℕ → Bool) → List (ℕ × ℕ) → ℕ → ℕ → ℕ → Bool
@@ -142,3 +142,22 @@ module _ (a b : NetView) (left right : List ℕ) (g : List Node) (places : List 
 
   pub told : IsSmall cnf → length cnf.clauses ≤ 2 ^ 30 → TellDifference (circuit_of a) (circuit_of b) left right s t cnf
   told small few = record { exactly = (from_met, to_met_by); equal = never_met; small = small; few = few }
+
+  pub encoded : IsEncoding g l.lit.0 r.lit.0 1 cnf → AreEncoded (circuit_of a) (circuit_of b) left right s t cnf
+  encoded is = record {
+    left_depth = left_is.depth;
+    right_depth = right_is.depth;
+    left_tree = left_is.tree;
+    right_tree = right_is.tree;
+    left_unfolds = left_is.unfolds;
+    right_unfolds = right_is.unfolds;
+    graph = g;
+    places = places;
+    is_graph = graph;
+    distinct = distinct;
+    left_lit = l.lit.0;
+    right_lit = r.lit.0;
+    left_built = left_is.builds;
+    right_built = right_is.builds;
+    clauses = is;
+  }

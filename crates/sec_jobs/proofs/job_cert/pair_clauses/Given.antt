@@ -20,7 +20,7 @@ use Rattle.sec_setup.specs.Matching.{InterfacesMatch}
 use Rattle.sec_setup.specs.ports.Pairs.{ArePairsOf}
 use Rattle.sec_setup.proofs.Uncut.{uncut}
 use Rattle.cbf_unfold.proofs.shift_variables.Assignments.{once_each}
-use Rattle.sec_jobs.specs.job_cert.pair_clauses.Clauses.{CanBeUnfolded, TellDifference, ArePairClauses, IsPairNamed}
+use Rattle.sec_jobs.specs.job_cert.pair_clauses.Clauses.{CanBeUnfolded, TellDifference, AreEncoded, ArePairClauses, IsPairNamed}
 use Rattle.sec_jobs.proofs.job_cert.pair_clauses.Outputs.{named_outputs}
 
 -- the numbers of a net's inputs
@@ -39,8 +39,8 @@ module _ (a b : NetView) (e : Exposure) (pairs : List SignalPair) (matches : Int
 
 -- the clauses of the pair of this name
 pub are_clauses : (a b : NetView) (e : Exposure) (left right : List ℕ) (pairs : List SignalPair) (name : List ℕ) (place : ℕ) (cnf : Cnf) → CanBeUnfolded a b → AreOrders (ports_of a) (ports_of b) left right → ArePairs a b e.names e.left e.right pairs → e.names ≡ [] →
-    (named : IsPairNamed pairs name place) → TellDifference (circuit_of a) (circuit_of b) left right named.0.left.0 named.0.right.0 cnf → ArePairClauses a b name cnf
-are_clauses a b e left right pairs name place cnf can orders are none named tell =
+    (named : IsPairNamed pairs name place) → AreEncoded (circuit_of a) (circuit_of b) left right named.0.left.0 named.0.right.0 cnf → TellDifference (circuit_of a) (circuit_of b) left right named.0.left.0 named.0.right.0 cnf → ArePairClauses a b name cnf
+are_clauses a b e left right pairs name place cnf can orders are none named encoded tell =
     let outputs = named_outputs a b e.names e.left e.right pairs are none name place named.0 named.1 named.2 in
     record {
       unfolded = can;
@@ -52,5 +52,6 @@ are_clauses a b e left right pairs name place cnf can orders are none named tell
       right_place = named.0.right.0;
       left_output = outputs.0;
       right_output = outputs.1;
+      encoded = encoded;
       tell = tell;
     }

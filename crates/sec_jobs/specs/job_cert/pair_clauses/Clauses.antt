@@ -4,13 +4,17 @@ use Rattle.std.specs.List.{Contains}
 use Rattle.circuit_theory.specs.declared.Mode.TheVariants.{Plain}
 use Rattle.circuit_theory.specs.Circuit.{Circuit}
 use Rattle.circuit_theory.specs.Interface.{shared_inputs, AreNumbersOf}
-use Rattle.circuit_theory.specs.Tree.{HaveEqualFunctions}
+use Rattle.circuit_theory.specs.Tree.{Tree, Unfolds, HaveEqualFunctions}
+use Rattle.base_tables.specs.Table.{AreDistinct}
 use Rattle.flat_net.specs.View.{NetView, circuit_of, ports_of}
 use Rattle.sec_setup.specs.declared.ports.pairs.SignalPair.{SignalPair}
+use Rattle.aig.specs.declared.node.Node.{Node}
+use Rattle.aig.specs.Graph.{IsGraph}
+use Rattle.aig.specs.Builds.{Builds}
 use Rattle.proof_check.specs.Literals.{Literal}
 use Rattle.proof_check.specs.Clauses.{Satisfies, Unsatisfiable}
 use Rattle.pair_decide.specs.declared.cnf_encode.cnf.Cnf.{Cnf}
-use Rattle.pair_decide.specs.cnf_encode.Encoding.{IsSmall}
+use Rattle.pair_decide.specs.cnf_encode.Encoding.{IsSmall, IsEncoding}
 use Rattle.sec_base.specs.declared.settings.Settings.{Settings}
 use Rattle.sec_setup.specs.Cycles.{IsAcyclic}
 use Rattle.sec_setup.specs.Matching.{InterfacesMatch}
@@ -37,6 +41,25 @@ pub record TellDifference {P Q : Type 0} (a : Circuit P) (b : Circuit Q) (left r
   pub small : IsSmall cnf
   pub few : length cnf.clauses ≤ 2 ^ 30
 
+-- The clauses are those of two literals of a graph without double nodes, and of a care that holds always. The literals are built from
+-- the function trees of the two places by the rules of covers alone, where no input at a shift has two variables.
+pub record AreEncoded {P Q : Type 0} (a : Circuit P) (b : Circuit Q) (left right : List ℕ) (p : P) (q : Q) (cnf : Cnf) : Type 0 where
+  pub left_depth : ℕ
+  pub right_depth : ℕ
+  pub left_tree : Tree ℕ
+  pub right_tree : Tree ℕ
+  pub left_unfolds : Unfolds a left p 0 left_depth left_tree
+  pub right_unfolds : Unfolds b right q 0 right_depth right_tree
+  pub graph : List Node
+  pub places : List (ℕ × ℕ)
+  pub is_graph : IsGraph graph
+  pub distinct : AreDistinct places
+  pub left_lit : ℕ
+  pub right_lit : ℕ
+  pub left_built : Builds graph places left_tree left_lit
+  pub right_built : Builds graph places right_tree right_lit
+  pub clauses : IsEncoding graph left_lit right_lit 1 cnf
+
 -- nothing keeps the circuits from being compared where no latch is cut open
 pub record CanBeUnfolded (a b : NetView) : Type 0 where
   pub matches : InterfacesMatch a b
@@ -60,6 +83,7 @@ pub record ArePairClauses (a b : NetView) (name : List ℕ) (cnf : Cnf) : Type 0
   pub right_place : ℕ
   pub left_output : IsOutput (circuit_of a) name left_place
   pub right_output : IsOutput (circuit_of b) name right_place
+  pub encoded : AreEncoded (circuit_of a) (circuit_of b) left right left_place right_place cnf
   pub tell : TellDifference (circuit_of a) (circuit_of b) left right left_place right_place cnf
 
 -- no output of either circuit has the name

@@ -13,7 +13,7 @@ use Rattle.sec_jobs.specs.declared.job_cert.pair_clauses.error.CertError.TheVari
 use Rattle.sec_jobs.proofs.job_cert.pair_clauses.Given.{is_order, paired, unfolded, are_clauses}
 use Rattle.sec_jobs.proofs.job_cert.pair_clauses.Refused.{refused_by, unfolding_refused}
 use Rattle.sec_jobs.proofs.job_cert.pair_clauses.Outputs.{no_left, no_right}
-use Rattle.sec_jobs.proofs.job_cert.pair_clauses.Differing.{told}
+use Rattle.sec_jobs.proofs.job_cert.pair_clauses.Differing.{told, encoded}
 use Rattle.sec_jobs.proofs.job_cert.pair_clauses.Few.{clauses_few, true_within}
 use Rattle.sec_jobs.proofs.job_cert.pair_clauses.clauses.clauses_of_acyclic.Goals as goal
 
@@ -115,5 +115,7 @@ returns c =
     (subst (λ (ps : List SignalPair). AreLight n.right.now (right_signals ps)) c.as_slice.ensures c.in_ok-functions.ensures.unfolds.1) in
     let few = clauses_few f.aig c.index.result.now.lit.0 c.index-2.result.now.lit.0 cnf c.keeps-3.ensures.graph left.within right.within (omega (arith, c.in_ok-functions.ensures.small)) c.in_ok-cnf.ensures.encoding c.in_ok-cnf.ensures.small in
     are_clauses n.left.now n.right.now e o.left o.right pairs c.args.pair.now c.in-Some.place cnf can c.requires.orders c.in_ok-pairs.ensures (c.requires.chosen.closed refl) named
+    (encoded n.left.now n.right.now o.left o.right f.aig f.places named.0.left.0 named.0.right.0 c.index.result.now c.index-2.result.now c.keeps.ensures.net c.keeps-2.ensures.net c.keeps-3.ensures.graph c.keeps-4.ensures c.keeps-3.ensures.values
+    left right cnf c.in_ok-cnf.ensures.meaning c.in_ok-cnf.ensures.encoding)
     (told n.left.now n.right.now o.left o.right f.aig f.places named.0.left.0 named.0.right.0 c.index.result.now c.index-2.result.now c.keeps.ensures.net c.keeps-2.ensures.net c.keeps-3.ensures.graph c.keeps-4.ensures c.keeps-3.ensures.values
     left right cnf c.in_ok-cnf.ensures.meaning c.in_ok-cnf.ensures.small few)
