@@ -159,10 +159,9 @@ pub fn run_job<S: Shelf, W: Sink>(alloc: Global, task: &Task, shelf: &mut S, out
     ensures complete { result.name ≢ StatusName.ReadFault → result.name ≢ StatusName.WriteFault → IsComplete (S.held shelf.old) (Some task.now) result.name }
     ensures served { All (S.serves shelf.old) (paths_of task.now) → result.name ≢ StatusName.ReadFault }
     ensures accepted { ((f : Finding) → IsFinding (S.held shelf.old) (Some task.now) f → W.accepts out.old (finding_text f)) → result.name ≢ StatusName.WriteFault }
-    // Nothing that is held changes, what is served stays so, and no count of faults falls.
-    ensures keeps { SameHeld (S.held shelf.old) (S.held shelf.new) × ((other : List ℕ) → S.serves shelf.old other → S.serves shelf.new other) }
+    // Nothing that is held changes, what is served stays so, a job without paths leaves the shelf alone, and no count of faults falls.
+    ensures keeps { SameHeld (S.held shelf.old) (S.held shelf.new) × ((other : List ℕ) → S.serves shelf.old other → S.serves shelf.new other) × (paths_of task.now ≡ [] → shelf.new ≡ shelf.old) }
     ensures later { NoneFell (S.faults shelf.old) (S.faults shelf.new) × (W.faults out.old ≤ W.faults out.new) }
-    ensures idle { paths_of task.now ≡ [] → shelf.new ≡ shelf.old }
 {
     match find(alloc, task, shelf) {
         Ok(finding) => finish(alloc, finding, out),

@@ -37,8 +37,11 @@ pub returns-in-Ok-clause-served : goal.returns-in-Ok-clause-served
 returns-in-Ok-clause-served g c all =
     c.run_job.ensures.served (subst (λ (job : Option Task). All (g.S.Shelf.serves c.args.shelf.now) (paths_in job)) c.in-Ok.ensures.job all)
 
+pub returns-in-Ok-clause-keeps : goal.returns-in-Ok-clause-keeps
+returns-in-Ok-clause-keeps g c = (c.run_job.ensures.keeps.0, c.run_job.ensures.keeps.1)
+
 pub returns-in-Ok-clause-idle : goal.returns-in-Ok-clause-idle
-returns-in-Ok-clause-idle g c none = c.run_job.ensures.idle (subst (λ (job : Option Task). paths_in job ≡ []) c.in-Ok.ensures.job none)
+returns-in-Ok-clause-idle g c none = c.run_job.ensures.keeps.2 (subst (λ (job : Option Task). paths_in job ≡ []) c.in-Ok.ensures.job none)
 
 pub returns-in-Ok-clause-accepted : goal.returns-in-Ok-clause-accepted
 returns-in-Ok-clause-accepted g c h =
