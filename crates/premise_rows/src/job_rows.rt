@@ -43,7 +43,7 @@ pub fn refutations_are_checked()
     ensures pairs { PairsAreRefuted }
 {}
 
-/// Two sets of clauses are refuted by logs that can be written, of which the second has a step that its text leaves out.
+/// Two sets of clauses are refuted by logs that can be written, of which the second has steps that its text leaves out.
 pub fn refutations_can_be_written()
     ensures units { UnitsCanBeWritten }
     ensures detour { DetourCanBeWritten }
