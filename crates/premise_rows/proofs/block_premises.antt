@@ -4,3 +4,4 @@ pub mod TurningNets
 pub mod EqualByBlocks
 pub mod ResetBounds
 pub mod ResetPremises
+pub mod ResetUnfolding

@@ -8,3 +8,4 @@ pub mod Ring
 pub mod Started
 pub mod Stimuli
 pub mod Unate
+pub mod Writing

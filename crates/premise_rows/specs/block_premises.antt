@@ -1,3 +1,4 @@
 pub mod ByBlocks
 pub mod EqualByBlocks
 pub mod ResetPremises
+pub mod ResetUnfolding

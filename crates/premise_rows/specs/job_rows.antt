@@ -5,4 +5,5 @@ pub mod Replays
 pub mod Ring
 pub mod Started
 pub mod Stimuli
+pub mod Writing
 pub mod nested_rows

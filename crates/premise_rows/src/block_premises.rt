@@ -1,7 +1,7 @@
 //! That the premises of what is promised of comparisons by blocks of latches are met. The functions do nothing: each contract is an example.
 //!
-//! That the premises of what is promised of comparisons from the latches' initial values are met. The function does nothing: its contract
-//! is an example.
+//! That the premises of what is promised of comparisons from the latches' initial values, and of unfolders from them, are met. The
+//! functions do nothing: each contract is an example.
 
 ghost use Rattle.premise_rows.specs.block_premises.ByBlocks.{TextsCanBeJudged};
 ghost use Rattle.premise_rows.specs.block_premises.EqualByBlocks.{AreEqualByBlocks};
@@ -23,4 +23,12 @@ ghost use Rattle.premise_rows.specs.block_premises.ResetPremises.{ResetsAreCompa
 /// A retiming that moves initial values along can be compared from these, and so can circuits with latches that may start with either.
 pub fn resets_are_comparable()
     ensures { ResetsAreComparable }
+{}
+
+ghost use Rattle.premise_rows.specs.block_premises.ResetUnfolding.{UnfoldersFit};
+
+/// An unfolder that has unfolded nothing, and one that has unfolded a latch in three cycles, fit a net of two latches from its initial
+/// values; the literals of that latch have the values of a run.
+pub fn unfolders_fit()
+    ensures { UnfoldersFit }
 {}

@@ -10,6 +10,7 @@ ghost use Rattle.premise_rows.specs.job_rows.Enables.{EnablesMeetPremises};
 ghost use Rattle.premise_rows.specs.job_rows.Replays.{ReplaysMeetPremises};
 ghost use Rattle.premise_rows.specs.job_rows.Ring.{RingIsCutOnce};
 ghost use Rattle.premise_rows.specs.job_rows.Refutations.{UnitsAreRefuted, PairsAreRefuted};
+ghost use Rattle.premise_rows.specs.job_rows.Writing.{UnitsCanBeWritten, DetourCanBeWritten};
 
 /// Two latches in a row can be run over a stimulus, from a power word and without one.
 pub fn two_can_be_run()
@@ -40,6 +41,12 @@ pub fn ring_is_cut_once()
 pub fn refutations_are_checked()
     ensures units { UnitsAreRefuted }
     ensures pairs { PairsAreRefuted }
+{}
+
+/// Two sets of clauses are refuted by logs that can be written, of which the second has steps that its text leaves out.
+pub fn refutations_can_be_written()
+    ensures units { UnitsCanBeWritten }
+    ensures detour { DetourCanBeWritten }
 {}
 
 /// A text has one report of its latch graph, up to the cycle that is told.

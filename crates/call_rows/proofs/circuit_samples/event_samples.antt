@@ -5,6 +5,7 @@ pub mod EventRuns
 pub mod ExposedPair
 pub mod HoldCells
 pub mod Opened
+pub mod Places
 pub mod Reached
 pub mod Separated
 pub mod SettledReader

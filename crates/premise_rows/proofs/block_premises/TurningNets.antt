@@ -15,7 +15,7 @@ use Rattle.job_check.specs.check_meaning.design_rows.Designs.{xor_cover}
 use Rattle.premise_rows.specs.block_premises.EqualByBlocks.{one_turning, two_turning}
 
 -- F holds of each element at its place, counted from k on
-abbrev EachFrom : {X : Type 0} → (ℕ → X → Type 0) → ℕ → List X → Type 0
+abbrev pub EachFrom : {X : Type 0} → (ℕ → X → Type 0) → ℕ → List X → Type 0
 EachFrom F k [] = Unit {0}
 EachFrom F k (x ∷ xs) = F k x × EachFrom F (suc k) xs
 
@@ -24,7 +24,7 @@ each_from F k [] all i j x e h = absurd (none-some x h)
 each_from F k (y ∷ ys) all zero j x e h = subst (λ (m : ℕ). F m x) (let same : k ≡ j = omega (arith, e) in same) (subst (F k) (same_Some y x h) all.0)
 each_from F k (y ∷ ys) all (suc i) j x e h = each_from F (suc k) ys all.1 i j x (omega (arith, e)) h
 
-each : {X : Type 0} (F : ℕ → X → Type 0) (xs : List X) → EachFrom F 0 xs → (i : ℕ) (x : X) → slice_get xs i ≡ Some x → F i x
+pub each : {X : Type 0} (F : ℕ → X → Type 0) (xs : List X) → EachFrom F 0 xs → (i : ℕ) (x : X) → slice_get xs i ≡ Some x → F i x
 each F xs all i x h = each_from F 0 xs all i i x (omega arith) h
 
 covered : All IsCoverSound (xor_cover ∷ [])
@@ -39,7 +39,7 @@ covered = All-from_recursion IsCoverSound (xor_cover ∷ []) (
   tt,
 )
 
-one_name : (name : List ℕ) → AreDistinct (name ∷ [])
+pub one_name : (name : List ℕ) → AreDistinct (name ∷ [])
 one_name name i j x h k =
     let a : i < 1 = slice_get_within (name ∷ []) i x h in
     let b : j < 1 = slice_get_within (name ∷ []) j x k in

@@ -1,6 +1,6 @@
 -- With t cut open all that the law with exposed latches asks is met, by circuits with two classes besides.
 use Rattle.std.proofs.Common.{◌≡◌, ◌≢◌, ℕ, zero, suc, ◌<◌, Bool, true, false, List, [], ◌∷◌, refl, sym, ◌∙◌, ap, subst, arith, inl, inr}
-use Rattle.std.specs.Prelude.{◌⊎◌, codes, if◌then◌else◌}
+use Rattle.std.specs.Prelude.{◌⊎◌, ◌↔◌, codes, if◌then◌else◌}
 use Rattle.std.specs.List.{Contains}
 use Rattle.std.proofs.lemmas.List.Elements.{All-contains}
 use Rattle.circuit_theory.specs.declared.Mode.TheVariants.{Event}
@@ -22,6 +22,7 @@ use Rattle.circuit_laws.proofs.NetLaws.{net_value, net_value-extends, net_can_pu
 use Rattle.circuit_laws.proofs.event_laws.ExposedEvents.{exposed_event_functions_agree_in_nets}
 use Rattle.call_rows.proofs.circuit_samples.NetTest.{net_test-sound}
 use Rattle.call_rows.specs.circuit_samples.event_samples.Samples.{held, opened, before, behind, exposed, load_cover, not_cover, numbers, class_at, class_of}
+use Rattle.call_rows.specs.circuit_samples.event_samples.Places.{loading}
 use Rattle.call_rows.specs.circuit_samples.event_samples.Premises.{AreEventSides, AreExposedSides, PairsAreEqual}
 use Rattle.call_rows.proofs.circuit_samples.Each.{each_at, each_latch}
 use Rattle.call_rows.proofs.circuit_samples.event_samples.HoldCells.{IsHold, hold_enabled, hold_reads, hold_marked}
@@ -114,6 +115,22 @@ module _ (load out : Cover) (holds : (b bit : Bool) → cover_value load (false 
 
       wrong : false ≡ true → ⊥
       wrong e = cc
+
+  IsListed : List ℕ → ℕ → ℕ → Type 0
+  IsListed name u next = IsEnabled c u ↔ Contains loading u
+
+  -- of the latches exactly q and r are enabled
+  pub held_enabled : (name : List ℕ) (u next : ℕ) → IsLatch (held load out) name u next → IsEnabled (held load out) u ↔ Contains loading u
+  unfolding IsListed
+  held_enabled name u next latch =
+      each_latch IsListed c.equations (
+        ((λ en. (0, omega arith, refl)), (λ h. hold_enabled own same_or_not held_net.single once (codes "q") 3 4 (5, omega arith, refl) held_q)),
+        (((λ en. (1, omega arith, refl)), (λ h. hold_enabled own same_or_not held_net.single once (codes "r") 5 6 (6, omega arith, refl) held_r)), (((λ en. absurd (not_enabled en)), (λ h. absurd (other h))), tt)),
+      )
+      name u next latch
+    where
+      other : Contains loading 7 → ⊥
+      other h = each_at (λ p. p ≡ 7 → ⊥) loading ((λ e. omega (arith, e)), ((λ e. omega (arith, e)), tt)) 7 h refl
 
   pub held_cycle : HasCycle (held load out) (EnabledIn Event (held load out)) []
   unfolding t_latch

@@ -1,5 +1,5 @@
-//! The samples. None of these functions does anything: each contract is a computed example, of a pair of circuits that meets what a law
-//! asks, and of what the law then says.
+//! The samples. None of these functions does anything: each contract is a computed example, of a pair of circuits or of one that
+//! meets what a law asks, and of what the law then says.
 
 ghost use Rattle.std.specs.Prelude.{◌≡◌, true, false, List, [], ◌∷◌};
 ghost use Rattle.circuit_theory.specs.declared.Mode.TheVariants.{Event};
@@ -16,6 +16,7 @@ ghost use Rattle.assume_laws.specs.Sequences.{RowsMeet, IsMeetingDifference, IsM
 ghost use Rattle.call_rows.specs.circuit_samples.event_samples.Reader.{HasSettledReader};
 ghost use Rattle.call_rows.specs.circuit_samples.event_samples.Always.{always_loads, nothing, always_both, no_class, always_side, always_query, always_variables, one_always, never, assumed_query, meeting_row, ok_tree, never_tree};
 ghost use Rattle.call_rows.specs.circuit_samples.event_samples.Samples.{before, behind, cleared, exposed, opened_before, opened_behind, opened_cleared, opened_side, numbers, class_of};
+ghost use Rattle.call_rows.specs.circuit_samples.event_samples.Places.{CountByPlaces};
 ghost use Rattle.call_rows.specs.circuit_samples.event_samples.Assumed.{a_is_one, PairsAreEqualUnder};
 ghost use Rattle.call_rows.specs.circuit_samples.event_samples.Premises.{AreEventSides, AreExposedSides, PairsAreEqual};
 ghost use Rattle.call_rows.specs.circuit_samples.event_samples.Events.{HasTwoClasses, HasSettledPair, HasExposedSettledPair, FramesHaveValues, HasMapsSoFar, HasFirstFit, HasTwin, HasReachedList, root_variable, opened_order};
@@ -37,6 +38,11 @@ pub fn exposed_and_enabled()
     ensures equal { PairsAreEqual exposed before behind (cut exposed before) (cut exposed behind) numbers numbers class_of }
     ensures agree { Agree Event before behind }
     ensures onward { AgreeOnward Event exposed before behind }
+{}
+
+/// In the first of the two a list of the places of its two latches with a load enable says the same of the latches as the event mode.
+pub fn places_count()
+    ensures { CountByPlaces }
 {}
 
 /// A run in which outputs of both sides are settled, with the events that they reach.
