@@ -113,7 +113,6 @@ impl Drop for Named {
 }
 
 impl Named {
-    /// No symbol yet; it takes no memory.
     pub fn new(alloc: Global) -> Named
         ensures { result ≡ record { keys = []; names = [] } }
     {

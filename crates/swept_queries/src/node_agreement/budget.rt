@@ -29,7 +29,6 @@ pub struct Budget {
 }
 
 impl Budget {
-    /// What an effort may spend: all its conflicts, and a twentieth of them on each search.
     pub fn new(effort: Effort) -> Budget {
         let each = effort.conflicts / 20;
         Budget {
