@@ -1,6 +1,8 @@
 #!/usr/bin/env python3
 """Writes large circuits as BLIF files, whose whole runs are timed: bench/circuits/make.py FOLDER"""
+import itertools
 import pathlib
+import random
 import sys
 
 if len(sys.argv) != 2 or sys.argv[1].startswith("-"):
@@ -99,6 +101,72 @@ def adder_by_sums(bits):
     yield ".end"
 
 
+def last_assignment(pairs, differs):
+    """Outputs that each read 1,000 nodes of an and-inverter graph over 16 inputs, or those that differ from them where all inputs are 1."""
+    draw = random.Random(1)
+    inputs = [f"x{i}" for i in range(16)]
+    yield ".model m"
+    yield ".inputs " + " ".join(inputs)
+    yield ".outputs " + " ".join(f"y{i}" for i in range(pairs))
+    # An and is one node, and an exclusive or three.
+    names = inputs[:]
+    for i in range(244):
+        left, right = draw.sample(names[:-1], 2)
+        yield f".names {left} {right} a{i}"
+        yield "11 1"
+        yield f".names {names[-1]} a{i} g{i}"
+        yield from ("10 1", "01 1")
+        names.append(f"g{i}")
+    for i in range(1, 16):
+        yield f".names {f'all{i - 1}' if i > 1 else 'x0'} x{i} all{i}"
+        yield "11 1"
+    for i, (first, second, third) in zip(range(pairs), itertools.combinations(inputs, 3)):
+        yield f".names {first} {second} {third} c{i}"
+        yield "111 1"
+        yield f".names g243 c{i} {'d' if differs else 'y'}{i}"
+        yield from ("10 1", "01 1")
+        if differs:
+            yield f".names d{i} all15 y{i}"
+            yield from ("10 1", "01 1")
+    yield ".end"
+
+
+def adders_apart(bits):
+    """Whether two adders differ in some bit: one takes its carries by majority, the other by the sums of the operands."""
+    yield ".model m"
+    yield ".inputs " + " ".join([f"a{i}" for i in range(bits)] + [f"b{i}" for i in range(bits)] + ["c0"])
+    yield ".outputs d"
+    for i in range(bits):
+        carry, other = f"c{i}", f"k{i}" if i else "c0"
+        yield f".names a{i} b{i} {carry} c{i + 1}"
+        yield from ("11- 1", "1-1 1", "-11 1")
+        yield f".names a{i} b{i} {carry} s{i}"
+        yield from ("100 1", "010 1", "001 1", "111 1")
+        yield f".names a{i} b{i} h{i}"
+        yield from ("10 1", "01 1")
+        yield f".names a{i} b{i} g{i}"
+        yield "11 1"
+        yield f".names g{i} h{i} {other} k{i + 1}"
+        yield from ("1-- 1", "-11 1")
+        yield f".names h{i} {other} t{i}"
+        yield from ("10 1", "01 1")
+        yield f".names s{i} t{i} x{i}"
+        yield from ("10 1", "01 1")
+    yield f".names c{bits} k{bits} x{bits}"
+    yield from ("10 1", "01 1")
+    yield ".names " + " ".join(f"x{i}" for i in range(bits + 1)) + " d"
+    yield from ("-" * i + "1" + "-" * (bits - i) + " 1" for i in range(bits + 1))
+    yield ".end"
+
+
+def never(bits):
+    yield ".model m"
+    yield ".inputs " + " ".join([f"a{i}" for i in range(bits)] + [f"b{i}" for i in range(bits)] + ["c0"])
+    yield ".outputs d"
+    yield ".names d"
+    yield ".end"
+
+
 write("chain_400000", inverters(400_000))
 write("doubling_17", doubling(17))
 write("readers_3999000", readers(1_000, 3_998))
@@ -106,5 +174,10 @@ write("latches_400000", latches(400_000))
 for bits in (16, 32, 64, 128, 256):
     write(f"majority_{bits}", adder_by_majority(bits))
     write(f"sums_{bits}", adder_by_sums(bits))
+    write(f"apart_{bits}", adders_apart(bits))
+    write(f"never_{bits}", never(bits))
+for pairs in (100, 300, 500):
+    write(f"assignments_{pairs}", last_assignment(pairs, False))
+    write(f"assignments_{pairs}_other", last_assignment(pairs, True))
 for doublings in (50_000, 100_000, 200_000):
     write(f"chain_{doublings}", inverters(doublings))

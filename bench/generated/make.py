@@ -81,9 +81,12 @@ def blif(seed, circuit, regroup, wires):
 
 
 def main():
+    numbers = sys.argv[1:2] + sys.argv[3:]
+    if len(sys.argv) < 3 or sys.argv[2].startswith("-") or not all(word.isdecimal() for word in numbers):
+        sys.exit(__doc__)
     folder = pathlib.Path(sys.argv[2])
     folder.mkdir(parents=True, exist_ok=True)
-    for seed in [int(sys.argv[1]), *map(int, sys.argv[3:])]:
+    for seed in map(int, numbers):
         for name, circuit, regroup in (("a", "a", False), ("b", "b", False), ("regrouped", "b", True)):
             (folder / f"{seed}.{name}.blif").write_text(blif(seed, circuit, regroup, False))
             (folder / f"{seed}.{name}.wires.blif").write_text(blif(seed, circuit, regroup, True))

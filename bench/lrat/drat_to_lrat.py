@@ -126,6 +126,8 @@ class Clauses:
 
 
 def main():
+    if len(sys.argv) != 3 or any(word.startswith("-") for word in sys.argv[1:]):
+        sys.exit(__doc__)
     store, last = Clauses(), 0
     literals = []
     for words in numbers(sys.argv[1]):

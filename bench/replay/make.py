@@ -1,15 +1,19 @@
 #!/usr/bin/env python3
-"""Writes two circuits of equal outputs as BLIF and as Verilog, and a stimulus.
+"""Writes two circuits of equal outputs as BLIF and as Verilog, and a stimulus: bench/replay/make.py FOLDER [COLUMNS LAYERS STAGES CYCLES]
 
-make.py FOLDER [COLUMNS LAYERS STAGES CYCLES]: STAGES stages of LAYERS layers of COLUMNS gates of two fan-ins each. In a.blif each
+There are STAGES stages of LAYERS layers of COLUMNS gates of two fan-ins each. In a.blif each
 stage ends with a latch a column; in b.blif the latches stand before the last layer, and each gate is written by its rows of 0.
 Half of the gates are exclusive ors, so that the values keep changing. COLUMNS is above 64, for main.cpp. s is the stimulus, s.bits the same for a test bench,
 pair.v has the modules `a` and `b`.
 """
+import os
 import random
 import sys
 
+if len(sys.argv) not in (2, 6) or sys.argv[1].startswith("-") or not all(word.isdecimal() for word in sys.argv[2:]):
+    sys.exit(__doc__)
 folder = sys.argv[1]
+os.makedirs(folder, exist_ok=True)
 columns, layers, stages, cycles = (int(word) for word in (sys.argv[2:6] or ("100", "20", "5", "2000")))
 draw = random.Random(7)
 
