@@ -1,0 +1,8 @@
+//! That the premises of what is promised of pairs in the event form are met. The functions do nothing: each contract is an example.
+
+ghost use Rattle.premise_rows.specs.event_pair_premises.Differing.{DifferencesMeetPremises};
+
+/// The pair of two circuits that show different inputs: its query, what is asked of it, the least difference, and the answers on it.
+pub fn differences_meet_premises()
+    ensures { DifferencesMeetPremises }
+{}
