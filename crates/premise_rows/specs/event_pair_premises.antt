@@ -1,1 +1,2 @@
+pub mod Comparable
 pub mod Differing

@@ -6,3 +6,10 @@ ghost use Rattle.premise_rows.specs.event_pair_premises.Differing.{DifferencesMe
 pub fn differences_meet_premises()
     ensures { DifferencesMeetPremises }
 {}
+
+ghost use Rattle.premise_rows.specs.event_pair_premises.Comparable.{PairCanBeCompared};
+
+/// Their pair as it is compared: all that is asked for, the sequence of the difference, and what is found.
+pub fn pair_can_be_compared()
+    ensures { PairCanBeCompared }
+{}

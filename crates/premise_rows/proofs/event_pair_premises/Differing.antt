@@ -88,7 +88,7 @@ later = record {
   place_once = places_once;
 }
 
-grows : GrowsEvents at_root with_and
+pub grows : GrowsEvents at_root with_and
 grows = record { graph = (_, refl); children = ([], refl); places = ([], refl) }
 
 pub kept : AreKept a_events b_events at_root
@@ -163,10 +163,10 @@ least (suc m) l d = omega (arith, l)
 differs : IsDifference two_inputs a_and_b a_alone
 differs = record { apart = not_trivial; each = refl; distinguishes = distinguishes; least = λ few. (1, refl, record { in_range = omega arith; distinguishes = distinguishes; least = least }) }
 
-found : IsDifferenceOf two_inputs (a_and_b ∷ []) 0 a_alone
+pub found : IsDifferenceOf two_inputs (a_and_b ∷ []) 0 a_alone
 found = record { query = a_and_b; first = record { at = refl; earlier = λ i r l h. absurd (omega (arith, l)) }; differs = differs }
 
-asked : IsAskedOf (both_of a_events b_events) at_root false y_pair (y_asked true)
+pub asked : IsAskedOf (both_of a_events b_events) at_root false y_pair (y_asked true)
 asked = record { name_is = refl; size_is = size; decisive_is = (λ e. (refl, always (Left 0), always (Right 1)), λ h. refl); query = a_and_b; only = refl; asks = asks }
 
 asked_cut : IsAskedOf (both_of a_events b_events) at_root true y_pair (y_asked false)
