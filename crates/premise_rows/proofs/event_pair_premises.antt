@@ -1,3 +1,6 @@
 pub mod Shown
 pub mod Differing
 pub mod Comparable
+pub mod HeldSide
+pub mod HeldPair
+pub mod Held

@@ -1,2 +1,3 @@
 pub mod Comparable
 pub mod Differing
+pub mod Held

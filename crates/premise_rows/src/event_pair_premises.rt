@@ -13,3 +13,11 @@ ghost use Rattle.premise_rows.specs.event_pair_premises.Comparable.{PairCanBeCom
 pub fn pair_can_be_compared()
     ensures { PairCanBeCompared }
 {}
+
+ghost use Rattle.premise_rows.specs.event_pair_premises.Held.{EqualitiesMeetPremises};
+
+/// A latch that loads an input under another one, and one that loads its complement, behind which the output is the latch's complement: the query
+/// of the pair, what is asked of it, the answer that both are equal, and so that the circuits agree.
+pub fn equalities_meet_premises()
+    ensures { EqualitiesMeetPremises }
+{}
