@@ -4,3 +4,4 @@ pub mod Comparable
 pub mod HeldSide
 pub mod HeldPair
 pub mod Held
+pub mod HeldCompared

@@ -1,3 +1,4 @@
 pub mod Comparable
 pub mod Differing
 pub mod Held
+pub mod HeldCompared

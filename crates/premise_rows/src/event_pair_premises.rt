@@ -21,3 +21,10 @@ ghost use Rattle.premise_rows.specs.event_pair_premises.Held.{EqualitiesMeetPrem
 pub fn equalities_meet_premises()
     ensures { EqualitiesMeetPremises }
 {}
+
+ghost use Rattle.premise_rows.specs.event_pair_premises.HeldCompared.{HeldPairCanBeCompared};
+
+/// Their pair as it is compared, with what tells its class from `always`, and what is found.
+pub fn held_pair_can_be_compared()
+    ensures { HeldPairCanBeCompared }
+{}

@@ -1,10 +1,10 @@
 -- Both circuits with an enabled latch side by side: their class map, their query, and what its sides are worth.
-use Rattle.std.proofs.Common.{◌≡◌, ◌≢◌, ◌∙◌, ℕ, suc, ◌+◌, ◌≤◌, Bool, true, false, not, List, [], ◌∷◌, slice_get, Some, refl, sym, subst, arith, inl, inr}
+use Rattle.std.proofs.Common.{◌<◌, ◌≡◌, ◌≢◌, ◌∙◌, ℕ, suc, ◌+◌, ◌≤◌, Bool, true, false, not, List, [], ◌∷◌, slice_get, Some, refl, sym, subst, arith, inl, inr}
 use Rattle.std.specs.Prelude.{◌⊎◌, ◌&&◌, ◌==◌, ◌*◌, if◌then◌else◌, codes}
 use Rattle.std.specs.List.{AllPairs, Contains}
 use Rattle.std.proofs.lemmas.List.Elements.{All-from_recursion}
 use Rattle.circuit_theory.specs.Circuit.{Circuit, Named, IsLatch, IsSingleDriven, Reads, Reaches}
-use Rattle.circuit_theory.specs.Depth.{LatchesHaveDepths}
+use Rattle.circuit_theory.specs.Depth.{IsDepth, LatchesHaveDepths}
 use Rattle.circuit_theory.specs.Joined.{Either, Left, Right, joined}
 use Rattle.circuit_theory.specs.Net.{IsNet}
 use Rattle.circuit_theory.specs.Run.{IsEnabled}
@@ -27,6 +27,7 @@ use Rattle.event_nodes.specs.aig.Values.{value, lit_bit, node_bits, bits_from}
 use Rattle.event_nodes.specs.aig.Builds.{Builds}
 use Rattle.event_nodes.specs.Nodes.{IsEventGraph, named_places}
 use Rattle.event_nodes.specs.event_variables.Variables.{GoesBefore}
+use Rattle.event_nodes.specs.View.{Enabled}
 use Rattle.pair_decide.specs.Queries.{IsSame}
 use Rattle.edbf_unfold.specs.class_queries.Laws.{AreKept}
 use Rattle.edbf_unfold.specs.event_literals.ShortOr.{short_or, is_and, is_conjunct, operands}
@@ -205,10 +206,10 @@ left_net = held.is_net load_cover same_cover load_sound same_sound refl refl hol
 pub right_net : IsNet right_circuit 5
 right_net = held.is_net load_not_cover not_cover load_not_sound not_sound refl refl holds_not loads_not
 
-single : IsSingleDriven whole
+pub single : IsSingleDriven whole
 single = joined_single left_circuit right_circuit 5 5 left_net right_net
 
-number_once : (p : Either ℕ ℕ) (i j : ℕ) → IsInputNumber whole both_held.order p i → IsInputNumber whole both_held.order p j → i ≡ j
+pub number_once : (p : Either ℕ ℕ) (i j : ℕ) → IsInputNumber whole both_held.order p i → IsInputNumber whole both_held.order p j → i ≡ j
 number_once p i j h k = joined_number_once left_circuit right_circuit 5 5 left_net right_net (0 ∷ 1 ∷ []) (0 ∷ 1 ∷ []) refl p i j h k
 
 pub numbered : AreNumbered left_circuit right_circuit (0 ∷ 1 ∷ []) (0 ∷ 1 ∷ [])
@@ -221,13 +222,13 @@ numbered = record {
     once : (p q i : ℕ) → StandsBeside left_circuit.inputs (0 ∷ 1 ∷ []) p i → StandsBeside left_circuit.inputs (0 ∷ 1 ∷ []) q i → p ≡ q
     once p q i h k = one_place left_circuit.inputs (0 ∷ 1 ∷ []) (numbers_distinct-sound (0 ∷ 1 ∷ []) refl) p q i h k
 
-abbrev left_q : IsHold both_held (Left 2) (Left 3)
+abbrev pub left_q : IsHold both_held (Left 2) (Left 3)
 left_q = record { e = Left 0; a = Left 1; i = 0; j = 1; load = load_cover; gate = (0, omega arith, refl); e_is = inl (refl, refl); a_is = inr (inl (refl, refl)); holds = holds_load; loads = loads_load }
 
 abbrev right_q : IsHold both_held (Right 2) (Right 3)
 right_q = record { e = Right 0; a = Right 1; i = 0; j = 1; load = load_not_cover; gate = (3, omega arith, refl); e_is = inr (inr (inl (refl, refl))); a_is = inr (inr (inr (inl (refl, refl)))); holds = holds_not; loads = loads_not }
 
-left_latch : IsLatch whole (codes "q") (Left 2) (Left 3)
+pub left_latch : IsLatch whole (codes "q") (Left 2) (Left 3)
 left_latch = (2, omega arith, refl)
 
 right_latch : IsLatch whole (codes "q") (Right 2) (Right 3)
@@ -239,7 +240,7 @@ HoldOfClass name u next = (h : IsHold both_held u next) × (both_held.class u �
 each_hold : (name : List ℕ) (u next : Either ℕ ℕ) → IsLatch whole name u next → HoldOfClass name u next
 each_hold name u next latch = each_latch HoldOfClass whole.equations ((left_q, refl, refl), ((right_q, refl, refl), tt)) name u next latch
 
-all_hold : (name : List ℕ) (u next : Either ℕ ℕ) → IsLatch whole name u next → IsHold both_held u next
+pub all_hold : (name : List ℕ) (u next : Either ℕ ℕ) → IsLatch whole name u next → IsHold both_held u next
 all_hold name u next latch = (each_hold name u next latch).0
 
 class_is : (name : List ℕ) (u next : Either ℕ ℕ) (latch : IsLatch whole name u next) → both_held.class u ≡ suc (all_hold name u next latch).i
@@ -323,3 +324,22 @@ not_always h = let one : 1 ≡ 0 = h [] (Left 2) left_cone in omega (arith, one)
 -- y is the one output of either
 pub output_is : (name : List ℕ) (p : ℕ) → Contains left_circuit.outputs (record { name = name; place = p }) → 4 ≡ p
 output_is name p h = each_at (λ (n : Named ℕ). 4 ≡ n.place) left_circuit.outputs (refl, tt) (record { name = name; place = p }) h
+
+pub left_depths : LatchesHaveDepths left_circuit (Enabled loads_a)
+left_depths = held.depths load_cover same_cover load_sound same_sound refl refl holds_load loads_load
+
+pub right_depths : LatchesHaveDepths right_circuit (Enabled loads_not_a)
+right_depths = held.depths load_not_cover not_cover load_not_sound not_sound refl refl holds_not loads_not
+
+pub left_y_depth : IsDepth left_circuit (Enabled loads_a) 4 1
+left_y_depth = held.y_depth load_cover same_cover load_sound same_sound refl refl holds_load loads_load
+
+pub right_y_depth : IsDepth right_circuit (Enabled loads_not_a) 4 1
+right_y_depth = held.y_depth load_not_cover not_cover load_not_sound not_sound refl refl holds_not loads_not
+
+-- each number is below 2
+pub left_below : (q i : ℕ) → IsInputNumber left_circuit loads_a.order q i → i < 2
+left_below q i h = (held.own_number load_cover same_cover load_sound same_sound refl refl holds_load loads_load q i h).1
+
+pub right_below : (q i : ℕ) → IsInputNumber right_circuit loads_not_a.order q i → i < 2
+right_below q i h = (held.own_number load_not_cover not_cover load_not_sound not_sound refl refl holds_not loads_not q i h).1
