@@ -5,3 +5,4 @@ pub mod HeldSide
 pub mod HeldPair
 pub mod Held
 pub mod HeldCompared
+pub mod Turning

@@ -28,3 +28,11 @@ ghost use Rattle.premise_rows.specs.event_pair_premises.HeldCompared.{HeldPairCa
 pub fn held_pair_can_be_compared()
     ensures { HeldPairCanBeCompared }
 {}
+
+ghost use Rattle.premise_rows.specs.event_pair_premises.Turning.{CutPairsMeetPremises};
+
+/// A latch that turns over in each cycle, by other rows: with it cut open in both, the queries of the output and of what the latch takes over,
+/// and so that the circuits agree.
+pub fn cut_pairs_meet_premises()
+    ensures { CutPairsMeetPremises }
+{}

@@ -5,7 +5,10 @@ use Rattle.std.specs.List.{Contains}
 use Rattle.std.proofs.lemmas.List.Elements.{All-from_recursion}
 use Rattle.std.proofs.lemmas.Option.{none-some}
 use Rattle.circuit_theory.specs.Joined.{Left, Right}
-use Rattle.circuit_theory.specs.Tree.{IsInputNumber}
+use Rattle.circuit_theory.specs.Tree.{Leaf, IsInputNumber}
+use Rattle.circuit_theory.specs.EventSizes.{EventVisits}
+use Rattle.circuit_theory.specs.Frame.{EventUnfolds}
+use Rattle.event_form.specs.Functions.{signal_start}
 use Rattle.flat_net.specs.View.{circuit_of}
 use Rattle.circuit_theory.proofs.Lists.{Contains-cases, Contains-head, Contains-tail, only}
 use Rattle.base_tables.specs.Table.{AreDistinct}
@@ -33,8 +36,8 @@ use Rattle.premise_rows.specs.event_outcome_samples.Different.{shows_a, shows_b,
 use Rattle.premise_rows.specs.event_pair_premises.Differing.{two_inputs, at_root, with_and, a_and_b, a_alone, y_asked, y_not_shown, DifferencesMeetPremises}
 use Rattle.premise_rows.proofs.block_premises.TurningNets.{each}
 use Rattle.premise_rows.proofs.event_outcome_samples.Nets.{left_sound, right_sound}
-use Rattle.premise_rows.proofs.event_outcome_samples.Sides.{always, left_ready, right_ready, size}
-use Rattle.premise_rows.proofs.event_pair_premises.Shown.{of_input, input_function, root_made}
+use Rattle.premise_rows.proofs.event_outcome_samples.Sides.{always, no_latch, left_ready, right_ready, size}
+use Rattle.premise_rows.proofs.event_pair_premises.Shown.{alone, of_input, input_function, root_made}
 
 -- the place of each node, and of each variable
 abbrev node_number : Node → ℕ
@@ -97,8 +100,9 @@ kept = record { left_sound = left_sound; right_sound = right_sound; left = left_
 a_is : IsEventFunction (both_of a_events b_events) at_root (Left 0) (of_input 0 2)
 a_is =
     (signals_are_both a_events b_events at_root kept).0 0 (of_input 0 2)
-    (input_function a_events refl 0 at_root refl 0 0 2 (inl (refl, refl)) number (omega arith) refl (0, refl, (1, refl, refl)) (omega arith) (omega arith))
-    (root_made a_events refl 0 [] refl)
+    (input_function a_events (no_latch (circuit_of shows_a) refl) 0 at_root refl 0 0 2 0 (EventVisits.start (Contains-head (signal_start 0) [])) (inl (refl, refl)) (λ put q node seen j h. number j (subst (λ r. IsInputNumber (circuit_of shows_a) (0 ∷ 1 ∷ []) r j) (sym (alone a_events refl 0 seen)) h))
+    (omega arith) refl (Leaf 0 []) (EventUnfolds.input (inl (refl, refl))) (0, refl, (1, refl, refl)) (omega arith) (omega arith))
+    (root_made a_events (no_latch (circuit_of shows_a) refl) 0 [] refl)
   where
     number : (j : ℕ) → IsInputNumber (circuit_of shows_a) (0 ∷ 1 ∷ []) 0 j → 0 ≡ j
     number j (inl h) = h.1
@@ -108,8 +112,9 @@ a_is =
 b_is : IsEventFunction (both_of a_events b_events) at_root (Right 1) (of_input 1 4)
 b_is =
     (signals_are_both a_events b_events at_root kept).1 1 (of_input 1 4)
-    (input_function b_events refl 1 at_root refl 1 1 4 (inr (inl (refl, refl))) number (omega arith) refl (1, refl, (2, refl, refl)) (omega arith) (omega arith))
-    (root_made b_events refl 1 [] refl)
+    (input_function b_events (no_latch (circuit_of shows_b) refl) 1 at_root refl 1 1 4 1 (EventVisits.start (Contains-head (signal_start 1) [])) (inr (inl (refl, refl))) (λ put q node seen j h. number j (subst (λ r. IsInputNumber (circuit_of shows_b) (0 ∷ 1 ∷ []) r j) (sym (alone b_events refl 1 seen)) h))
+    (omega arith) refl (Leaf 1 []) (EventUnfolds.input (inr (inl (refl, refl)))) (1, refl, (2, refl, refl)) (omega arith) (omega arith))
+    (root_made b_events (no_latch (circuit_of shows_b) refl) 1 [] refl)
   where
     number : (j : ℕ) → IsInputNumber (circuit_of shows_b) (0 ∷ 1 ∷ []) 1 j → 1 ≡ j
     number j (inl h) = absurd (omega (arith, h.0))
