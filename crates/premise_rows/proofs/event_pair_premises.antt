@@ -6,3 +6,4 @@ pub mod HeldPair
 pub mod Held
 pub mod HeldCompared
 pub mod Turning
+pub mod Crossed

@@ -36,3 +36,10 @@ ghost use Rattle.premise_rows.specs.event_pair_premises.Turning.{CutPairsMeetPre
 pub fn cut_pairs_meet_premises()
     ensures { CutPairsMeetPremises }
 {}
+
+ghost use Rattle.premise_rows.specs.event_pair_premises.Crossed.{CaredMeetPremises};
+
+/// The output of the first beside the latch of the second: the frame with care in which they differ, and the answer that this shows nothing.
+pub fn cared_differences_meet_premises()
+    ensures { CaredMeetPremises }
+{}

@@ -34,7 +34,7 @@ pub each_pair : (p q : ℕ) → IsPair [] left_circuit right_circuit p q → Has
 each_pair p q h = at_outputs (λ m n. HasSameQuery both_held at_load (Left m) (Right n)) (record { query = y_query; asks = asks; same = same }) p q h
 
 pub asked : IsAskedOf both_held at_load false held_pair held_asked
-asked = record { name_is = refl; size_is = size; decisive_is = (λ e. absurd (differ e), λ h. absurd (not_always h.1)); query = y_query; only = refl; asks = asks }
+asked = record { name_is = refl; size_is = size 4; decisive_is = (λ e. absurd (differ e), λ h. absurd (not_always h.1)); query = y_query; only = refl; asks = asks }
 
 pub answered : (conflicts : ℕ) → IsAnswered held_nodes conflicts held_asked held_result
 answered conflicts = record { name_is = refl; size_is = refl; answer_is = All-from_recursion (IsSame held_nodes) (y_query ∷ []) (same, tt) }

@@ -26,7 +26,7 @@ use Rattle.event_nodes.specs.aig.Rules.{place_lit, simple_and}
 use Rattle.event_nodes.specs.aig.Values.{value, lit_bit, node_bits, bits_from}
 use Rattle.event_nodes.specs.aig.Builds.{Builds}
 use Rattle.event_nodes.specs.Nodes.{IsEventGraph, named_places}
-use Rattle.event_nodes.specs.event_variables.Variables.{GoesBefore}
+use Rattle.event_nodes.specs.event_variables.Variables.{GoesBefore, IsMergeOf}
 use Rattle.event_nodes.specs.View.{Enabled}
 use Rattle.pair_decide.specs.Queries.{IsSame}
 use Rattle.edbf_unfold.specs.class_queries.Laws.{AreKept}
@@ -113,11 +113,9 @@ kept = record {
 pub left_function : IsFunctionOf loads_a at_load 4 (held.function_of 10)
 unfolding flip place_lit simple_and short_or is_and is_conjunct operands
 left_function =
-    held.y_function load_cover same_cover load_sound same_sound refl refl holds_load loads_load 10 15 10
-    next_low
-    next_high
+    held.y_function load_cover same_cover load_sound same_sound refl refl holds_load loads_load 10 15 next_low next_high (omega arith) (omega arith) refl 10
     (10 ∷ [], (10, [], next_low, refl, refl), (10, (10, (10, (10, refl, refl), (11, refl, refl)), refl), refl))
-    (omega arith) (omega arith) (omega arith) refl
+    (omega arith)
   where
     next_low : Builds held_nodes (named_places at_load) (held.next_tree load_cover same_cover load_sound same_sound refl refl holds_load loads_load false) 10
     next_low = (
@@ -133,34 +131,49 @@ left_function =
       (15, (10, (10, (6, refl, (10, (5, refl, refl), (10, refl, refl))), (11, refl, refl)), (15, (7, (7, refl, (7, refl, (7, refl, refl))), (14, (7, refl, refl), refl)), refl)), refl),
     )
 
+-- B's latch, what it takes over with itself as 0 and as 1
+low_built : Builds held_nodes (named_places at_load) (held.next_tree load_not_cover not_cover load_not_sound not_sound refl refl holds_not loads_not false) 12
+unfolding flip place_lit simple_and
+low_built = (
+  6 ∷ 8 ∷ 0 ∷ [],
+  (6, 8 ∷ 0 ∷ [], (2, refl, (3, refl, refl)), (8, 0 ∷ [], (3, refl, (4, refl, refl)), (0, [], refl, refl, refl), refl), refl),
+  (12, (12, (12, (6, refl, (12, (6, refl, refl), (12, refl, refl))), (13, refl, refl)), (12, (0, (7, refl, (7, refl, (0, refl, refl))), (13, refl, refl)), refl)), refl),
+)
+
+high_built : Builds held_nodes (named_places at_load) (held.next_tree load_not_cover not_cover load_not_sound not_sound refl refl holds_not loads_not true) 17
+unfolding flip place_lit simple_and
+high_built = (
+  6 ∷ 8 ∷ 1 ∷ [],
+  (6, 8 ∷ 1 ∷ [], (2, refl, (3, refl, refl)), (8, 1 ∷ [], (3, refl, (4, refl, refl)), (1, [], refl, refl, refl), refl), refl),
+  (17, (12, (12, (6, refl, (12, (6, refl, refl), (12, refl, refl))), (13, refl, refl)), (17, (7, (7, refl, (7, refl, (7, refl, refl))), (16, (8, refl, refl), refl)), refl)), refl),
+)
+
 pub right_function : IsFunctionOf loads_not_a at_load 4 (held.function_of 13)
 unfolding flip place_lit simple_and short_or is_and is_conjunct operands
 right_function =
-    held.y_function load_not_cover not_cover load_not_sound not_sound refl refl holds_not loads_not 12 17 13
-    next_low
-    next_high
-    (12 ∷ [], (12, [], next_low, refl, refl), (13, (13, (13, (13, refl, refl), (12, refl, refl)), refl), refl))
-    (omega arith) (omega arith) (omega arith) refl
-  where
-    next_low : Builds held_nodes (named_places at_load) (held.next_tree load_not_cover not_cover load_not_sound not_sound refl refl holds_not loads_not false) 12
-    next_low = (
-      6 ∷ 8 ∷ 0 ∷ [],
-      (6, 8 ∷ 0 ∷ [], (2, refl, (3, refl, refl)), (8, 0 ∷ [], (3, refl, (4, refl, refl)), (0, [], refl, refl, refl), refl), refl),
-      (12, (12, (12, (6, refl, (12, (6, refl, refl), (12, refl, refl))), (13, refl, refl)), (12, (0, (7, refl, (7, refl, (0, refl, refl))), (13, refl, refl)), refl)), refl),
-    )
+    held.y_function load_not_cover not_cover load_not_sound not_sound refl refl holds_not loads_not 12 17 low_built high_built (omega arith) (omega arith) refl 13
+    (12 ∷ [], (12, [], low_built, refl, refl), (13, (13, (13, (13, refl, refl), (12, refl, refl)), refl), refl))
+    (omega arith)
 
-    next_high : Builds held_nodes (named_places at_load) (held.next_tree load_not_cover not_cover load_not_sound not_sound refl refl holds_not loads_not true) 17
-    next_high = (
-      6 ∷ 8 ∷ 1 ∷ [],
-      (6, 8 ∷ 1 ∷ [], (2, refl, (3, refl, refl)), (8, 1 ∷ [], (3, refl, (4, refl, refl)), (1, [], refl, refl, refl), refl), refl),
-      (17, (12, (12, (6, refl, (12, (6, refl, refl), (12, refl, refl))), (13, refl, refl)), (17, (7, (7, refl, (7, refl, (7, refl, refl))), (16, (8, refl, refl), refl)), refl)), refl),
-    )
+pub right_latch_function : IsFunctionOf loads_not_a at_load 2 (held.function_of 12)
+unfolding flip place_lit simple_and short_or is_and is_conjunct operands
+right_latch_function = held.latch_function load_not_cover not_cover load_not_sound not_sound refl refl holds_not loads_not 12 17 low_built high_built (omega arith) (omega arith) refl
 
-left_is : IsEventFunction both_held at_load (Left 4) (held.function_of 10)
+pub left_is : IsEventFunction both_held at_load (Left 4) (held.function_of 10)
 left_is = (signals_are_both loads_a loads_not_a at_load kept).0 4 (held.function_of 10) left_function (held.nodes_made load_cover same_cover load_sound same_sound refl refl holds_load loads_load)
 
 right_is : IsEventFunction both_held at_load (Right 4) (held.function_of 13)
 right_is = (signals_are_both loads_a loads_not_a at_load kept).1 4 (held.function_of 13) right_function (held.nodes_made load_not_cover not_cover load_not_sound not_sound refl refl holds_not loads_not)
+
+pub merge : IsMergeOf at_load (2 ∷ 3 ∷ []) (2 ∷ 3 ∷ []) (2 ∷ 3 ∷ [])
+merge = record { ordered = each_pair (GoesBefore at_load) (2 ∷ 3 ∷ []) ((inr (refl, inr (refl, omega arith)), tt), (tt, tt)); exactly = λ v. (λ h. inl h, λ h. either v h) }
+  where
+    either : (v : ℕ) → Contains (2 ∷ 3 ∷ []) v ⊎ Contains (2 ∷ 3 ∷ []) v → Contains (2 ∷ 3 ∷ []) v
+    either v (inl h) = h
+    either v (inr h) = h
+
+pub right_latch_is : IsEventFunction both_held at_load (Right 2) (held.function_of 12)
+right_latch_is = (signals_are_both loads_a loads_not_a at_load kept).1 2 (held.function_of 12) right_latch_function (held.latch_nodes_made load_not_cover not_cover load_not_sound not_sound refl refl holds_not loads_not)
 
 pub asks : AsksEventPair both_held at_load (Left 4) (Right 4) y_query
 unfolding simple_and
@@ -173,12 +186,8 @@ asks = record {
   right = refl;
   care = refl;
   care_within = omega arith;
-  vars = record { ordered = each_pair (GoesBefore at_load) (2 ∷ 3 ∷ []) ((inr (refl, inr (refl, omega arith)), tt), (tt, tt)); exactly = λ v. (λ h. inl h, λ h. either v h) };
+  vars = merge;
 }
-  where
-    either : (v : ℕ) → Contains (2 ∷ 3 ∷ []) v ⊎ Contains (2 ∷ 3 ∷ []) v → Contains (2 ∷ 3 ∷ []) v
-    either v (inl h) = h
-    either v (inr h) = h
 
 -- where e is 1, both are a
 same_bits : (b c : Bool) → b ≡ true → (b && c) ≡ not (b && not c)
@@ -286,18 +295,18 @@ abbrev pub classes : HasClasses both_held
 classes = record { numbered = refl; order = order; is_order = latch_order; is_map = class_map }
 
 -- either output reaches its latch at the root, and so one child, by class 1
-abbrev PairLatches : Either ℕ ℕ → Type 0
-PairLatches v = ConeLatches whole (Left 4) v ⊎ ConeLatches whole (Right 4) v
+abbrev PairLatches : ℕ → Either ℕ ℕ → Type 0
+PairLatches q v = ConeLatches whole (Left 4) v ⊎ ConeLatches whole (Right q) v
 
 left_cone : ConeLatches whole (Left 4) (Left 2)
 left_cone = (codes "q", Left 3, left_latch, Reaches.there (Reads.by_gate {fanins = Left 2 ∷ []} (1, omega arith, refl) (0, omega arith, refl)) Reaches.here)
 
-class_one : (v : Either ℕ ℕ) → PairLatches v → both_held.class v ≡ 1
-class_one v (inl h) = (each_hold h.0 v h.1 h.2).2
-class_one v (inr h) = (each_hold h.0 v h.1 h.2).2
+class_one : (q : ℕ) (v : Either ℕ ℕ) → PairLatches q v → both_held.class v ≡ 1
+class_one q v (inl h) = (each_hold h.0 v h.1 h.2).2
+class_one q v (inr h) = (each_hold h.0 v h.1 h.2).2
 
-pub size : IsEventSize both_held (Left 4) (Right 4) 2
-size = record {
+pub size : (q : ℕ) → IsEventSize both_held (Left 4) (Right q) 2
+size q = record {
   nodes = [] ∷ (1 ∷ []) ∷ [];
   distinct = each_pair (λ m n. m ≢ n) ([] ∷ (1 ∷ []) ∷ []) (((λ e. cc), tt), (tt, tt));
   exactly = λ node. (λ h. there node (Contains-cases [] node ((1 ∷ []) ∷ []) h), back node);
@@ -305,17 +314,17 @@ size = record {
 }
   where
     Node_is : List ℕ → Type 0
-    Node_is node = IsNode both_held (IsEnabled whole) PairLatches node
+    Node_is node = IsNode both_held (IsEnabled whole) (PairLatches q) node
 
-    there : (node : List ℕ) → ([] ≡ node) ⊎ Contains ((1 ∷ []) ∷ []) node → IsNode both_held (IsEnabled whole) PairLatches node
+    there : (node : List ℕ) → ([] ≡ node) ⊎ Contains ((1 ∷ []) ∷ []) node → IsNode both_held (IsEnabled whole) (PairLatches q) node
     there node (inl e) = subst Node_is e tt
     there node (inr h) = subst Node_is (only (1 ∷ []) node h) (Left 2, inl left_cone, refl)
 
-    back : (node : List ℕ) → IsNode both_held (IsEnabled whole) PairLatches node → Contains ([] ∷ (1 ∷ []) ∷ []) node
+    back : (node : List ℕ) → IsNode both_held (IsEnabled whole) (PairLatches q) node → Contains ([] ∷ (1 ∷ []) ∷ []) node
     back [] h = Contains-head [] ((1 ∷ []) ∷ [])
     back (k ∷ node) h =
-        let at = at_root both_held joined_same single number_once all_hold PairLatches node h.0 h.1 in
-        let class : 1 ≡ k = sym (class_one h.0 at.1) ∙ h.2 in
+        let at = at_root both_held joined_same single number_once all_hold (PairLatches q) node h.0 h.1 in
+        let class : 1 ≡ k = sym (class_one q h.0 at.1) ∙ h.2 in
         subst (Contains ([] ∷ (1 ∷ []) ∷ [])) (λ i. class i ∷ sym at.0 i) (Contains-tail [] (1 ∷ []) ((1 ∷ []) ∷ []) (Contains-head (1 ∷ []) []))
 
 pub not_always : ReachesAlways both_held (Left 4) → ⊥

@@ -197,151 +197,174 @@ module _ (load out : Cover) (load_sound : IsCoverSound load) (out_sound : IsCove
       second : (r : ℕ) → Contains (2 ∷ []) r → ReadsSo 4 r
       second r m = inl (refl, sym (only 2 r m))
 
-  abbrev x : Start ℕ
-  x = signal_start 4
-
-  abbrev Visits : Option ℕ → ℕ → List ℕ → Type 0
-  Visits put q node = EventVisits s (Enabled e) (x ∷ []) put q node
-
-  started : (z : Start ℕ) → x ≡ z → IsMet z.left_out z.place []
-  started z same = subst (λ (y : Start ℕ). IsMet y.left_out y.place []) same IsMet.at_output
-
-  taken : {put : Option ℕ} {q : ℕ} {node : List ℕ} → IsMet put q node → 2 ≡ q → IsOther put q → IsMet (Some 2) 3 (1 ∷ node)
-  taken IsMet.at_output same other = absurd (omega (arith, same))
-  taken IsMet.at_latch same other = IsMet.before_it (omega arith)
-  taken (IsMet.before_it l) same other = absurd (other (sym same))
-
-  visited : {put : Option ℕ} {q : ℕ} {node : List ℕ} → Visits put q node → IsMet put q node
-  visited (EventVisits.start {s = z} h) = started z (only x z h)
-  visited (EventVisits.reads seen reads) = onward (visited seen) (reading reads)
-  visited (EventVisits.plain {q = q} {next = next} {name = name} seen other is off) = absurd (off (subst (Enabled e) (latch_is name q next is).0 enabled))
-  visited (EventVisits.held {q = q} {next = next} {node = node} {name = name} seen other is on) =
-      let at = latch_is name q next is in
-      subst (λ z. IsMet (Some z) next (s.class z ∷ node)) at.0 (subst (λ z. IsMet (Some 2) z (1 ∷ node)) at.1 (taken (visited seen) at.0 other))
-
-  visits_y : Visits None 4 []
-  visits_y = EventVisits.start (Contains-head x [])
-
-  visits_next : Visits (Some 2) 3 (1 ∷ [])
-  visits_next = EventVisits.held {name = codes "q"} (EventVisits.reads visits_y (Reads.by_gate {fanins = 2 ∷ []} (1, omega arith, refl) (0, omega arith, refl))) tt latch enabled
-
-  visits_e : Visits (Some 2) 0 (1 ∷ [])
-  visits_e = EventVisits.reads visits_next (Reads.by_gate {fanins = 0 ∷ 1 ∷ 2 ∷ []} (0, omega arith, refl) (0, omega arith, refl))
-
-  visits_a : Visits (Some 2) 1 (1 ∷ [])
-  visits_a = EventVisits.reads visits_next (Reads.by_gate {fanins = 0 ∷ 1 ∷ 2 ∷ []} (0, omega arith, refl) (1, omega arith, refl))
-
-  input_e : IsVisitedInput e x 0 (1 ∷ [])
-  input_e = record { out = Some 2; place = 0; visit = visits_e; numbered = inl (refl, refl) }
-
-  input_a : IsVisitedInput e x 1 (1 ∷ [])
-  input_a = record { out = Some 2; place = 1; visit = visits_a; numbered = inr (inl (refl, refl)) }
-
-  abbrev VariableOf : ℕ → List ℕ → Type 0
-  VariableOf input path = (v : ℕ) × Contains (2 ∷ 3 ∷ []) v × (variable_of at_load v ≡ record { input = input; at = path })
-
-  variable : (input : ℕ) (path : List ℕ) → IsVisitedInput e x input path → VariableOf input path
-  variable input path h = go (visited h.visit) (own_number h.place input h.numbered)
-    where
-      numbered_so : (i : ℕ) → i < 2 → VariableOf i (1 ∷ [])
-      numbered_so zero l = (2, Contains-head 2 (3 ∷ []), refl)
-      numbered_so (suc zero) l = (3, Contains-tail 2 3 (3 ∷ []) (Contains-head 3 []), refl)
-      numbered_so (suc (suc i)) l = absurd (omega (arith, l))
-
-      go : {put : Option ℕ} {q : ℕ} {node : List ℕ} → IsMet put q node → (q ≡ input) × (input < 2) → VariableOf input node
-      go IsMet.at_output n = absurd (omega (arith, n.0, n.1))
-      go IsMet.at_latch n = absurd (omega (arith, n.0, n.1))
-      go (IsMet.before_it l) n = numbered_so input n.1
-
-  -- what is reached
-  abbrev Begun : ℕ → Type 0
-  Begun = StartLatches s (x ∷ [])
-
-  cone : ConeLatches c 4 2
-  cone = (codes "q", 3, latch, y_reaches)
-
-  begun : Begun 2
-  begun = (x, Contains-head x [], cone, tt)
-
-  begun_is : (v : ℕ) → Begun v → 2 ≡ v
-  begun_is v h = (latch_is h.2.0 v h.2.1 h.2.2).0
-
-  node_of : (path : List ℕ) → IsNode s (Enabled e) Begun path → (n : ℕ) × (n ≤ 1) × (path_of at_load.children n ≡ path)
-  node_of [] h = (0, omega arith, refl)
-  node_of (k ∷ path) h =
-      let at = at_root s same_or_not single once all_hold Begun path h.0 h.1 in
-      let class : s.class 2 ≡ k = ap s.class (begun_is h.0 at.1) ∙ h.2 in
-      (1, omega arith, (λ i. class i ∷ sym at.0 i))
-
-  pub nodes_made : HoldsNodes e at_load.children x
-  nodes_made path h = node_of path h
-
-  node_is : (k : ℕ) → Contains (0 ∷ 1 ∷ []) k ↔ ((k ≤ 1) × IsNode s (Enabled e) Begun (path_of at_load.children k))
-  node_is k = (λ h. there k (Contains-cases 0 k (1 ∷ []) h), λ h. back k h.0)
-    where
-      Made : ℕ → Type 0
-      Made m = (m ≤ 1) × IsNode s (Enabled e) Begun (path_of at_load.children m)
-
-      there : (m : ℕ) → (0 ≡ m) ⊎ Contains (1 ∷ []) m → Made m
-      there m (inl same) = subst Made same (omega arith, tt)
-      there m (inr h) = subst Made (only 1 m h) (omega arith, (2, begun, refl))
-
-      back : (m : ℕ) → m ≤ 1 → Contains (0 ∷ 1 ∷ []) m
-      back zero l = Contains-head 0 (1 ∷ [])
-      back (suc zero) l = Contains-tail 0 1 (1 ∷ []) (Contains-head 1 [])
-      back (suc (suc m)) l = absurd (omega (arith, l))
-
-  -- the function, by the literals of what the latch takes over and of y
+  -- the trees of what the latch takes over, and of y
   abbrev pub next_tree : Bool → Tree (List ℕ)
   next_tree bit = hold_tree load 0 1 bit (1 ∷ [])
 
   abbrev pub y_tree : Tree (List ℕ)
   y_tree = Branch out (Cons (next_tree false) Nil)
 
-  module _ (f0 f1 y : ℕ) (low : Builds held_nodes (named_places at_load) (next_tree false) f0) (high : Builds held_nodes (named_places at_load) (next_tree true) f1) (built : Builds held_nodes (named_places at_load) y_tree y)
-      (low_in : f0 < 18) (high_in : f1 < 18) (y_in : y < 18) (or_is : IsShortOr held_nodes f0 (flip f1) 6) where
-    enable_is : IsEnableOnward e at_load [] 2 6
-    enable_is = record {
-      position = 0;
-      latch = record { name = codes "q"; next = record { 0 = 3 }; out = record { 0 = 2 }; init = init.Unknown };
-      at = refl;
-      out = refl;
-      enabled = enabled;
-      enable = record {
-        f0 = f0;
-        f1 = f1;
-        low = record { tree = next_tree false; unfolds = hold_next s same_or_not single once (codes "q") 2 3 latch hold false (1 ∷ []); builds = low; within = low_in };
-        high = record { tree = next_tree true; unfolds = hold_next s same_or_not single once (codes "q") 2 3 latch hold true (1 ∷ []); builds = high; within = high_in };
-        or_is = or_is;
-        within = omega arith;
-      };
-    }
+  y_unfolds : EventUnfolds s (Enabled e) None 4 [] y_tree
+  y_unfolds = EventUnfolds.gate {fanins = 2 ∷ []} {cover = out} (1, omega arith, refl) (EventUnfoldsAll.more (hold_unfolds s same_or_not single once (codes "q") 2 3 latch hold []) EventUnfoldsAll.none)
 
-    pub y_function : IsFunctionOf e at_load 4 (function_of y)
-    unfolding simple_and
-    y_function = record {
-      value = record {
-        tree = y_tree;
-        unfolds = EventUnfolds.gate {fanins = 2 ∷ []} {cover = out} (1, omega arith, refl) (EventUnfoldsAll.more (hold_unfolds s same_or_not single once (codes "q") 2 3 latch hold []) EventUnfoldsAll.none);
-        builds = built;
-        within = y_in;
-      };
-      care = record {
-        enables = 6 ∷ [];
-        each = λ z h. ([], 2, (cone, tt), subst (λ m. IsEnableOnward e at_load [] 2 m) (only 6 z h) enable_is);
-        all = λ path v reached on.
-            let at = at_root s same_or_not single once all_hold _ path v reached in
-            (6, Contains-head 6 [], subst (λ p. IsEnableOnward e at_load p v 6) (sym at.0) (subst (λ u. IsEnableOnward e at_load [] u 6) (latch_is on.name v on.next on.latch).0 enable_is));
-        is = (1, refl, refl);
-        within = omega arith;
-      };
-      vars = record {
-        in_order = record { within = All-from_recursion (λ v. v < 4) (2 ∷ 3 ∷ []) (omega arith, (omega arith, tt)); ordered = each_pair (GoesBefore at_load) (2 ∷ 3 ∷ []) ((inr (refl, inr (refl, omega arith)), tt), (tt, tt)) };
-        each = λ v h. each_at (λ m. IsVisitedInput e x (variable_of at_load m).input (variable_of at_load m).at) (2 ∷ 3 ∷ []) (input_e, (input_a, tt)) v h;
-        all = variable;
-      };
-      reach = record { nodes_are = node_is; only_is = (λ same. absurd (not_so same), λ h. absurd (let one : 1 ≡ 0 = h [] 2 begun in omega (arith, one))) };
-    }
+  -- of a place from which the latch is reached
+  module _ (p : ℕ) (met : IsMet None p []) (reaches : Reaches c p 2) (to_latch : EventVisits s (Enabled e) (signal_start p ∷ []) None 2 []) where
+    abbrev x : Start ℕ
+    x = signal_start p
+
+    abbrev Visits : Option ℕ → ℕ → List ℕ → Type 0
+    Visits put q node = EventVisits s (Enabled e) (x ∷ []) put q node
+
+    started : (z : Start ℕ) → x ≡ z → IsMet z.left_out z.place []
+    started z same = subst (λ (y : Start ℕ). IsMet y.left_out y.place []) same met
+
+    taken : {put : Option ℕ} {q : ℕ} {node : List ℕ} → IsMet put q node → 2 ≡ q → IsOther put q → IsMet (Some 2) 3 (1 ∷ node)
+    taken IsMet.at_output same other = absurd (omega (arith, same))
+    taken IsMet.at_latch same other = IsMet.before_it (omega arith)
+    taken (IsMet.before_it l) same other = absurd (other (sym same))
+
+    visited : {put : Option ℕ} {q : ℕ} {node : List ℕ} → Visits put q node → IsMet put q node
+    visited (EventVisits.start {s = z} h) = started z (only x z h)
+    visited (EventVisits.reads seen reads) = onward (visited seen) (reading reads)
+    visited (EventVisits.plain {q = q} {next = next} {name = name} seen other is off) = absurd (off (subst (Enabled e) (latch_is name q next is).0 enabled))
+    visited (EventVisits.held {q = q} {next = next} {node = node} {name = name} seen other is on) =
+        let at = latch_is name q next is in
+        subst (λ z. IsMet (Some z) next (s.class z ∷ node)) at.0 (subst (λ z. IsMet (Some 2) z (1 ∷ node)) at.1 (taken (visited seen) at.0 other))
+
+    visits_next : Visits (Some 2) 3 (1 ∷ [])
+    visits_next = EventVisits.held {name = codes "q"} to_latch tt latch enabled
+
+    visits_e : Visits (Some 2) 0 (1 ∷ [])
+    visits_e = EventVisits.reads visits_next (Reads.by_gate {fanins = 0 ∷ 1 ∷ 2 ∷ []} (0, omega arith, refl) (0, omega arith, refl))
+
+    visits_a : Visits (Some 2) 1 (1 ∷ [])
+    visits_a = EventVisits.reads visits_next (Reads.by_gate {fanins = 0 ∷ 1 ∷ 2 ∷ []} (0, omega arith, refl) (1, omega arith, refl))
+
+    input_e : IsVisitedInput e x 0 (1 ∷ [])
+    input_e = record { out = Some 2; place = 0; visit = visits_e; numbered = inl (refl, refl) }
+
+    input_a : IsVisitedInput e x 1 (1 ∷ [])
+    input_a = record { out = Some 2; place = 1; visit = visits_a; numbered = inr (inl (refl, refl)) }
+
+    abbrev VariableOf : ℕ → List ℕ → Type 0
+    VariableOf input path = (v : ℕ) × Contains (2 ∷ 3 ∷ []) v × (variable_of at_load v ≡ record { input = input; at = path })
+
+    variable : (input : ℕ) (path : List ℕ) → IsVisitedInput e x input path → VariableOf input path
+    variable input path h = go (visited h.visit) (own_number h.place input h.numbered)
       where
-        not_so : false ≡ true → ⊥
-        not_so same = cc
+        numbered_so : (i : ℕ) → i < 2 → VariableOf i (1 ∷ [])
+        numbered_so zero l = (2, Contains-head 2 (3 ∷ []), refl)
+        numbered_so (suc zero) l = (3, Contains-tail 2 3 (3 ∷ []) (Contains-head 3 []), refl)
+        numbered_so (suc (suc i)) l = absurd (omega (arith, l))
+
+        go : {put : Option ℕ} {q : ℕ} {node : List ℕ} → IsMet put q node → (q ≡ input) × (input < 2) → VariableOf input node
+        go IsMet.at_output n = absurd (omega (arith, n.0, n.1))
+        go IsMet.at_latch n = absurd (omega (arith, n.0, n.1))
+        go (IsMet.before_it l) n = numbered_so input n.1
+
+    -- what is reached
+    abbrev Begun : ℕ → Type 0
+    Begun = StartLatches s (x ∷ [])
+
+    cone : ConeLatches c p 2
+    cone = (codes "q", 3, latch, reaches)
+
+    begun : Begun 2
+    begun = (x, Contains-head x [], cone, tt)
+
+    begun_is : (v : ℕ) → Begun v → 2 ≡ v
+    begun_is v h = (latch_is h.2.0 v h.2.1 h.2.2).0
+
+    node_of : (path : List ℕ) → IsNode s (Enabled e) Begun path → (n : ℕ) × (n ≤ 1) × (path_of at_load.children n ≡ path)
+    node_of [] h = (0, omega arith, refl)
+    node_of (k ∷ path) h =
+        let at = at_root s same_or_not single once all_hold Begun path h.0 h.1 in
+        let class : s.class 2 ≡ k = ap s.class (begun_is h.0 at.1) ∙ h.2 in
+        (1, omega arith, (λ i. class i ∷ sym at.0 i))
+
+    made : HoldsNodes e at_load.children x
+    made path h = node_of path h
+
+    node_is : (k : ℕ) → Contains (0 ∷ 1 ∷ []) k ↔ ((k ≤ 1) × IsNode s (Enabled e) Begun (path_of at_load.children k))
+    node_is k = (λ h. there k (Contains-cases 0 k (1 ∷ []) h), λ h. back k h.0)
+      where
+        Made : ℕ → Type 0
+        Made m = (m ≤ 1) × IsNode s (Enabled e) Begun (path_of at_load.children m)
+
+        there : (m : ℕ) → (0 ≡ m) ⊎ Contains (1 ∷ []) m → Made m
+        there m (inl same) = subst Made same (omega arith, tt)
+        there m (inr h) = subst Made (only 1 m h) (omega arith, (2, begun, refl))
+
+        back : (m : ℕ) → m ≤ 1 → Contains (0 ∷ 1 ∷ []) m
+        back zero l = Contains-head 0 (1 ∷ [])
+        back (suc zero) l = Contains-tail 0 1 (1 ∷ []) (Contains-head 1 [])
+        back (suc (suc m)) l = absurd (omega (arith, l))
+
+    module _ (f0 f1 y : ℕ) (tree : Tree (List ℕ)) (unfolds : EventUnfolds s (Enabled e) None p [] tree) (low : Builds held_nodes (named_places at_load) (next_tree false) f0) (high : Builds held_nodes (named_places at_load) (next_tree true) f1) (built : Builds held_nodes (named_places at_load) tree y)
+        (low_in : f0 < 18) (high_in : f1 < 18) (y_in : y < 18) (or_is : IsShortOr held_nodes f0 (flip f1) 6) where
+      enable_is : IsEnableOnward e at_load [] 2 6
+      enable_is = record {
+        position = 0;
+        latch = record { name = codes "q"; next = record { 0 = 3 }; out = record { 0 = 2 }; init = init.Unknown };
+        at = refl;
+        out = refl;
+        enabled = enabled;
+        enable = record {
+          f0 = f0;
+          f1 = f1;
+          low = record { tree = next_tree false; unfolds = hold_next s same_or_not single once (codes "q") 2 3 latch hold false (1 ∷ []); builds = low; within = low_in };
+          high = record { tree = next_tree true; unfolds = hold_next s same_or_not single once (codes "q") 2 3 latch hold true (1 ∷ []); builds = high; within = high_in };
+          or_is = or_is;
+          within = omega arith;
+        };
+      }
+
+      function : IsFunctionOf e at_load p (function_of y)
+      unfolding simple_and
+      function = record {
+        value = record {
+          tree = tree;
+          unfolds = unfolds;
+          builds = built;
+          within = y_in;
+        };
+        care = record {
+          enables = 6 ∷ [];
+          each = λ z h. ([], 2, (cone, tt), subst (λ m. IsEnableOnward e at_load [] 2 m) (only 6 z h) enable_is);
+          all = λ path v reached on.
+              let at = at_root s same_or_not single once all_hold _ path v reached in
+              (6, Contains-head 6 [], subst (λ p. IsEnableOnward e at_load p v 6) (sym at.0) (subst (λ u. IsEnableOnward e at_load [] u 6) (latch_is on.name v on.next on.latch).0 enable_is));
+          is = (1, refl, refl);
+          within = omega arith;
+        };
+        vars = record {
+          in_order = record { within = All-from_recursion (λ v. v < 4) (2 ∷ 3 ∷ []) (omega arith, (omega arith, tt)); ordered = each_pair (GoesBefore at_load) (2 ∷ 3 ∷ []) ((inr (refl, inr (refl, omega arith)), tt), (tt, tt)) };
+          each = λ v h. each_at (λ m. IsVisitedInput e x (variable_of at_load m).input (variable_of at_load m).at) (2 ∷ 3 ∷ []) (input_e, (input_a, tt)) v h;
+          all = variable;
+        };
+        reach = record { nodes_are = node_is; only_is = (λ same. absurd (not_so same), λ h. absurd (let one : 1 ≡ 0 = h [] 2 begun in omega (arith, one))) };
+      }
+        where
+          not_so : false ≡ true → ⊥
+          not_so same = cc
+
+  y_visits : EventVisits s (Enabled e) (signal_start 4 ∷ []) None 2 []
+  y_visits = EventVisits.reads (EventVisits.start (Contains-head (signal_start 4) [])) (Reads.by_gate {fanins = 2 ∷ []} (1, omega arith, refl) (0, omega arith, refl))
+
+  q_visits : EventVisits s (Enabled e) (signal_start 2 ∷ []) None 2 []
+  q_visits = EventVisits.start (Contains-head (signal_start 2) [])
+
+  pub nodes_made : HoldsNodes e at_load.children (signal_start 4)
+  nodes_made = made 4 IsMet.at_output y_reaches y_visits
+
+  pub latch_nodes_made : HoldsNodes e at_load.children (signal_start 2)
+  latch_nodes_made = made 2 IsMet.at_latch Reaches.here q_visits
+
+  -- the functions of y and of the latch, by the literals of what the latch takes over with itself as 0 and as 1
+  module _ (f0 f1 : ℕ) (low : Builds held_nodes (named_places at_load) (next_tree false) f0) (high : Builds held_nodes (named_places at_load) (next_tree true) f1) (low_in : f0 < 18) (high_in : f1 < 18)
+      (or_is : IsShortOr held_nodes f0 (flip f1) 6) where
+    pub y_function : (y : ℕ) → Builds held_nodes (named_places at_load) y_tree y → y < 18 → IsFunctionOf e at_load 4 (function_of y)
+    y_function y built y_in = function 4 IsMet.at_output y_reaches y_visits f0 f1 y y_tree y_unfolds low high built low_in high_in y_in or_is
+
+    pub latch_function : IsFunctionOf e at_load 2 (function_of f0)
+    latch_function = function 2 IsMet.at_latch Reaches.here q_visits f0 f1 f0 (next_tree false) (hold_unfolds s same_or_not single once (codes "q") 2 3 latch hold []) low high low low_in high_in low_in or_is
