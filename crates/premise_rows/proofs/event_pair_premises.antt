@@ -7,3 +7,4 @@ pub mod Held
 pub mod HeldCompared
 pub mod Turning
 pub mod Crossed
+pub mod Counted

@@ -1,4 +1,5 @@
 pub mod Comparable
+pub mod Counted
 pub mod Crossed
 pub mod Differing
 pub mod Held

@@ -12,15 +12,14 @@ use Rattle.event_form.specs.event_agreement.Queries.{AsksEventPair}
 use Rattle.event_form.proofs.Answers.{answers_are_fit, frames_of_differences}
 use Rattle.event_form.proofs.event_agreement.PairQueries.{queries_of_pairs, frames_shown, differences_least}
 use Rattle.premise_rows.specs.event_pair_premises.Crossed.{crossed_pair, crossed, crossed_asked, crossed_result, e_alone, CaredMeetPremises}
-use Rattle.premise_rows.specs.event_pair_premises.Held.{both_held, held_nodes, at_load}
+use Rattle.premise_rows.specs.event_pair_premises.Held.{both_held, held_nodes, at_load, over_load}
 use Rattle.premise_rows.proofs.event_pair_premises.HeldPair.{left_is, load_kept, merge, not_always, right_latch_is, size}
-use Rattle.premise_rows.proofs.event_pair_premises.HeldSide.{function_of}
 
 asks : AsksEventPair both_held at_load (Left 4) (Right 2) crossed
 unfolding simple_and
 asks = record {
-  left_function = function_of 10;
-  right_function = function_of 12;
+  left_function = over_load 10;
+  right_function = over_load 12;
   left_is = left_is;
   right_is = right_latch_is;
   left = refl;

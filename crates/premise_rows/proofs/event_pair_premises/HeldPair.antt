@@ -28,19 +28,20 @@ use Rattle.event_nodes.specs.aig.Builds.{Builds}
 use Rattle.event_nodes.specs.Nodes.{IsEventGraph, named_places}
 use Rattle.event_nodes.specs.event_variables.Variables.{GoesBefore, IsMergeOf}
 use Rattle.event_nodes.specs.View.{Enabled}
+use Rattle.event_nodes.specs.Visited.{HoldsNodes}
 use Rattle.pair_decide.specs.Queries.{IsSame}
 use Rattle.edbf_unfold.specs.class_queries.Laws.{AreKept}
 use Rattle.edbf_unfold.specs.event_literals.ShortOr.{short_or, is_and, is_conjunct, operands}
 use Rattle.event_form.specs.event_agreement.Queries.{AsksEventPair}
 use Rattle.event_form.specs.event_agreement.event_pairs.Functions.{IsEventFunction}
-use Rattle.event_form.specs.Functions.{IsFunctionOf}
+use Rattle.event_form.specs.Functions.{IsFunctionOf, signal_start}
 use Rattle.event_form.proofs.event_agreement.event_pairs.Sides.{signals_are_both}
 use Rattle.call_rows.specs.circuit_samples.event_samples.Samples.{load_cover, load_not_cover, same_cover, not_cover}
 use Rattle.call_rows.proofs.circuit_samples.Each.{Each, each_at, each_latch, each_pair, each_split}
 use Rattle.call_rows.proofs.circuit_samples.NetTest.{numbers_distinct-sound}
 use Rattle.call_rows.proofs.circuit_samples.event_samples.HoldCells.{IsHold, hold_enabled, hold_depths, in_first, in_their_order, at_root}
 use Rattle.call_rows.proofs.circuit_samples.event_samples.Opened.{holds_load, loads_load, holds_not, loads_not}
-use Rattle.premise_rows.specs.event_pair_premises.Held.{loads_a, loads_not_a, both_held, held_nodes, at_load, y_query}
+use Rattle.premise_rows.specs.event_pair_premises.Held.{loads_a, loads_not_a, both_held, held_nodes, at_load, y_query, over_load}
 use Rattle.premise_rows.proofs.block_premises.TurningNets.{each}
 use Rattle.premise_rows.proofs.event_pair_premises.HeldSide as held
 
@@ -70,10 +71,10 @@ not_sound : IsCoverSound not_cover
 not_sound = record { cubes = All-from_recursion (IsCube 1) (codes "0" ∷ []) ((refl, All-from_recursion IsPlace (codes "0") (inl refl, tt)), tt); empty_is_on = λ e. refl }
 
 -- the graph
-abbrev node_number : Node → ℕ
+abbrev pub node_number : Node → ℕ
 node_number Constant = 0
 node_number (Input v) = suc v
-node_number (And l r) = if r.0 == 8 then 5 else if r.0 == 9 then 6 else if r.0 == 11 then 7 else 8
+node_number (And l r) = if r.0 == 4 then 9 else if r.0 == 8 then 5 else if r.0 == 9 then 6 else if r.0 == 11 then 7 else 8
 
 graph : IsGraph held_nodes
 graph = record {
@@ -110,7 +111,7 @@ kept = record {
   events = load_kept;
 }
 
-pub left_function : IsFunctionOf loads_a at_load 4 (held.function_of 10)
+pub left_function : IsFunctionOf loads_a at_load 4 (over_load 10)
 unfolding flip place_lit simple_and short_or is_and is_conjunct operands
 left_function =
     held.y_function load_cover same_cover load_sound same_sound refl refl holds_load loads_load 10 15 next_low next_high (omega arith) (omega arith) refl 10
@@ -148,22 +149,28 @@ high_built = (
   (17, (12, (12, (6, refl, (12, (6, refl, refl), (12, refl, refl))), (13, refl, refl)), (17, (7, (7, refl, (7, refl, (7, refl, refl))), (16, (8, refl, refl), refl)), refl)), refl),
 )
 
-pub right_function : IsFunctionOf loads_not_a at_load 4 (held.function_of 13)
+pub right_function : IsFunctionOf loads_not_a at_load 4 (over_load 13)
 unfolding flip place_lit simple_and short_or is_and is_conjunct operands
 right_function =
     held.y_function load_not_cover not_cover load_not_sound not_sound refl refl holds_not loads_not 12 17 low_built high_built (omega arith) (omega arith) refl 13
     (12 ∷ [], (12, [], low_built, refl, refl), (13, (13, (13, (13, refl, refl), (12, refl, refl)), refl), refl))
     (omega arith)
 
-pub right_latch_function : IsFunctionOf loads_not_a at_load 2 (held.function_of 12)
+pub right_latch_function : IsFunctionOf loads_not_a at_load 2 (over_load 12)
 unfolding flip place_lit simple_and short_or is_and is_conjunct operands
 right_latch_function = held.latch_function load_not_cover not_cover load_not_sound not_sound refl refl holds_not loads_not 12 17 low_built high_built (omega arith) (omega arith) refl
 
-pub left_is : IsEventFunction both_held at_load (Left 4) (held.function_of 10)
-left_is = (signals_are_both loads_a loads_not_a at_load kept).0 4 (held.function_of 10) left_function (held.nodes_made load_cover same_cover load_sound same_sound refl refl holds_load loads_load)
+pub left_nodes : HoldsNodes loads_a at_load.children (signal_start 4)
+left_nodes = held.nodes_made load_cover same_cover load_sound same_sound refl refl holds_load loads_load
 
-right_is : IsEventFunction both_held at_load (Right 4) (held.function_of 13)
-right_is = (signals_are_both loads_a loads_not_a at_load kept).1 4 (held.function_of 13) right_function (held.nodes_made load_not_cover not_cover load_not_sound not_sound refl refl holds_not loads_not)
+pub right_nodes : HoldsNodes loads_not_a at_load.children (signal_start 4)
+right_nodes = held.nodes_made load_not_cover not_cover load_not_sound not_sound refl refl holds_not loads_not
+
+pub left_is : IsEventFunction both_held at_load (Left 4) (over_load 10)
+left_is = (signals_are_both loads_a loads_not_a at_load kept).0 4 (over_load 10) left_function left_nodes
+
+right_is : IsEventFunction both_held at_load (Right 4) (over_load 13)
+right_is = (signals_are_both loads_a loads_not_a at_load kept).1 4 (over_load 13) right_function right_nodes
 
 pub merge : IsMergeOf at_load (2 ∷ 3 ∷ []) (2 ∷ 3 ∷ []) (2 ∷ 3 ∷ [])
 merge = record { ordered = each_pair (GoesBefore at_load) (2 ∷ 3 ∷ []) ((inr (refl, inr (refl, omega arith)), tt), (tt, tt)); exactly = λ v. (λ h. inl h, λ h. either v h) }
@@ -172,14 +179,14 @@ merge = record { ordered = each_pair (GoesBefore at_load) (2 ∷ 3 ∷ []) ((inr
     either v (inl h) = h
     either v (inr h) = h
 
-pub right_latch_is : IsEventFunction both_held at_load (Right 2) (held.function_of 12)
-right_latch_is = (signals_are_both loads_a loads_not_a at_load kept).1 2 (held.function_of 12) right_latch_function (held.latch_nodes_made load_not_cover not_cover load_not_sound not_sound refl refl holds_not loads_not)
+pub right_latch_is : IsEventFunction both_held at_load (Right 2) (over_load 12)
+right_latch_is = (signals_are_both loads_a loads_not_a at_load kept).1 2 (over_load 12) right_latch_function (held.latch_nodes_made load_not_cover not_cover load_not_sound not_sound refl refl holds_not loads_not)
 
 pub asks : AsksEventPair both_held at_load (Left 4) (Right 4) y_query
 unfolding simple_and
 asks = record {
-  left_function = held.function_of 10;
-  right_function = held.function_of 13;
+  left_function = over_load 10;
+  right_function = over_load 13;
   left_is = left_is;
   right_is = right_is;
   left = refl;

@@ -35,16 +35,11 @@ use Rattle.event_nodes.specs.event_variables.Variables.{GoesBefore, variable_of}
 use Rattle.edbf_unfold.specs.Care.{IsEnableOnward}
 use Rattle.edbf_unfold.specs.event_literals.ShortOr.{IsShortOr}
 use Rattle.sec_base.specs.declared.basics.Init.TheVariants as init
-use Rattle.event_form.specs.SignalFunction.{SignalFunction}
 use Rattle.event_form.specs.Functions.{IsFunctionOf, signal_start}
 use Rattle.call_rows.proofs.circuit_samples.Each.{each_at, each_latch, each_pair}
 use Rattle.call_rows.proofs.circuit_samples.event_samples.HoldCells.{IsHold, hold_tree, hold_enabled, hold_next, hold_unfolds, hold_depths, depth_one, at_root}
-use Rattle.premise_rows.specs.event_pair_premises.Held.{holding, with_class, held_nodes, at_load}
+use Rattle.premise_rows.specs.event_pair_premises.Held.{holding, with_class, held_nodes, at_load, over_load}
 use Rattle.premise_rows.proofs.block_premises.TurningNets.{each, one_name}
-
--- the function of y: its value, and e at the child as its care
-abbrev pub function_of : ℕ → SignalFunction
-function_of lit = record { value = record { 0 = lit }; care = record { 0 = 6 }; vars = 2 ∷ 3 ∷ []; nodes = 0 ∷ 1 ∷ []; only_always = false }
 
 names_distinct : AreDistinct (codes "e" ∷ codes "a" ∷ codes "q" ∷ codes "n" ∷ codes "y" ∷ [])
 names_distinct =
@@ -319,7 +314,7 @@ module _ (load out : Cover) (load_sound : IsCoverSound load) (out_sound : IsCove
         };
       }
 
-      function : IsFunctionOf e at_load p (function_of y)
+      function : IsFunctionOf e at_load p (over_load y)
       unfolding simple_and
       function = record {
         value = record {
@@ -363,8 +358,8 @@ module _ (load out : Cover) (load_sound : IsCoverSound load) (out_sound : IsCove
   -- the functions of y and of the latch, by the literals of what the latch takes over with itself as 0 and as 1
   module _ (f0 f1 : ℕ) (low : Builds held_nodes (named_places at_load) (next_tree false) f0) (high : Builds held_nodes (named_places at_load) (next_tree true) f1) (low_in : f0 < 18) (high_in : f1 < 18)
       (or_is : IsShortOr held_nodes f0 (flip f1) 6) where
-    pub y_function : (y : ℕ) → Builds held_nodes (named_places at_load) y_tree y → y < 18 → IsFunctionOf e at_load 4 (function_of y)
+    pub y_function : (y : ℕ) → Builds held_nodes (named_places at_load) y_tree y → y < 18 → IsFunctionOf e at_load 4 (over_load y)
     y_function y built y_in = function 4 IsMet.at_output y_reaches y_visits f0 f1 y y_tree y_unfolds low high built low_in high_in y_in or_is
 
-    pub latch_function : IsFunctionOf e at_load 2 (function_of f0)
+    pub latch_function : IsFunctionOf e at_load 2 (over_load f0)
     latch_function = function 2 IsMet.at_latch Reaches.here q_visits f0 f1 f0 (next_tree false) (hold_unfolds s same_or_not single once (codes "q") 2 3 latch hold []) low high low low_in high_in low_in or_is

@@ -45,11 +45,11 @@ module _ (e : EventCircuitView) (none : (name : List ℕ) (u next : ℕ) → IsL
   unreached [] v h = none h.2.0 v h.2.1 h.2.2
   unreached (k ∷ path) v h = unreached path h.0 h.1
 
-  at_root : {put : Option ℕ} {q : ℕ} {node : List ℕ} → VisitsFrom e p put q node → [] ≡ node
-  at_root (EventVisits.start h) = refl
-  at_root (EventVisits.reads before reads) = at_root before
-  at_root (EventVisits.plain {q = q} {next = next} {name = name} before other latch off) = absurd (none name q next latch)
-  at_root (EventVisits.held {q = q} {next = next} {name = name} before other latch on) = absurd (none name q next latch)
+  pub stays_at_root : {put : Option ℕ} {q : ℕ} {node : List ℕ} → VisitsFrom e p put q node → [] ≡ node
+  stays_at_root (EventVisits.start h) = refl
+  stays_at_root (EventVisits.reads before reads) = stays_at_root before
+  stays_at_root (EventVisits.plain {q = q} {next = next} {name = name} before other latch off) = absurd (none name q next latch)
+  stays_at_root (EventVisits.held {q = q} {next = next} {name = name} before other latch on) = absurd (none name q next latch)
 
   pub root_made : (children : List (ℕ × ℕ)) → path_of children 0 ≡ [] → HoldsNodes e children (signal_start p)
   root_made children root [] h = (0, omega arith, root)
@@ -67,7 +67,7 @@ module _ (e : EventCircuitView) (none : (name : List ℕ) (u next : ℕ) → IsL
 
     variable : (input : ℕ) (path : List ℕ) → IsVisitedInput e x input path → (u : ℕ) × Contains (v ∷ []) u × (variable_of w u ≡ record { input = input; at = path })
     variable input path h =
-        let root = at_root h.visit in
+        let root = stays_at_root h.visit in
         let number : i ≡ input = own h.out h.place path h.visit input h.numbered in
         (v, Contains-head v [], is ∙ (λ k. record { input = number k; at = root k }))
 

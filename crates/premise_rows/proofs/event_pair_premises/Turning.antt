@@ -17,6 +17,11 @@ use Rattle.circuit_theory.specs.Run.{ExtendsWith, IsEnabled}
 use Rattle.circuit_theory.specs.Tree.{AreNumbered, Branch, Cons, IsInputNumber, Leaf, Nil}
 use Rattle.circuit_theory.specs.Classes.{HasClasses}
 use Rattle.circuit_theory.proofs.Lists.{Contains-head, only}
+use Rattle.circuit_laws.proofs.JoinedParts.{joined_number_once, joined_single}
+use Rattle.circuit_laws.proofs.event_laws.EventTrees.{one_event_tree}
+use Rattle.flat_net.proofs.Nets.{sound_is_net}
+use Rattle.event_form.specs.SignalFunction.{SignalFunction}
+use Rattle.event_form.specs.event_agreement.event_pairs.Functions.{IsEventFunction}
 use Rattle.circuit_laws.proofs.NetLaws.{net_can_put, net_value, net_value-extends}
 use Rattle.base_tables.proofs.Appended.{distinct-push}
 use Rattle.sec_base.specs.Cover.{IsCoverSound, IsCube, IsPlace}
@@ -37,11 +42,12 @@ use Rattle.edbf_unfold.specs.class_queries.Laws.{AreKept}
 use Rattle.event_form.specs.event_agreement.Laws.{HasSameQuery}
 use Rattle.event_form.specs.Functions.{IsFunctionOf, signal_start}
 use Rattle.event_form.proofs.event_agreement.CutCircuits.{cut_queries_agree}
+use Rattle.event_form.proofs.event_agreement.event_pairs.Growing.{one_literal}
 use Rattle.event_form.proofs.event_agreement.event_pairs.Sides.{signals_are_both}
 use Rattle.call_rows.specs.circuit_samples.event_samples.Samples.{not_cover}
 use Rattle.call_rows.proofs.circuit_samples.Each.{each_at, each_latch}
 use Rattle.call_rows.proofs.circuit_samples.NetTest.{net_test-sound}
-use Rattle.premise_rows.specs.event_pair_premises.Turning.{turning, opened, off_cover, turns, turns_too, both_opened, at_turn, t_name, CutPairsMeetPremises}
+use Rattle.premise_rows.specs.event_pair_premises.Turning.{turning, opened, off_cover, turns, turns_too, both_opened, at_turn, t_name, of_t, CutPairsMeetPremises, OneTreeMeetsPremises}
 use Rattle.premise_rows.proofs.block_premises.TurningNets.{each, one_name}
 use Rattle.premise_rows.proofs.event_outcome_samples.Nets.{nothing}
 use Rattle.premise_rows.proofs.event_outcome_samples.Sides.{no_split}
@@ -266,6 +272,12 @@ either : (v : ℕ) → Contains (0 ∷ []) v ⊎ Contains (0 ∷ []) v → Conta
 either v (inl h) = h
 either v (inr h) = h
 
+left_y : IsEventFunction both_opened at_turn (Left 0) of_t
+left_y = (signals_are_both (opened not_cover) (opened off_cover) at_turn kept).0 0 (of_input 0 2) (y_function not_cover refl not_sound not_turns) (nodes_made not_cover refl not_sound not_turns 0)
+
+right_y : IsEventFunction both_opened at_turn (Right 0) of_t
+right_y = (signals_are_both (opened not_cover) (opened off_cover) at_turn kept).1 0 (of_input 0 2) (y_function off_cover refl off_sound off_turns) (nodes_made off_cover refl off_sound off_turns 0)
+
 -- the output, and what the latch takes over
 y_pair : HasSameQuery both_opened at_turn (Left 0) (Right 0)
 unfolding simple_and
@@ -274,8 +286,8 @@ y_pair = record {
   asks = record {
     left_function = of_input 0 2;
     right_function = of_input 0 2;
-    left_is = (signals_are_both (opened not_cover) (opened off_cover) at_turn kept).0 0 (of_input 0 2) (y_function not_cover refl not_sound not_turns) (nodes_made not_cover refl not_sound not_turns 0);
-    right_is = (signals_are_both (opened not_cover) (opened off_cover) at_turn kept).1 0 (of_input 0 2) (y_function off_cover refl off_sound off_turns) (nodes_made off_cover refl off_sound off_turns 0);
+    left_is = left_y;
+    right_is = right_y;
     left = refl;
     right = refl;
     care = refl;
@@ -335,4 +347,25 @@ meet_premises = record {
   each_pair = each_pair;
   agree = cut_queries_agree turns turns_too 2 2 t_name (opened not_cover) (opened off_cover) at_turn (is_net not_cover refl not_sound not_turns) (is_net off_cover refl off_sound off_turns)
       (distinct not_cover refl not_sound not_turns) (distinct off_cover refl off_sound off_turns) minimal (is_cut not_cover refl not_sound not_turns) (is_cut off_cover refl off_sound off_turns) kept classes depths numbered each_pair;
+}
+
+-- both outputs have the tree of t
+left_net : IsNet (circuit_of (opened not_cover).net) 2
+left_net = sound_is_net (opened not_cover).net kept.left_sound
+
+right_net : IsNet (circuit_of (opened off_cover).net) 2
+right_net = sound_is_net (opened off_cover).net kept.right_sound
+
+tree_is : (p : Either ℕ ℕ) (r : SignalFunction) (k : IsEventFunction both_opened at_turn p r) → IsInputNumber both_opened.circuit both_opened.order p 0 → k.tree ≡ Leaf 0 []
+tree_is p r k h =
+    one_event_tree both_opened (IsEnabled both_opened.circuit) (joined_single (circuit_of (opened not_cover).net) (circuit_of (opened off_cover).net) 2 2 left_net right_net)
+    (λ q i j l m. joined_number_once (circuit_of (opened not_cover).net) (circuit_of (opened off_cover).net) 2 2 left_net right_net (0 ∷ []) (0 ∷ []) refl q i j l m) tt k.unfolds (EventUnfolds.input h)
+
+pub one_tree_meets_premises : OneTreeMeetsPremises
+one_tree_meets_premises = record {
+  kept = kept;
+  left_is = left_y;
+  right_is = right_y;
+  same_tree = tree_is (Left 0) of_t left_y (inl (refl, refl)) ∙ sym (tree_is (Right 0) of_t right_y (inr (inl (refl, refl))));
+  one_literal = λ p r k same. one_literal both_opened at_turn (Left 0) p of_t r turn_kept left_y k same;
 }

@@ -33,6 +33,7 @@ use Rattle.edbf_unfold.specs.class_queries.Laws.{AreKept}
 use Rattle.event_form.specs.Answers.{PairFits}
 use Rattle.event_form.specs.Asked.{AreAsked}
 use Rattle.event_form.specs.Laws.{AreAllPairs}
+use Rattle.event_form.specs.SignalFunction.{SignalFunction}
 use Rattle.event_form.specs.event_agreement.Queries.{AsksEventPair}
 use Rattle.event_form.specs.event_agreement.Laws.{HasSameQuery}
 use Rattle.call_rows.specs.circuit_samples.event_samples.Samples.{load_cover, load_not_cover, same_cover, not_cover}
@@ -74,6 +75,10 @@ held_nodes = Constant ∷ Input 0 ∷ Input 1 ∷ Input 2 ∷ Input 3 ∷ and_of
 
 abbrev pub at_load : EventGraphView
 at_load = record { graph = held_nodes; children = (0, 1) ∷ []; places = (0, 0) ∷ (1, 0) ∷ (0, 1) ∷ (1, 1) ∷ [] }
+
+-- the function of an output: over e and a at the child, with e there as its care
+abbrev pub over_load : ℕ → SignalFunction
+over_load lit = record { value = record { 0 = lit }; care = record { 0 = 6 }; vars = 2 ∷ 3 ∷ []; nodes = 0 ∷ 1 ∷ []; only_always = false }
 
 -- is e and a the complement of e and not a? The care is e, at the child.
 abbrev pub y_query : Query

@@ -1,5 +1,5 @@
 -- Two circuits with a latch that turns over in each cycle, by other rows, and what they are once that latch is cut open in both.
-use Rattle.std.specs.Prelude.{ℕ, false, List, [], ◌∷◌, None, codes}
+use Rattle.std.specs.Prelude.{true, ◌≡◌, ℕ, false, List, [], ◌∷◌, None, codes}
 use Rattle.circuit_theory.specs.declared.Mode.TheVariants.{Event}
 use Rattle.circuit_theory.specs.Agree.{IsPair, Agree, AgreeOnward, IsMinimalCut}
 use Rattle.circuit_theory.specs.Circuit.{Circuit}
@@ -20,7 +20,9 @@ use Rattle.event_nodes.specs.Nodes.{EventGraphView}
 use Rattle.event_nodes.specs.View.{EventCircuitView}
 use Rattle.edbf_unfold.specs.class_queries.Enables.{both_of}
 use Rattle.edbf_unfold.specs.class_queries.Laws.{AreKept}
+use Rattle.event_form.specs.SignalFunction.{SignalFunction}
 use Rattle.event_form.specs.event_agreement.Laws.{HasSameQuery}
+use Rattle.event_form.specs.event_agreement.event_pairs.Functions.{IsEventFunction}
 use Rattle.call_rows.specs.circuit_samples.event_samples.Samples.{not_cover}
 
 -- 0 t, which y shows; 1 what it takes over, made of t
@@ -90,3 +92,15 @@ pub record CutPairsMeetPremises : Type 0 where
   pub numbered : AreNumbered (circuit_of (opened not_cover).net) (circuit_of (opened off_cover).net) (0 ∷ []) (0 ∷ [])
   pub each_pair : (p q : ℕ) → IsPair t_name turns turns_too p q → HasSameQuery both_opened at_turn (Left p) (Right q)
   pub agree : Agree Event turns turns_too × AgreeOnward Event t_name turns turns_too
+
+-- the function of t: its variable
+abbrev pub of_t : SignalFunction
+of_t = record { value = record { 0 = 2 }; care = record { 0 = 1 }; vars = 0 ∷ []; nodes = 0 ∷ []; only_always = true }
+
+-- As they are cut both outputs have one tree, and so each function with the tree of A's has its literal.
+pub record OneTreeMeetsPremises : Type 0 where
+  pub kept : AreKept (opened not_cover) (opened off_cover) at_turn
+  pub left_is : IsEventFunction both_opened at_turn (Left 0) of_t
+  pub right_is : IsEventFunction both_opened at_turn (Right 0) of_t
+  pub same_tree : left_is.tree ≡ right_is.tree
+  pub one_literal : (p : Either ℕ ℕ) (r : SignalFunction) (k : IsEventFunction both_opened at_turn p r) → left_is.tree ≡ k.tree → 2 ≡ r.value.0
