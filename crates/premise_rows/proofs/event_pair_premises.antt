@@ -8,3 +8,4 @@ pub mod HeldCompared
 pub mod Turning
 pub mod Crossed
 pub mod Counted
+pub mod CrossedCompared

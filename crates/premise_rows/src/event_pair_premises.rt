@@ -3,6 +3,7 @@
 ghost use Rattle.premise_rows.specs.event_pair_premises.Comparable.{PairCanBeCompared};
 ghost use Rattle.premise_rows.specs.event_pair_premises.Counted.{FunctionsMeetPremises, PairIsCounted};
 ghost use Rattle.premise_rows.specs.event_pair_premises.Crossed.{CaredMeetPremises};
+ghost use Rattle.premise_rows.specs.event_pair_premises.CrossedCompared.{CrossedPairCanBeCompared};
 ghost use Rattle.premise_rows.specs.event_pair_premises.Differing.{DifferencesMeetPremises};
 ghost use Rattle.premise_rows.specs.event_pair_premises.Held.{EqualitiesMeetPremises};
 ghost use Rattle.premise_rows.specs.event_pair_premises.HeldCompared.{HeldPairCanBeCompared};
@@ -42,6 +43,11 @@ pub fn held_pair_can_be_compared()
 /// The output of the first of them beside the latch of the second: the frame with care in which they differ, and the answer that this shows nothing.
 pub fn cared_differences_meet_premises()
     ensures { CaredMeetPremises }
+{}
+
+/// These two as they are compared, and what is found of them.
+pub fn crossed_pair_can_be_compared()
+    ensures { CrossedPairCanBeCompared }
 {}
 
 /// A latch that turns over in each cycle, by other rows: with it cut open in both, the queries of the output and of what the latch takes over,

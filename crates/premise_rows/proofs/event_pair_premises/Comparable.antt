@@ -1,5 +1,5 @@
 -- What comparing the pair asks for is met, and what is found fits.
-use Rattle.std.proofs.Common.{◌≡◌, ℕ, ◌<◌, Bool, true, false, List, [], ◌∷◌, length, refl, sym, subst, arith, inl, inr}
+use Rattle.std.proofs.Common.{◌≡◌, ◌≢◌, ℕ, ◌<◌, Bool, true, false, List, [], ◌∷◌, length, refl, sym, subst, arith, inl, inr}
 use Rattle.std.specs.Prelude.{codes}
 use Rattle.std.proofs.lemmas.List.Elements.{All-from_recursion}
 use Rattle.std.proofs.lemmas.Option.{same_Some}
@@ -17,6 +17,7 @@ use Rattle.event_nodes.specs.View.{Enabled}
 use Rattle.event_nodes.specs.aig.Values.{value, lit_bit, node_bits, bits_from}
 use Rattle.pair_decide.specs.declared.query.Query.{Query}
 use Rattle.pair_decide.specs.Queries.{assigned_to}
+use Rattle.obligations.specs.declared.outcome.verdict.PairResult.{PairResult}
 use Rattle.obligations.specs.Decided.{IsFirstOf}
 use Rattle.event_setup.proofs.event_meaning.event_meaning_under.Bare.{bare_kept}
 use Rattle.event_form.specs.Asked.{IsPairOf}
@@ -32,8 +33,8 @@ use Rattle.event_form.proofs.event_findings.event_witness.Showing.{differences_s
 use Rattle.event_form.proofs.event_findings.unshown_pairs.class_events.Begin.{begins}
 use Rattle.event_form.proofs.event_findings.unshown_pairs.class_events.Telling.{separated_stay}
 use Rattle.premise_rows.specs.event_outcome_samples.Different.{shows_a, shows_b, a_events, b_events, y_pair, y_result}
-use Rattle.premise_rows.specs.event_pair_premises.Comparable.{at_first, y_compared, y_difference, CanBeCompared, PairCanBeCompared}
-use Rattle.premise_rows.specs.event_pair_premises.Differing.{two_inputs, at_root, with_and, a_and_b, a_alone, y_asked}
+use Rattle.premise_rows.specs.event_pair_premises.Comparable.{at_first, y_compared, y_cut, y_difference, CanBeCompared, PairCanBeCompared}
+use Rattle.premise_rows.specs.event_pair_premises.Differing.{two_inputs, at_root, with_and, a_and_b, a_alone, y_asked, y_not_shown}
 use Rattle.premise_rows.proofs.event_outcome_samples.Nets.{both_names, left_sound, right_sound}
 use Rattle.premise_rows.proofs.event_outcome_samples.Sides.{always, both, left_ready, made, names, no_both, numbers, right_ready, shallow}
 use Rattle.premise_rows.proofs.event_pair_premises.Differing.{root_kept, grows, kept, found, asked, meet_premises}
@@ -137,6 +138,30 @@ fits conflicts = record {
   };
 }
 
+not_different : answer.NotShown ≢ answer.Different
+not_different e = cc
+
+not_limit : answer.NotShown ≢ answer.Limit
+not_limit e = cc
+
+fits_cut : (conflicts : ℕ) → FindingsFit a_events b_events y_cut conflicts (record { pairs = y_not_shown ∷ []; verdict = verdict.Cut sequence })
+fits_cut conflicts = record {
+  pairs_fit = (meet_premises.fits_cut conflicts, tt);
+  verdict_is = (
+    All-from_recursion (λ (r : PairResult). r.answer ≢ answer.Different) (y_not_shown ∷ []) (not_different, tt),
+    All-from_recursion (λ (r : PairResult). r.answer ≢ answer.Limit) (y_not_shown ∷ []) (not_limit, tt),
+    record {
+      index = 0;
+      place = y_pair;
+      first = record { result = y_not_shown; pair_at = refl; result_at = refl; answered = refl; earlier = λ i r l. absurd (omega (arith, l)) };
+      cut = refl;
+      always = (always (Left 0), always (Right 1));
+      named = refl;
+      sequence = sequence_is;
+    },
+  );
+}
+
 pub can_be_compared : PairCanBeCompared
 can_be_compared = record {
   first = first;
@@ -149,4 +174,6 @@ can_be_compared = record {
   differs_later = differences_later both at_root with_and false (y_pair ∷ []) (y_asked true ∷ []) answer.Different (y_result ∷ []) y_difference root_kept grows (asked, tt) differs;
   makes_differ = makes_differ;
   found = (sequence, record { pair_is = refl; cycle_is = refl; left_is = refl; right_is = refl; names_are = refl; rows_are = refl }, fits);
+  first_cut = record { kept = first.kept; events = first.events; pairs = first.pairs; compared = record { depths_are = first.compared.depths_are; numbers = numbered; left_named = first.compared.left_named; right_named = first.compared.right_named; distinct = both_names }; within = first.within };
+  found_cut = (sequence, record { pair_is = refl; cycle_is = refl; left_is = refl; right_is = refl; names_are = refl; rows_are = refl }, fits_cut);
 }

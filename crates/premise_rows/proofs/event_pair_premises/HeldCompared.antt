@@ -39,10 +39,10 @@ root_variable i = record { input = i; at = [] }
 abbrev two : List (Variable (List ℕ))
 two = root_variable 0 ∷ root_variable 1 ∷ []
 
-events : IsEvents with_classes
+pub events : IsEvents with_classes
 events = record { classes = classes; number = refl; depths = depths; left_depths = left_depths; right_depths = right_depths }
 
-left_named : HasInputsBelow (circuit_of loads_a.net) loads_a.order 2 4
+pub left_named : HasInputsBelow (circuit_of loads_a.net) loads_a.order 2 4
 left_named q k i visits h = left_below q i h
 
 right_named : HasInputsBelow (circuit_of loads_not_a.net) loads_not_a.order 2 4
@@ -57,7 +57,7 @@ compared = record {
   distinct = distinct-push (codes "e" ∷ []) (codes "a") (one_name (codes "e")) refl;
 }
 
-within : IsWithinLimits with_classes
+pub within : IsWithinLimits with_classes
 within = record { left = record { sum = refl; small = omega arith; few = omega arith }; right = record { sum = refl; small = omega arith; few = omega arith }; nodes = omega arith }
 
 first : CanBeCompared with_classes held_compared
@@ -108,7 +108,7 @@ from_always = record {
   off = hold_enable both_held joined_same single number_once (codes "q") (Left 2) (Left 3) left_latch left_q (frame_of two (false ∷ false ∷ [])) [];
 }
 
-separated : IsToldApart with_classes
+pub separated : IsToldApart with_classes
 separated = record {
   few = omega arith;
   names = λ k d h. let z : k ≡ 0 = omega (arith, h) in rw z (record { high = omega arith; low = λ t e. absurd (none-some t e) });

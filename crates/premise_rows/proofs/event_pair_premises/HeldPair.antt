@@ -213,7 +213,7 @@ left_circuit = circuit_of loads_a.net
 abbrev pub right_circuit : Circuit ℕ
 right_circuit = circuit_of loads_not_a.net
 
-abbrev whole : Circuit (Either ℕ ℕ)
+abbrev pub whole : Circuit (Either ℕ ℕ)
 whole = joined left_circuit right_circuit
 
 pub left_net : IsNet left_circuit 5
@@ -302,7 +302,7 @@ abbrev pub classes : HasClasses both_held
 classes = record { numbered = refl; order = order; is_order = latch_order; is_map = class_map }
 
 -- either output reaches its latch at the root, and so one child, by class 1
-abbrev PairLatches : ℕ → Either ℕ ℕ → Type 0
+abbrev pub PairLatches : ℕ → Either ℕ ℕ → Type 0
 PairLatches q v = ConeLatches whole (Left 4) v ⊎ ConeLatches whole (Right q) v
 
 left_cone : ConeLatches whole (Left 4) (Left 2)
@@ -359,3 +359,14 @@ left_below q i h = (held.own_number load_cover same_cover load_sound same_sound 
 
 pub right_below : (q i : ℕ) → IsInputNumber right_circuit loads_not_a.order q i → i < 2
 right_below q i h = (held.own_number load_not_cover not_cover load_not_sound not_sound refl refl holds_not loads_not q i h).1
+
+pub right_latch_depth : IsDepth right_circuit (Enabled loads_not_a) 2 1
+right_latch_depth = held.latch_depth load_not_cover not_cover load_not_sound not_sound refl refl holds_not loads_not
+
+-- the paths of the pair's event nodes have class 1 alone
+pub one_class : (q : ℕ) (node : List ℕ) → IsNode both_held (IsEnabled whole) (PairLatches q) node → (class : ℕ) → Contains node class → 1 ≡ class
+one_class q [] h class among = absurd (omega (arith, among.1))
+one_class q (k ∷ node) h class among =
+    let at = at_root both_held joined_same single number_once all_hold (PairLatches q) node h.0 h.1 in
+    let first : 1 ≡ k = sym (class_one q h.0 at.1) ∙ h.2 in
+    first ∙ only k class (subst (λ (path : List ℕ). Contains (k ∷ path) class) at.0 among)

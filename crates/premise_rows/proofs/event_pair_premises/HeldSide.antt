@@ -175,6 +175,9 @@ module _ (load out : Cover) (load_sound : IsCoverSound load) (out_sound : IsCove
       greatest n (inl h) = omega (arith, h)
       greatest n (inr h) = chain_is n h.0 h.2
 
+  pub latch_depth : IsDepth c (Enabled e) 2 1
+  latch_depth = depth_one s same_or_not single once all_hold (codes "q") 2 3 latch
+
   -- what is visited
   reading : {p q : ℕ} → Reads c p q → ReadsSo p q
   reading (Reads.by_gate {out = o} {q = q} {fanins = fanins} {cover = cover} h k) = each_at ReadsOf c.equations (first, (second, (tt, tt))) (Gate o fanins cover) h q k

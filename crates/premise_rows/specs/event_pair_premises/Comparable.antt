@@ -20,7 +20,7 @@ use Rattle.event_form.specs.event_findings.Findings.{FindingsFit}
 use Rattle.event_form.specs.event_findings.event_witness.Shown.{IsShowable}
 use Rattle.event_form.specs.event_findings.unshown_pairs.class_events.Separated.{AreSeparated}
 use Rattle.premise_rows.specs.event_outcome_samples.Different.{shows_a, shows_b, a_events, b_events, y_pair, y_result}
-use Rattle.premise_rows.specs.event_pair_premises.Differing.{two_inputs, at_root, with_and, a_alone, y_asked}
+use Rattle.premise_rows.specs.event_pair_premises.Differing.{two_inputs, at_root, with_and, a_alone, y_asked, y_not_shown}
 
 -- what comparing pairs asks for, but for what tells classes apart, and what both circuits and the event graph keep
 pub record CanBeCompared (e : EventsView) (c : EventPairs) : Type 0 where
@@ -50,6 +50,10 @@ y_compared = record {
   cut = false;
 }
 
+-- the same as where latches are cut open
+abbrev pub y_cut : EventPairs
+y_cut = record y_compared { cut = true }
+
 abbrev pub y_difference : Difference
 y_difference = record { pair = 0; query = 0; bits = a_alone }
 
@@ -64,7 +68,7 @@ pub record HasAAlone (w : Witness) : Type 0 where
 
 -- The pair can be compared. What was counted is what no start visits, and what tells classes apart, which is nothing, does so in a later graph.
 -- The pair is the first that is different; so it can be shown, is so in a later graph, and the sequence makes it differ in all runs. With such a
--- sequence what is found fits the circuits.
+-- sequence what is found fits the circuits: the pair is different or, as where latches are cut open, isn't shown.
 pub record PairCanBeCompared : Type 0 where
   pub first : CanBeCompared at_first y_compared
   pub separated : AreSeparated at_first []
@@ -76,3 +80,5 @@ pub record PairCanBeCompared : Type 0 where
   pub differs_later : IsFirstOf with_and.graph (y_asked true ∷ []) answer.Different (y_result ∷ []) y_difference
   pub makes_differ : MakesDiffer (circuit_of shows_a) (circuit_of shows_b) a_events.order b_events.order 0 1 ((true ∷ false ∷ []) ∷ []) 0 true false
   pub found : (w : Witness) × HasAAlone w × ((conflicts : ℕ) → FindingsFit a_events b_events y_compared conflicts (record { pairs = y_result ∷ []; verdict = verdict.Different w }))
+  pub first_cut : CanBeCompared at_first y_cut
+  pub found_cut : (w : Witness) × HasAAlone w × ((conflicts : ℕ) → FindingsFit a_events b_events y_cut conflicts (record { pairs = y_not_shown ∷ []; verdict = verdict.Cut w }))
