@@ -1,0 +1,5 @@
+use Rattle.premise_rows.proofs.event_pair_premises.HeldCompared.{can_be_compared}
+use Rattle.premise_rows.proofs.event_pair_premises.held_pair_can_be_compared.Goals as goal
+
+pub returns : goal.returns
+returns c = can_be_compared
