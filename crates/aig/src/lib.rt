@@ -15,5 +15,5 @@ mod values;
 pub use cone_graph::{Cones, Nodes, cones_of};
 pub use graph::Aig;
 pub use node::{Lit, Lits, Node};
-pub use sec_base::{Bits, Ids, MAX_CONFLICTS, NoMemory, Seq, Side};
+pub use sec_base::{Bits, Ids, MAX_CONFLICTS, MAX_TABLE_VARIABLES, NoMemory, Seq, Side};
 pub use values::node_bits;

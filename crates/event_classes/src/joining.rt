@@ -20,11 +20,8 @@ use crate::map::ClassMap;
 use crate::places::take_latch;
 use class_search::class_fits::{Class, Difference, Enable, Fit, Told, Unfit, first_fit};
 use class_search::class_separations::keep_apart;
-use sec_base::{MAX_CONFLICTS, NoMemory, Tag};
+use sec_base::{MAX_CONFLICTS, MAX_EVENT_CLASSES, NoMemory, Tag};
 use std::alloc::Global;
-
-/// The most classes besides `always`.
-const CLASSES: usize = 500;
 
 /// The next latch is given its class.
 pub(crate) fn join_next(
@@ -210,7 +207,7 @@ fn found_class(
     ensures large { (side : Side) → result ≡ Err (event_error.TooLarge side) → ⊥ }
     ensures limit { (latch : Tag) (other : Option Tag) (proof : Proof) → result ≡ Err (event_error.Limit latch other proof) → ⊥ }
 {
-    if map.classes.len() >= CLASSES {
+    if map.classes.len() >= MAX_EVENT_CLASSES {
         return Err(EventError::TooManyEvents);
     }
     of_memory(put_founded(alloc, map, tag, enable, always, told))

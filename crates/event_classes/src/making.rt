@@ -18,11 +18,8 @@ use crate::joining::join_next;
 use crate::map::ClassMap;
 use class_search::class_fits::{EnableTable, latches_in_order};
 use event_nodes::{Counter, EventCircuit, EventGraph};
-use sec_base::{MAX_CONFLICTS, NoMemory, Tag};
+use sec_base::{MAX_CONFLICTS, MAX_ENABLED_LATCHES, NoMemory, Tag};
 use std::alloc::Global;
-
-/// The most enabled latches of both circuits together.
-const LATCHES: usize = 30_000;
 
 /// The class map of two circuits whose latches are all of class 0 so far. The enabled latches are taken in their order, by depth, then
 /// those of the first circuit before those of the second, then by position; each joins the first class all of whose members agree with
@@ -47,7 +44,7 @@ pub fn make_classes(
     left.keeps();
     right.keeps();
     let tags = latches_in_order(alloc, &left, &right)?;
-    if tags.len() > LATCHES {
+    if tags.len() > MAX_ENABLED_LATCHES {
         return Err(EventError::TooManyEvents);
     }
     make_over(alloc, left, right, tags.as_slice(), conflicts)

@@ -9,11 +9,9 @@ ghost use Rattle.event_nodes.specs.Visited.{IsWeighed, places_weight};
 
 use crate::error::EventUnfoldError;
 use flat_net::{Net, PlaceTable, Signal, weigh};
+use sec_base::MAX_WEIGHT;
 use std::alloc::Global;
 use std::marker::Model;
-
-/// The most that the unfoldings of one circuit weigh together.
-const LIMIT: u32 = 2_000_000;
 
 /// The places that the unfoldings of one circuit have visited, each an event node and a signal, and what they weigh together. Each
 /// place counts once.
@@ -81,7 +79,7 @@ impl Counter {
         if after == before {
             return Ok(());
         }
-        let Some(more) = weigh(net, s, LIMIT - self.weight) else {
+        let Some(more) = weigh(net, s, MAX_WEIGHT - self.weight) else {
             return Err(EventUnfoldError::TooLarge);
         };
         self.weight += more;

@@ -20,3 +20,4 @@ pub use flat_net::{
     latch_of, weigh,
 };
 pub use net_parts::{Place, add, add_fanins};
+pub use sec_base::MAX_EVENT_NODES;

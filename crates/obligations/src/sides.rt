@@ -6,11 +6,9 @@ ghost use Rattle.obligations.specs.Asked.{AreAsked, AreKnown, MaySweep, queries_
 
 use crate::obligation::Obligation;
 use crate::outcome::{Aig, NoMemory, Query};
+use aig::MAX_TABLE_VARIABLES;
 use std::alloc::Global;
 use swept_queries::{Sides, SweptQueries, sweep_queries};
-
-/// The most variables of a query that needs no search.
-const NARROW: usize = 16;
 
 /// Sweeps the graph for the queries that may need a search.
 pub(crate) fn sweep_asked(
@@ -52,7 +50,7 @@ fn put_sides(sides: &mut Vec<Option<Sides>>, queries: &[Query]) -> Result<(), No
 fn sides_of(query: &Query) -> Option<Sides>
     ensures { MaySweep query.now result }
 {
-    if query.vars.len() <= NARROW {
+    if query.vars.len() <= MAX_TABLE_VARIABLES {
         return None;
     }
     Some(Sides {

@@ -8,11 +8,9 @@ use crate::cnf_encode::{MAX_CONFLICTS, NoMemory};
 use crate::query::{Decision, Query, SameBy};
 use crate::search::decide_by_search;
 use crate::table::decide_by_table;
+use aig::MAX_TABLE_VARIABLES;
 use aig::lane_eval::{Aig, Lit};
 use std::alloc::Global;
-
-/// The most variables of a query that is decided by trying all assignments.
-const NARROW: usize = 16;
 
 /// Decides the query. It is `Same(Literal)` where both sides are one literal or the care is the literal 0. Otherwise all
 /// assignments of at most 16 variables are tried; above that the search may log at most so many chains.
@@ -25,7 +23,7 @@ pub fn decide(alloc: Global, aig: &Aig, query: &Query, conflicts: u32) -> Result
         aig.keeps();
         return Ok(Decision::Same(SameBy::Literal));
     }
-    if query.vars.len() <= NARROW {
+    if query.vars.len() <= MAX_TABLE_VARIABLES {
         return decide_by_table(alloc, aig, query);
     }
     decide_by_search(alloc, aig, query, conflicts)

@@ -27,8 +27,8 @@ pub const DEFAULT_CONFLICTS: u32 = 20_000;
 /// The most variables of a query that is decided by trying all assignments.
 pub const MAX_TABLE_VARIABLES: usize = 16;
 
-/// The most event nodes that one comparison reaches.
-pub const MAX_EVENT_NODES: usize = 10_000;
+/// The most event nodes that one comparison reaches, the root among them.
+pub const MAX_EVENT_NODES: u32 = 10_000;
 
 /// The most event classes that one comparison founds, besides the class `always`.
 pub const MAX_EVENT_CLASSES: usize = 500;

@@ -19,10 +19,8 @@ use crate::sweep::{
 };
 use crate::targets::{is_any_left, lits_of};
 use crate::words::{bits_at, seeded_words};
+use aig::MAX_TABLE_VARIABLES;
 use std::alloc::Global;
-
-/// The most variables of a query for which the least difference is wanted.
-const NARROW: usize = 16;
 
 /// A swept graph, and what is known of the queries at their places. The words have the variables' bits under the assignments that
 /// tell queries apart.
@@ -243,7 +241,7 @@ impl SweptQueries {
     {
         aig.keeps();
         let vars = query.vars.as_slice();
-        if vars.len() <= NARROW {
+        if vars.len() <= MAX_TABLE_VARIABLES {
             return decide_itself(alloc, aig, query, conflicts);
         }
         let bits = bits_at(alloc, self.words.as_slice(), vars, lane)?;

@@ -6,6 +6,6 @@ mod narrow;
 mod partition;
 
 pub use crate::lane_eval::{SignatureTable, signatures, table_differs};
-pub use crate::{Aig, Bits, Ids, Lit, MAX_CONFLICTS, NoMemory, Node};
+pub use crate::{Aig, Bits, Ids, Lit, MAX_CONFLICTS, MAX_TABLE_VARIABLES, NoMemory, Node};
 pub use inputs::variables;
 pub use leads::leads_of;

@@ -113,6 +113,7 @@ impl Drop for Named {
 }
 
 impl Named {
+    /// No symbols yet.
     pub fn new(alloc: Global) -> Named
         ensures { result ≡ record { keys = []; names = [] } }
     {

@@ -4,13 +4,12 @@ ghost use Rattle.std.specs.Prelude.{◌≡◌, ◌^◌, ◌<◌, None, length, o
 ghost use Rattle.circuit_report.specs.sim_report.Checks.{first_misfit};
 ghost use Rattle.circuit_report.specs.graph_report.Jobs.{Simulates, Runs};
 
-use crate::graph_report::graphs::CONFLICTS;
 use crate::sim_report::{Misfit, misfit_of, sim_report};
 use circuit_theory::Mode;
 use flat_net::Net;
 use latch_kinds::{KindsError, kinds_in};
 use pair_decide::Proof;
-use sec_base::{NoMemory, Text, Word};
+use sec_base::{DEFAULT_CONFLICTS, NoMemory, Text, Word};
 use signal_graph::inner_cone::latch_cone::enabled_among;
 use std::alloc::Global;
 use witness_report::Stimulus;
@@ -86,7 +85,7 @@ fn run(
     requires fits { first_misfit net.now stimulus.now.names (option_map (λ word. word.now) power) ≡ None }
     ensures { Runs mode net.now stimulus.now.names stimulus.now.rows (option_map (λ word. word.now) power.entry) reset result }
 {
-    let kinds = kinds_in(alloc, net, mode, CONFLICTS)?;
+    let kinds = kinds_in(alloc, net, mode, DEFAULT_CONFLICTS)?;
     let enabled = enabled_among(alloc, kinds.as_slice())?;
     Ok(sim_report(alloc, net, stimulus, power, reset, &enabled)?)
 }

@@ -9,13 +9,8 @@ ghost use Rattle.event_classes.specs.event_functions.Refused.{HasFewNodes, IsOve
 
 use crate::event_functions::event_reach::reached_latches;
 use event_nodes::event_variables::{Counter, EventCircuit, EventGraph, EventUnfoldError, Signal};
+use sec_base::{MAX_EVENT_NODES, MAX_WEIGHT};
 use std::alloc::Global;
-
-/// The most event nodes that are reached, the root among them.
-pub const NODES: u32 = 10_000;
-
-/// The most latches at event nodes that are looked at.
-pub const PLACES: u32 = 2_000_000;
 
 /// Why the signal is refused, where its walk ended with this error: for more than 10,000 event nodes also where it weighs too much, and for
 /// memory where these can't be told within 2,000,000 latches at event nodes.
@@ -58,10 +53,10 @@ fn signal_nodes(
     ensures made { AreNodesFrom circuit.now events.new.children (signal_start s.0) (length events.old.children) }
     ensures grows { GrowsEvents events.old events.new }
 {
-    if events.nodes() >= NODES {
+    if events.nodes() >= MAX_EVENT_NODES {
         return EventUnfoldError::TooManyEvents;
     }
-    let told = reached_latches(alloc, circuit, events, s, PLACES).is_ok();
+    let told = reached_latches(alloc, circuit, events, s, MAX_WEIGHT).is_ok();
     refusal(events.nodes(), told)
 }
 
@@ -70,7 +65,7 @@ pub fn refusal(nodes: u32, told: bool) -> EventUnfoldError
     ensures many { result ≡ unfold_error.TooManyEvents → 10000 ≤ nodes }
     ensures large { result ≡ unfold_error.TooLarge → (nodes < 10000) × (told ≡ true) }
 {
-    if nodes >= NODES {
+    if nodes >= MAX_EVENT_NODES {
         return EventUnfoldError::TooManyEvents;
     }
     if told {

@@ -10,14 +10,11 @@ use crate::replay::{Differences, replay};
 use circuit_theory::Mode;
 use flat_net::Net;
 use latch_kinds::{KindsError, kinds_in};
-use sec_base::{Bits, Side};
+use sec_base::{Bits, DEFAULT_CONFLICTS, Side};
 use sec_setup::{SetupError, shared_names};
 use signal_graph::inner_cone::latch_cone::enabled_among;
 use std::alloc::Global;
 use witness_report::Stimulus;
-
-/// So many conflicts are allowed where it is found out whether a latch has a load enable.
-const CONFLICTS: u32 = 20000;
 
 /// Refuses circuits whose interfaces don't match.
 fn match_interfaces(alloc: Global, a: &Net, b: &Net) -> Result<(), ReplayFault>
@@ -38,7 +35,7 @@ fn match_interfaces(alloc: Global, a: &Net, b: &Net) -> Result<(), ReplayFault>
 fn enabled_in(alloc: Global, net: &Net, side: Side, mode: Mode) -> Result<Bits, ReplayFault>
     ensures { KnowsEnabled mode side net.now result }
 {
-    match kinds_in(alloc, net, mode, CONFLICTS) {
+    match kinds_in(alloc, net, mode, DEFAULT_CONFLICTS) {
         Ok(kinds) => Ok(enabled_among(alloc, kinds.as_slice())?),
         Err(KindsError::TooLarge) => Err(ReplayFault::TooLarge(side)),
         Err(KindsError::Limit(name, proof)) => Err(ReplayFault::Limit(side, name, proof)),

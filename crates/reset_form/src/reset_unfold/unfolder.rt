@@ -156,7 +156,7 @@ impl<'a> ResetUnfolder<'a> {
 
     /// The cone's signal in the next cycle, as `unfold_at` gives it. Beside the variables this costs a walk over the places that
     /// weren't met before.
-    pub fn unfold_next(
+    pub(crate) fn unfold_next(
         &mut self,
         alloc: Global,
         aig: &mut Aig,

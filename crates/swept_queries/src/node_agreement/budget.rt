@@ -29,6 +29,7 @@ pub struct Budget {
 }
 
 impl Budget {
+    /// What so much effort leaves before the first search: a twentieth of its conflicts for each search, and all of them for those that fail.
     pub fn new(effort: Effort) -> Budget {
         let each = effort.conflicts / 20;
         Budget {

@@ -5,12 +5,11 @@ ghost use Rattle.aig.specs.lane_eval.root_classes.Inputs.{inputs_of};
 ghost use Rattle.swept_queries.specs.node_agreement.Answers.{IsAnswer, IsOutcome};
 
 use crate::node_agreement::table::{ask_table, is_light};
-use aig::lane_eval::root_classes::{Aig, Bits, Ids, Lit, NoMemory, variables};
+use aig::lane_eval::root_classes::{
+    Aig, Bits, Ids, Lit, MAX_TABLE_VARIABLES, NoMemory, variables,
+};
 use pair_decide::{Decision, Query, SameBy, decide};
 use std::alloc::Global;
-
-/// The most variables of a query that needs no search.
-const NARROW: usize = 16;
 
 /// The most conflicts of a search that a table may follow.
 const SHORT: u32 = 100;
@@ -77,7 +76,7 @@ fn ask_search(
     ensures { IfOk result (IsAnswer graph.now left.0 right.0) }
 {
     graph.keeps();
-    if vars.len() > NARROW && conflicts == 0 {
+    if vars.len() > MAX_TABLE_VARIABLES && conflicts == 0 {
         return Ok(Tried::Open);
     }
     let query = Query {

@@ -7,18 +7,17 @@ ghost use Rattle.aig.specs.lane_eval.root_classes.Inputs.{inputs_of};
 ghost use Rattle.swept_queries.specs.node_agreement.Answers.{IsAnswer, IsFound};
 
 use crate::node_agreement::question::{Cost, Tried};
-use aig::lane_eval::root_classes::{Aig, Bits, Ids, Lit, NoMemory, table_differs, variables};
+use aig::lane_eval::root_classes::{
+    Aig, Bits, Ids, Lit, MAX_TABLE_VARIABLES, NoMemory, table_differs, variables,
+};
 use std::alloc::Global;
-
-/// The most variables of a query that needs no search.
-const NARROW: usize = 16;
 
 /// The most variables of a table.
 const WIDE: usize = 24;
 
 /// Whether a table over so many nodes and variables, too many for a query without a search, takes no longer than so many conflicts, roughly.
 pub(crate) fn is_light(nodes: u32, vars: usize, conflicts: u32) -> bool {
-    NARROW < vars && vars <= WIDE && table_worth(nodes, vars) <= conflicts
+    MAX_TABLE_VARIABLES < vars && vars <= WIDE && table_worth(nodes, vars) <= conflicts
 }
 
 /// How many conflicts take the time of a table over so many nodes and variables, roughly.

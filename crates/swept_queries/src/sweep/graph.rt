@@ -7,11 +7,8 @@ ghost use Rattle.swept_queries.specs.sweep.Swept.{IsSwept, AreLiteralsFor};
 
 use crate::node_agreement::{Effort, leads_of, variables};
 use crate::sweep::growth::{Growth, Role, grown, literal_for};
-use aig::{Aig, Lit, Lits, NoMemory};
+use aig::{Aig, Lit, Lits, MAX_TABLE_VARIABLES, NoMemory};
 use std::alloc::Global;
-
-/// The most variables of a graph in which no nodes are tried.
-const NARROW: usize = 16;
 
 /// A new graph, and a literal in it for each root.
 #[derive(Drop)]
@@ -82,7 +79,7 @@ fn roles_of(
     requires kept { All (λ l. l.0 < 2 * length aig.now) kept.now }
 {
     let mut roles = vec![in alloc; Role::Outside; aig.size() as usize]?;
-    if variables(alloc, aig)?.len() <= NARROW {
+    if variables(alloc, aig)?.len() <= MAX_TABLE_VARIABLES {
         return Ok(roles);
     }
     mark(alloc, aig, tried, Role::Tried, roles.as_mut_slice())?;

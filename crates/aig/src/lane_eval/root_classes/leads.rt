@@ -5,11 +5,8 @@ ghost use Rattle.aig.specs.lane_eval.root_classes.Leads.{AreLeads};
 
 use crate::lane_eval::root_classes::inputs::variables;
 use crate::lane_eval::root_classes::narrow::narrow_leads;
-use crate::{Aig, Lit, NoMemory};
+use crate::{Aig, Lit, MAX_TABLE_VARIABLES, NoMemory};
 use std::alloc::Global;
-
-/// The most variables of a graph whose roots are compared under all assignments.
-const NARROW: usize = 16;
 
 /// For each root a literal that agrees with it: the root itself, or where the graph has inputs for at most 16 variables the first root
 /// that agrees.
@@ -18,7 +15,7 @@ pub fn leads_of(alloc: Global, aig: &Aig, roots: &[Lit]) -> Result<Vec<Lit>, NoM
     ensures { IfOk result (λ leads. AreLeads aig.now roots.now leads.items) }
 {
     let vars = variables(alloc, aig)?;
-    if vars.len() <= NARROW {
+    if vars.len() <= MAX_TABLE_VARIABLES {
         return narrow_leads(alloc, aig, vars.as_slice(), roots);
     }
     let leads = Vec::from_slice(alloc, roots)?;

@@ -18,14 +18,11 @@ use crate::event_literals::event_walk::entering::enter_latch;
 use crate::event_literals::event_walk::frames::{Frame, Frames, Step, Ways, constant};
 use base_tables::UniqueTable;
 use event_nodes::{
-    Counter, Driver, EventCircuit, EventGraph, EventUnfoldError, NoMemory, Place, PlaceTable,
-    Signal, add, add_fanins, gate_of, weigh,
+    Counter, Driver, EventCircuit, EventGraph, EventUnfoldError, MAX_EVENT_NODES, NoMemory, Place,
+    PlaceTable, Signal, add, add_fanins, gate_of, weigh,
 };
 use std::alloc::Global;
 use std::marker::Model;
-
-/// The most event nodes that are reached, the root among them.
-const NODES: u32 = 10_000;
 
 /// Walks over the places that unfoldings of one circuit visit. A contract sees the circuit and the frames that were met.
 #[derive(Drop)]
@@ -225,7 +222,7 @@ impl<'a> EventWalker<'a> {
         let child = events.child(frame.node, circuit.class(j))?;
         events.keeps();
         let nodes = events.nodes();
-        if nodes >= NODES {
+        if nodes >= MAX_EVENT_NODES {
             return Err(EventUnfoldError::TooManyEvents);
         }
         let ways = enter_latch(&mut self.frames, table, circuit, j, child)?;

@@ -15,7 +15,7 @@ put_founded-requires c = record {
   absent = c.requires.absent;
   fits = c.requires.fits;
   told = c.requires.told;
-  few = omega (arith, c.if-len-ge-CLASSES.false, c.len.ensures);
+  few = omega (arith, c.if-len-ge-MAX_EVENT_CLASSES.false, c.len.ensures);
 }
 
 pub returns-clause-goes_on : goal.returns-clause-goes_on
@@ -30,11 +30,11 @@ returns-clause-large c = c.of_memory.ensures.large
 pub returns-clause-limit : goal.returns-clause-limit
 returns-clause-limit c = c.of_memory.ensures.limit
 
-pub returns-then-len-ge-CLASSES-clause-many : goal.returns-then-len-ge-CLASSES-clause-many
-returns-then-len-ge-CLASSES-clause-many c = λ is. class_over c.args.map.now c.args.tag (omega (arith, c.if-len-ge-CLASSES.true, c.len.ensures)) c.requires.fits
+pub returns-then-len-ge-MAX_EVENT_CLASSES-clause-many : goal.returns-then-len-ge-MAX_EVENT_CLASSES-clause-many
+returns-then-len-ge-MAX_EVENT_CLASSES-clause-many c = λ is. class_over c.args.map.now c.args.tag (omega (arith, c.if-len-ge-MAX_EVENT_CLASSES.true, c.len.ensures)) c.requires.fits
 
-pub returns-then-len-ge-CLASSES-clause-large : goal.returns-then-len-ge-CLASSES-clause-large
-returns-then-len-ge-CLASSES-clause-large c = λ side is. many_no_large (error_is is)
+pub returns-then-len-ge-MAX_EVENT_CLASSES-clause-large : goal.returns-then-len-ge-MAX_EVENT_CLASSES-clause-large
+returns-then-len-ge-MAX_EVENT_CLASSES-clause-large c = λ side is. many_no_large (error_is is)
 
-pub returns-then-len-ge-CLASSES-clause-limit : goal.returns-then-len-ge-CLASSES-clause-limit
-returns-then-len-ge-CLASSES-clause-limit c = λ latch other proof is. many_no_limit (error_is is)
+pub returns-then-len-ge-MAX_EVENT_CLASSES-clause-limit : goal.returns-then-len-ge-MAX_EVENT_CLASSES-clause-limit
+returns-then-len-ge-MAX_EVENT_CLASSES-clause-limit c = λ latch other proof is. many_no_limit (error_is is)

@@ -9,8 +9,9 @@ ghost use Rattle.edbf_unfold.specs.event_literals.event_walk.Walk.{enable_start}
 ghost use Rattle.event_classes.specs.event_functions.Refused.{HasFewNodes, IsOverweight};
 
 use crate::event_functions::event_reach::reached_others;
-use crate::event_functions::refusal::{NODES, PLACES, refusal};
+use crate::event_functions::refusal::refusal;
 use event_nodes::event_variables::{Counter, EventCircuit, EventGraph, EventUnfoldError};
+use sec_base::{MAX_EVENT_NODES, MAX_WEIGHT};
 use std::alloc::Global;
 
 /// Why the enable of the latch with this position is refused, where its walk ended with this error: for more than 10,000 event nodes also where it
@@ -54,9 +55,9 @@ fn enable_nodes(
     ensures made { (l : LatchAt) → slice_get circuit.now.net.latches j ≡ Some l → AreNodesFrom circuit.now events.new.children (enable_start l) (length events.old.children) }
     ensures grows { GrowsEvents events.old events.new }
 {
-    if events.nodes() >= NODES {
+    if events.nodes() >= MAX_EVENT_NODES {
         return EventUnfoldError::TooManyEvents;
     }
-    let told = reached_others(alloc, circuit, events, j, PLACES).is_ok();
+    let told = reached_others(alloc, circuit, events, j, MAX_WEIGHT).is_ok();
     refusal(events.nodes(), told)
 }

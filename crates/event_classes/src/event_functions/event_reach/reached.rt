@@ -18,11 +18,9 @@ use base_tables::UniqueTable;
 use event_nodes::{
     Driver, EventCircuit, EventGraph, EventUnfoldError, Net, Place, PlaceTable, Signal, add,
 };
+use sec_base::MAX_EVENT_NODES;
 use signal_graph::inner_cone::latch_cone::{other_latches, reached};
 use std::alloc::Global;
-
-/// The most event nodes that are reached, the root among them.
-const NODES: u32 = 10_000;
 
 /// Puts the latch at the node into the table. `TooLarge` comes where that then holds more than the cap.
 fn put(table: &mut PlaceTable, node: u32, latch: u32, cap: u32) -> Result<(), EventUnfoldError>
@@ -143,7 +141,7 @@ fn pass_on_all(
     let mut at = 0;
     while at < table.len() {
         let nodes = events.nodes();
-        if nodes >= NODES {
+        if nodes >= MAX_EVENT_NODES {
             return Err(EventUnfoldError::TooManyEvents);
         }
         events.keeps();

@@ -13,7 +13,7 @@ returns c =
     let words = c.args.self.now.words.items in
     let bits : c.in_ok-bits.bits ≡ lane_bits words q.vars c.args.lane =
     c.in_ok-bits.ensures ∙ (ap (λ (ws : List ℕ). lane_bits ws c.as_slice-vars.result.now c.args.lane) c.as_slice.ensures.value ∙ ap (λ (vs : List ℕ). lane_bits words vs c.args.lane) c.as_slice-vars.ensures) in
-    let many : 16 < length q.vars = omega (arith, c.if-vars-le-NARROW.false, ap length c.as_slice-vars.ensures) in
+    let many : 16 < length q.vars = omega (arith, c.if-vars-le-MAX_TABLE_VARIABLES.false, ap length c.as_slice-vars.ensures) in
     record {
       graph = g;
       asked = q;

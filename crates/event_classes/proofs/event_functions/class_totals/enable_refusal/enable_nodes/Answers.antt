@@ -14,11 +14,11 @@ returns-clause-large c = λ is l at.
     let k = c.refusal.ensures.large is in
     record { few = omega (arith, k.0, c.nodes-2.ensures); all = from_ok c.reached_others.result (sym c.is_ok-told.ensures.value ∙ k.1) c.reached_others.ensures.nodes l at }
 
-pub returns-then-nodes-ge-NODES-clause-made : goal.returns-then-nodes-ge-NODES-clause-made
-returns-then-nodes-ge-NODES-clause-made c = λ l at. no_nodes c.args.circuit.now c.args.events.now.children (enable_start l)
+pub returns-then-nodes-ge-MAX_EVENT_NODES-clause-made : goal.returns-then-nodes-ge-MAX_EVENT_NODES-clause-made
+returns-then-nodes-ge-MAX_EVENT_NODES-clause-made c = λ l at. no_nodes c.args.circuit.now c.args.events.now.children (enable_start l)
 
-pub returns-then-nodes-ge-NODES-clause-grows : goal.returns-then-nodes-ge-NODES-clause-grows
-returns-then-nodes-ge-NODES-clause-grows c = grows_refl c.args.events.now
+pub returns-then-nodes-ge-MAX_EVENT_NODES-clause-grows : goal.returns-then-nodes-ge-MAX_EVENT_NODES-clause-grows
+returns-then-nodes-ge-MAX_EVENT_NODES-clause-grows c = grows_refl c.args.events.now
 
-pub returns-then-nodes-ge-NODES-clause-large : goal.returns-then-nodes-ge-NODES-clause-large
-returns-then-nodes-ge-NODES-clause-large c = λ is. many_or_large is
+pub returns-then-nodes-ge-MAX_EVENT_NODES-clause-large : goal.returns-then-nodes-ge-MAX_EVENT_NODES-clause-large
+returns-then-nodes-ge-MAX_EVENT_NODES-clause-large c = λ is. many_or_large is

@@ -87,5 +87,5 @@ returns-clause-children c =
     All-from_each (HasChild c.args.circuit.now c.loop-at.events.children) c.loop-at.table
     (λ p h. let i = at_of c.loop-at.table p h in c.loop-at.invariant.children i.0 p (let inside = slice_get_within c.loop-at.table i.0 p i.1 in omega (arith, inside, c.loop-at-test.false, c.len.ensures)) i.1)
 
-pub returns-then-nodes-ge-NODES-clause-small : goal.returns-then-nodes-ge-NODES-clause-small
-returns-then-nodes-ge-NODES-clause-small c = omega (arith, c.loop-at.invariant.inside, c.loop-at.invariant.few, c.loop-at.invariant.small)
+pub returns-then-nodes-ge-MAX_EVENT_NODES-clause-small : goal.returns-then-nodes-ge-MAX_EVENT_NODES-clause-small
+returns-then-nodes-ge-MAX_EVENT_NODES-clause-small c = omega (arith, c.loop-at.invariant.inside, c.loop-at.invariant.few, c.loop-at.invariant.small)

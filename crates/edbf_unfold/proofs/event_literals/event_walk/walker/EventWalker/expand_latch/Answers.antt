@@ -41,8 +41,8 @@ enter_latch-requires-clause-latch c =
 pub returns-in_err-child-clause-step : goal.returns-in_err-child-clause-step
 returns-in_err-child-clause-step c = step_same c.args.self.now c.args.events.now c.child.new.self c.args.place c.args.table.now c.in_err-child.ensures.err
 
-pub returns-then-nodes-ge-NODES-clause-step : goal.returns-then-nodes-ge-NODES-clause-step
-returns-then-nodes-ge-NODES-clause-step c =
+pub returns-then-nodes-ge-MAX_EVENT_NODES-clause-step : goal.returns-then-nodes-ge-MAX_EVENT_NODES-clause-step
+returns-then-nodes-ge-MAX_EVENT_NODES-clause-step c =
     let u = c.args.self.now in
     let free : NotPut (put_of c.frame-frame.result.put) c.args.place.1 = search rules in
     let lent = c.circuit-circuit.result.now in
@@ -108,8 +108,8 @@ returns-clause-many c = λ is. ok_apart _ _ is
 pub returns-clause-large : goal.returns-clause-large
 returns-clause-large c = λ is. ok_apart _ _ is
 
-pub returns-then-nodes-ge-NODES-clause-large : goal.returns-then-nodes-ge-NODES-clause-large
-returns-then-nodes-ge-NODES-clause-large c = λ is. many_apart is
+pub returns-then-nodes-ge-MAX_EVENT_NODES-clause-large : goal.returns-then-nodes-ge-MAX_EVENT_NODES-clause-large
+returns-then-nodes-ge-MAX_EVENT_NODES-clause-large c = λ is. many_apart is
 
 pub returns-in-Some-clause-step : goal.returns-in-Some-clause-step
 returns-in-Some-clause-step c = step_none c.args.self.now c.args.events.now c.args.place c.args.table.now
