@@ -1,6 +1,6 @@
 -- What is refused.
-use Rattle.std.specs.Prelude.{IsErrAnd}
-use Rattle.std.proofs.Common.{◌≡◌, ℕ, List, false, refl, sym, subst, Result, Ok, Err}
+use Rattle.std.specs.Prelude.{◌⊎◌, IsErrAnd}
+use Rattle.std.proofs.Common.{◌≡◌, ℕ, List, false, refl, sym, subst, inl, inr, Result, Ok, Err}
 use Rattle.circuit_theory.specs.declared.Side.TheVariants.{A, B}
 use Rattle.flat_net.specs.View.{NetView, circuit_of}
 use Rattle.pair_decide.specs.declared.cnf_encode.cnf.Cnf.{Cnf}
@@ -18,14 +18,20 @@ use Rattle.sec_setup.specs.ports.Pairs.{ArePairsOf, outputs_of}
 use Rattle.sec_setup.proofs.Uncut.{uncut}
 use Rattle.plain_check.specs.under_base.compare_base.Compared as compared
 use Rattle.outcome_fits.proofs.plain_meaning.CutSizes.{cut_over, cut_light}
-use Rattle.sec_jobs.specs.job_cert.pair_clauses.Clauses.{PairGives, size_refusal_of}
+use Rattle.sec_jobs.specs.job_cert.pair_clauses.Clauses.{PairGives, CanBeUnfolded, IsNoOutput, size_refusal_of}
 use Rattle.sec_jobs.specs.declared.job_cert.pair_clauses.error.CertError.{CertError}
-use Rattle.sec_jobs.specs.declared.job_cert.pair_clauses.error.CertError.TheVariants.{Compare}
+use Rattle.sec_jobs.specs.declared.job_cert.pair_clauses.error.CertError.TheVariants.{Compare, Pair}
+use Rattle.plain_check.specs.declared.under_base.compare_base.error.CompareError.TheVariants as refused
 
 -- what is true of an error is true of the result that it is
 pub refused_by : (P : Result Cnf CertError → Type 0) (r : Result Cnf CertError) (e : CertError) → IsErrAnd r (λ x. x ≡ e) → P (Err e) → P r
 refused_by P (Ok x) e h p = absurd h
 refused_by P (Err x) e h p = subst (λ (y : CertError). P (Err y)) (sym h) p
+
+-- no output has the name, or there is no memory to say so
+pub unnamed_gives : (a b : NetView) (name : List ℕ) (e : CertError) → (e ≡ Pair name) ⊎ (e ≡ Compare refused.NoMemory) → CanBeUnfolded a b × IsNoOutput a name × IsNoOutput b name → PairGives a b name (Err e)
+unnamed_gives a b name e (inl named) h = subst (λ (x : CertError). PairGives a b name (Err x)) (sym named) (refl, h.0, h.1, h.2)
+unnamed_gives a b name e (inr memory) h = subst (λ (x : CertError). PairGives a b name (Err x)) (sym memory) tt
 
 -- a circuit whose outputs weigh too much is refused as a comparison refuses it
 pub unfolding_refused : (a b : NetView) (e : Exposure) (left right : List ℕ) (pairs : List SignalPair) (name : List ℕ) (error : PlainError) → InterfacesMatch a b → IsChosen a b false e → ArePairsOf a b pairs →

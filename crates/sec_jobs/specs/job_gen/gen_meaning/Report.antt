@@ -24,10 +24,12 @@ verdict_word (verdict.DifferentFrom w) = codes "different"
 verdict_word (verdict.NotShown reason) = codes "not-shown"
 verdict_word (verdict.Limit at) = codes "limit"
 
+-- the lines of the numbers of inputs, outputs, gates and latches
+abbrev pub sizes_text : NetView → NetView → List ℕ
+sizes_text a b =
+    count_text (codes "inputs ") (length a.inputs) ++ count_text (codes "outputs ") (length a.outputs)
+    ++ counts_text (codes "gates ") (length a.gates) (length b.gates) ++ counts_text (codes "latches ") (length a.latches) (length b.latches)
+
 -- the whole report
 abbrev pub gen_text : Generation → NetView → NetView → Verdict → List ℕ
-gen_text g a b v =
-    title_text g
-    ++ count_text (codes "inputs ") (length a.inputs) ++ count_text (codes "outputs ") (length a.outputs)
-    ++ counts_text (codes "gates ") (length a.gates) (length b.gates) ++ counts_text (codes "latches ") (length a.latches) (length b.latches)
-    ++ codes "verdict " ++ verdict_word v ++ 10 ∷ []
+gen_text g a b v = title_text g ++ sizes_text a b ++ codes "verdict " ++ verdict_word v ++ 10 ∷ []

@@ -1,13 +1,15 @@
 //! The clauses of a pair.
 
-ghost use Rattle.std.specs.Prelude.{false};
+ghost use Rattle.std.specs.Prelude.{◌≡◌, ◌⊎◌, false};
 ghost use Rattle.circuit_theory.specs.Interface.{AreOrders};
 ghost use Rattle.flat_net.specs.Comparable.{IsComparable};
 ghost use Rattle.flat_net.specs.View.{ports_of};
 ghost use Rattle.sec_setup.specs.Choosing.{IsChosen};
 ghost use Rattle.sec_setup.specs.Matching.{InterfacesMatch};
 ghost use Rattle.sec_setup.specs.Setup.{AreGraphed};
+ghost use Rattle.plain_check.specs.declared.under_base.compare_base.error.CompareError.TheVariants.{NoMemory};
 ghost use Rattle.sec_jobs.specs.job_cert.pair_clauses.Clauses.{PairGives};
+ghost use Rattle.sec_jobs.specs.declared.job_cert.pair_clauses.error.CertError.TheVariants.{Compare, Pair};
 
 use crate::job_cert::pair_clauses::error::CertError;
 use crate::job_cert::pair_clauses::named::place_of;
@@ -95,7 +97,7 @@ fn clauses_of_acyclic(
         pairs.as_slice(),
     )?;
     let Some(place) = place_of(pairs.as_slice(), pair) else {
-        return Err(CertError::Pair(word_of(alloc, pair)?));
+        return Err(unnamed(alloc, pair));
     };
     functions.aig.keeps();
     functions.places.keeps();
@@ -103,4 +105,14 @@ fn clauses_of_acyclic(
     let right = functions.right[place].lit;
     let cnf = encode(alloc, &functions.aig, left, right, Lit::TRUE)?;
     Ok(cnf)
+}
+
+/// Why there are no clauses where no output has the name.
+fn unnamed(alloc: Global, name: &[u8]) -> CertError
+    ensures { (result ≡ Pair name.now) ⊎ (result ≡ Compare NoMemory) }
+{
+    match word_of(alloc, name) {
+        Ok(word) => CertError::Pair(word),
+        Err(error) => CertError::from(error),
+    }
 }

@@ -2,7 +2,7 @@
 
 ghost use Rattle.std.specs.Prelude.{◌≡◌, ◌++◌, ◌∷◌, [], length, codes, IfOk, OnOk};
 ghost use Rattle.std.specs.Fmt.{decimal};
-ghost use Rattle.sec_jobs.specs.job_gen.gen_meaning.Report.{gen_text, title_text, verdict_word};
+ghost use Rattle.sec_jobs.specs.job_gen.gen_meaning.Report.{gen_text, sizes_text, title_text, verdict_word};
 
 use crate::job_gen::gen_meaning::generation::Generation;
 use crate::job_gen::pair_gen::Twins;
@@ -21,26 +21,36 @@ pub fn summary(
 {
     let mut text = Vec::new(alloc);
     put_title(alloc, &mut text, generation)?;
-    put_count(alloc, &mut text, b"inputs ", twins.a.inputs().len())?;
-    put_count(alloc, &mut text, b"outputs ", twins.a.outputs().len())?;
-    put_counts(
-        alloc,
-        &mut text,
-        b"gates ",
-        twins.a.gates().len(),
-        twins.b.gates().len(),
-    )?;
-    put_counts(
-        alloc,
-        &mut text,
-        b"latches ",
-        twins.a.latches().len(),
-        twins.b.latches().len(),
-    )?;
-    put(&mut text, b"verdict ")?;
-    put(&mut text, verdict_word(verdict).as_bytes())?;
-    put(&mut text, b"\n")?;
+    put_sizes(alloc, &mut text, twins)?;
+    put_verdict(&mut text, verdict)?;
     Ok(Seq::from_vec(text))
+}
+
+/// The lines that say how many inputs, outputs, gates and latches there are.
+fn put_sizes(alloc: Global, text: &mut Vec<u8>, twins: &Twins) -> Result<(), NoMemory>
+    ensures { OnOk result (text.new.items ≡ text.old.items ++ sizes_text twins.now.a twins.now.b) }
+{
+    let a = &twins.a;
+    let b = &twins.b;
+    put_count(alloc, text, b"inputs ", a.inputs().len())?;
+    put_count(alloc, text, b"outputs ", a.outputs().len())?;
+    put_counts(alloc, text, b"gates ", a.gates().len(), b.gates().len())?;
+    put_counts(
+        alloc,
+        text,
+        b"latches ",
+        a.latches().len(),
+        b.latches().len(),
+    )
+}
+
+/// The line of the verdict.
+fn put_verdict(text: &mut Vec<u8>, verdict: &Verdict) -> Result<(), NoMemory>
+    ensures { OnOk result (text.new.items ≡ text.old.items ++ (codes "verdict " ++ verdict_word verdict.now ++ 10 ∷ [])) }
+{
+    put(text, b"verdict ")?;
+    put(text, verdict_word(verdict).as_bytes())?;
+    put(text, b"\n")
 }
 
 /// The line of the number.

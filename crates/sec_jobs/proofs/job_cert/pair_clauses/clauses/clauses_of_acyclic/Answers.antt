@@ -11,7 +11,7 @@ use Rattle.sec_jobs.specs.job_cert.pair_clauses.Clauses.{PairGives, IsPairNamed,
 use Rattle.witness_report.specs.declared.witness.PairName.TheVariants.{Output}
 use Rattle.sec_jobs.specs.declared.job_cert.pair_clauses.error.CertError.TheVariants.{Compare}
 use Rattle.sec_jobs.proofs.job_cert.pair_clauses.Given.{is_order, paired, unfolded, are_clauses}
-use Rattle.sec_jobs.proofs.job_cert.pair_clauses.Refused.{refused_by, unfolding_refused}
+use Rattle.sec_jobs.proofs.job_cert.pair_clauses.Refused.{refused_by, unfolding_refused, unnamed_gives}
 use Rattle.sec_jobs.proofs.job_cert.pair_clauses.Outputs.{no_left, no_right}
 use Rattle.sec_jobs.proofs.job_cert.pair_clauses.Differing.{told, encoded}
 use Rattle.sec_jobs.proofs.job_cert.pair_clauses.Few.{clauses_few, true_within}
@@ -56,8 +56,8 @@ returns-in_default c =
     let e = c.args.exposure.now in
     let own = paired n.left.now n.right.now e pairs c.requires.chosen c.requires.matches c.requires.right c.in_ok-pairs.ensures in
     let other = subst (λ (ps : List SignalPair). All (λ (p : SignalPair). p.name ≡ Output c.args.pair.now → ⊥) ps) c.as_slice-2.ensures c.in_default.ensures in
-    let none = c.requires.chosen.closed refl in (
-      c.in_ok-word_of.ensures,
+    let none = c.requires.chosen.closed refl in
+    unnamed_gives n.left.now n.right.now c.args.pair.now c.unnamed.result c.unnamed.ensures (
       unfolded n.left.now n.right.now e pairs c.requires.matches c.requires.chosen own (subst (λ (ps : List SignalPair). AreLight n.left.now (left_signals ps)) c.as_slice.ensures c.in_ok-functions.ensures.unfolds.0)
           (subst (λ (ps : List SignalPair). AreLight n.right.now (right_signals ps)) c.as_slice.ensures c.in_ok-functions.ensures.unfolds.1),
       no_left n.left.now n.right.now e.names e.left e.right pairs c.in_ok-pairs.ensures none c.args.pair.now other,
