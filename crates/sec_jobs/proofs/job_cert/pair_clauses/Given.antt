@@ -1,5 +1,5 @@
 -- What is given where nothing is refused.
-use Rattle.std.proofs.Common.{◌≡◌, ℕ, false, List, [], length, refl, ◌∙◌}
+use Rattle.std.proofs.Common.{◌≡◌, ℕ, false, List, [], refl, ◌∙◌}
 use Rattle.circuit_theory.specs.Interface.{AreNumbersOf, AreOrders}
 use Rattle.circuit_theory.proofs.Lists.{length-map}
 use Rattle.flat_net.specs.Comparable.{IsComparable}
