@@ -35,7 +35,7 @@ chain load out = record {
   clock = None;
 }
 
--- both latches are enabled; q is of class 1, and p of this class
+-- both latches are enabled; q is of class 1, and p of the one that is given
 abbrev pub chained : Cover → Cover → ℕ → EventCircuitView
 chained load out class = record { net = chain load out; enabled = true ∷ true ∷ []; order = 0 ∷ 1 ∷ []; classes = 1 ∷ class ∷ [] }
 
@@ -47,7 +47,7 @@ where_a = chained load_cover same_cover 2
 abbrev pub where_a_too : EventCircuitView
 where_a_too = chained load_not_cover not_cover 2
 
--- q loads the complement of a, and p loads where q is 1
+-- q loads the complement of a, and p loads where q is 1: that is a class of its own
 abbrev pub where_not_a : EventCircuitView
 where_not_a = chained load_not_cover same_cover 3
 
