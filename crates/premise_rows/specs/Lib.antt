@@ -7,5 +7,6 @@ pub mod job_rows
 pub mod event_assume_rows
 pub mod event_premises
 pub mod event_outcome_samples
+pub mod event_literal_premises
 pub mod event_pair_premises
 pub mod one_text_runs

@@ -1,0 +1,9 @@
+pub mod ChainNet
+pub mod ChainSide
+pub mod Chains
+pub mod ChainLits
+pub mod Alike
+pub mod Unlike
+pub mod Twins
+pub mod Trees
+pub mod Visits
