@@ -1,5 +1,5 @@
 -- The text that a run writes.
-use Rattle.std.specs.Prelude.{ℕ, List, [], ◌∷◌, ◌++◌, codes}
+use Rattle.std.specs.Prelude.{ℕ, List, [], ◌∷◌, ◌++◌, Option, Some, None, codes}
 use Rattle.std.specs.Fmt.{decimal}
 use Rattle.circuit_theory.specs.declared.Side.{Side}
 use Rattle.circuit_theory.specs.declared.Side.TheVariants.{A, B}
@@ -75,6 +75,25 @@ line_fault_text (line_fault.Circuit k) = kind_text k
 line_fault_text line_fault.BadHeader = codes "BadHeader"
 line_fault_text line_fault.BadRow = codes "BadRow"
 line_fault_text (line_fault.Clauses k) = text_kind_word k
+
+-- the word of a fault that has one name, and the name
+abbrev pub named_of : FlatError → Option (List ℕ × List ℕ)
+named_of (flat.UnknownModel name) = Some (codes "UnknownModel ", name)
+named_of (flat.Recursive name) = Some (codes "Recursive ", name)
+named_of (flat.UnknownFormal name) = Some (codes "UnknownFormal ", name)
+named_of (flat.FormalTwice name) = Some (codes "FormalTwice ", name)
+named_of (flat.OpenInput name) = Some (codes "OpenInput ", name)
+named_of (flat.TwoDrivers name) = Some (codes "TwoDrivers ", name)
+named_of (flat.Undriven name) = Some (codes "Undriven ", name)
+named_of (flat.TwoClocks name) = Some (codes "TwoClocks ", name)
+named_of (flat.TwoEdges name) = Some (codes "TwoEdges ", name)
+named_of (flat.GatedClock name) = Some (codes "GatedClock ", name)
+named_of (flat.ClockRead name) = Some (codes "ClockRead ", name)
+named_of (flat.Loop names) = None
+named_of (flat.TooDeep name) = Some (codes "TooDeep ", name)
+named_of flat.TooMany = None
+named_of flat.LongName = None
+named_of flat.NoMemory = None
 
 -- the kind of a design's fault, with the names that it has
 abbrev pub design_fault_text : FlatError → List ℕ

@@ -1,9 +1,9 @@
 //! The text that a run writes.
 
-ghost use Rattle.std.specs.Prelude.{◌≡◌, [], ◌∷◌, ◌++◌, codes, OnOk, IfOk};
+ghost use Rattle.std.specs.Prelude.{◌≡◌, [], ◌∷◌, ◌++◌, Some, None, MatchOption, codes, OnOk, IfOk};
 ghost use Rattle.std.specs.Fmt.{decimal};
 ghost use Rattle.sec_base.specs.Texts.{names_text};
-ghost use Rattle.job_base.specs.Lines.{side_word, file_word, kind_text, text_kind_word, line_fault_text, design_fault_text, record_fault_text, misfit_text, shape_text, refusal_text, words_text, cycle_text, undecided_text, unpaired_text, satisfiable_text, unsettled_text};
+ghost use Rattle.job_base.specs.Lines.{side_word, file_word, kind_text, text_kind_word, line_fault_text, named_of, design_fault_text, record_fault_text, misfit_text, shape_text, refusal_text, words_text, cycle_text, undecided_text, unpaired_text, satisfiable_text, unsettled_text};
 
 use crate::finding::{File, LineFault, Refusal};
 use aiger_read::aiger_records::AigerKind;
@@ -131,29 +131,41 @@ fn put_fault(
     put(text, b"\n")
 }
 
+/// The word of a fault that has one name, and the name.
+fn named_fault(fault: &FlatError) -> Option<(&'static str, &Word)>
+    ensures { MatchOption result (named_of fault.now ≡ None) (λ p. named_of fault.now ≡ Some (p.0.now, p.1.now)) }
+{
+    match fault {
+        FlatError::UnknownModel(name) => Some(("UnknownModel ", name)),
+        FlatError::Recursive(name) => Some(("Recursive ", name)),
+        FlatError::UnknownFormal(name) => Some(("UnknownFormal ", name)),
+        FlatError::FormalTwice(name) => Some(("FormalTwice ", name)),
+        FlatError::OpenInput(name) => Some(("OpenInput ", name)),
+        FlatError::TwoDrivers(name) => Some(("TwoDrivers ", name)),
+        FlatError::Undriven(name) => Some(("Undriven ", name)),
+        FlatError::TwoClocks(name) => Some(("TwoClocks ", name)),
+        FlatError::TwoEdges(name) => Some(("TwoEdges ", name)),
+        FlatError::GatedClock(name) => Some(("GatedClock ", name)),
+        FlatError::ClockRead(name) => Some(("ClockRead ", name)),
+        FlatError::TooDeep(name) => Some(("TooDeep ", name)),
+        _ => None,
+    }
+}
+
 fn put_design_fault(text: &mut Vec<u8>, fault: &FlatError) -> Result<(), NoMemory>
     ensures { OnOk result (text.new.items ≡ text.old.items ++ design_fault_text fault.now) }
 {
+    if let Some((word, name)) = named_fault(fault) {
+        return put_behind(text, word.as_bytes(), name.as_slice());
+    }
     match fault {
-        FlatError::UnknownModel(name) => put_behind(text, b"UnknownModel ", name.as_slice()),
-        FlatError::Recursive(name) => put_behind(text, b"Recursive ", name.as_slice()),
-        FlatError::UnknownFormal(name) => put_behind(text, b"UnknownFormal ", name.as_slice()),
-        FlatError::FormalTwice(name) => put_behind(text, b"FormalTwice ", name.as_slice()),
-        FlatError::OpenInput(name) => put_behind(text, b"OpenInput ", name.as_slice()),
-        FlatError::TwoDrivers(name) => put_behind(text, b"TwoDrivers ", name.as_slice()),
-        FlatError::Undriven(name) => put_behind(text, b"Undriven ", name.as_slice()),
-        FlatError::TwoClocks(name) => put_behind(text, b"TwoClocks ", name.as_slice()),
-        FlatError::TwoEdges(name) => put_behind(text, b"TwoEdges ", name.as_slice()),
-        FlatError::GatedClock(name) => put_behind(text, b"GatedClock ", name.as_slice()),
-        FlatError::ClockRead(name) => put_behind(text, b"ClockRead ", name.as_slice()),
         FlatError::Loop(names) => {
             put(text, b"Loop")?;
             put_names(text, names)
         }
-        FlatError::TooDeep(name) => put_behind(text, b"TooDeep ", name.as_slice()),
         FlatError::TooMany => put(text, b"TooMany"),
         FlatError::LongName => put(text, b"LongName"),
-        FlatError::NoMemory => put(text, b"NoMemory"),
+        _ => put(text, b"NoMemory"),
     }
 }
 
@@ -228,27 +240,39 @@ fn put_shape_fault(alloc: Global, text: &mut Vec<u8>, fault: &ShapeFault) -> Res
     }
 }
 
+fn put_too_long(text: &mut Vec<u8>, file: File) -> Result<(), NoMemory>
+    ensures { OnOk result (text.new.items ≡ text.old.items ++ (codes "refused " ++ file_word file ++ codes " TooLong" ++ 10 ∷ [])) }
+{
+    put_file(text, file)?;
+    put(text, b" TooLong\n")
+}
+
+fn put_faulty_design(text: &mut Vec<u8>, file: File, fault: &FlatError) -> Result<(), NoMemory>
+    ensures { OnOk result (text.new.items ≡ text.old.items ++ (codes "refused " ++ file_word file ++ 32 ∷ [] ++ design_fault_text fault.now ++ 10 ∷ [])) }
+{
+    put_file(text, file)?;
+    put(text, b" ")?;
+    put_design_fault(text, fault)?;
+    put(text, b"\n")
+}
+
+fn put_too_large(text: &mut Vec<u8>, side: Side) -> Result<(), NoMemory>
+    ensures { OnOk result (text.new.items ≡ text.old.items ++ (codes "refused " ++ side_word side ++ codes " TooLarge" ++ 10 ∷ [])) }
+{
+    put_side(text, side)?;
+    put(text, b" TooLarge\n")
+}
+
 fn put_refusal(alloc: Global, text: &mut Vec<u8>, refusal: &Refusal) -> Result<(), NoMemory>
     ensures { OnOk result (text.new.items ≡ text.old.items ++ refusal_text refusal.now) }
 {
     match refusal {
-        Refusal::TooLong(file) => {
-            put_file(text, *file)?;
-            put(text, b" TooLong\n")
-        }
+        Refusal::TooLong(file) => put_too_long(text, *file),
         Refusal::Text(file, line, fault) => put_fault(alloc, text, *file, *line, fault),
-        Refusal::Design(file, fault) => {
-            put_file(text, *file)?;
-            put(text, b" ")?;
-            put_design_fault(text, fault)?;
-            put(text, b"\n")
-        }
+        Refusal::Design(file, fault) => put_faulty_design(text, *file, fault),
         Refusal::Record(file, place, kind) => put_record_fault(alloc, text, *file, *place, *kind),
         Refusal::Interface(name) => put_line(text, b"refused Interface ", name.as_slice()),
-        Refusal::TooLarge(side) => {
-            put_side(text, *side)?;
-            put(text, b" TooLarge\n")
-        }
+        Refusal::TooLarge(side) => put_too_large(text, *side),
         Refusal::TooManyEvents => put(text, b"refused TooManyEvents\n"),
         Refusal::Assume(fault) => put_shape_fault(alloc, text, fault),
         Refusal::Vacuous => put(text, b"refused C Vacuous\n"),
