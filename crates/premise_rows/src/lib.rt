@@ -2,6 +2,7 @@
 #![tactic(auto)]
 
 pub mod block_premises;
+pub mod event_apart_premises;
 pub mod event_assume_rows;
 pub mod event_outcome_samples;
 pub mod event_pair_premises;

@@ -46,7 +46,7 @@ use Rattle.premise_rows.proofs.block_premises.TurningNets.{each}
 use Rattle.premise_rows.proofs.event_pair_premises.HeldSide as held
 
 -- the covers have a column for each fan-in
-load_sound : IsCoverSound load_cover
+pub load_sound : IsCoverSound load_cover
 load_sound = record {
   cubes = All-from_recursion (IsCube 3) (codes "11-" ∷ codes "0-1" ∷ []) (
     (refl, All-from_recursion IsPlace (codes "11-") (inr (inl refl), (inr (inl refl), (inr (inr refl), tt)))),
@@ -55,7 +55,7 @@ load_sound = record {
   empty_is_on = λ e. refl;
 }
 
-load_not_sound : IsCoverSound load_not_cover
+pub load_not_sound : IsCoverSound load_not_cover
 load_not_sound = record {
   cubes = All-from_recursion (IsCube 3) (codes "10-" ∷ codes "0-1" ∷ []) (
     (refl, All-from_recursion IsPlace (codes "10-") (inr (inl refl), (inl refl, (inr (inr refl), tt)))),
@@ -64,10 +64,10 @@ load_not_sound = record {
   empty_is_on = λ e. refl;
 }
 
-same_sound : IsCoverSound same_cover
+pub same_sound : IsCoverSound same_cover
 same_sound = record { cubes = All-from_recursion (IsCube 1) (codes "1" ∷ []) ((refl, All-from_recursion IsPlace (codes "1") (inr (inl refl), tt)), tt); empty_is_on = λ e. refl }
 
-not_sound : IsCoverSound not_cover
+pub not_sound : IsCoverSound not_cover
 not_sound = record { cubes = All-from_recursion (IsCube 1) (codes "0" ∷ []) ((refl, All-from_recursion IsPlace (codes "0") (inl refl, tt)), tt); empty_is_on = λ e. refl }
 
 -- the graph
@@ -247,7 +247,7 @@ right_q = record { e = Right 0; a = Right 1; i = 0; j = 1; load = load_not_cover
 pub left_latch : IsLatch whole (codes "q") (Left 2) (Left 3)
 left_latch = (2, omega arith, refl)
 
-right_latch : IsLatch whole (codes "q") (Right 2) (Right 3)
+pub right_latch : IsLatch whole (codes "q") (Right 2) (Right 3)
 right_latch = (5, omega arith, refl)
 
 abbrev HoldOfClass : List ℕ → Either ℕ ℕ → Either ℕ ℕ → Type 0
