@@ -5,3 +5,5 @@ pub mod ChosenFunction
 pub mod ChosenClauses
 pub mod AtLimit
 pub mod Found
+pub mod LearnedClause
+pub mod OneConflict

@@ -1,3 +1,4 @@
 pub mod Chosen
 pub mod AtLimit
 pub mod Found
+pub mod OneConflict

@@ -50,7 +50,7 @@ inputs_stand (suc count) k behind e h = ((refl, tt), inputs_stand count (suc k) 
 stands : (n : ℕ) (node : Node) → slice_get chosen_nodes n ≡ Some node → StandsAt n node
 stands = each StandsAt chosen_nodes ((refl, tt), inputs_stand 17 0 18 (omega arith) ((refl, (omega arith, omega arith)), ((refl, (omega arith, omega arith)), ((refl, (omega arith, omega arith)), tt))))
 
-graph : IsGraph chosen_nodes
+pub graph : IsGraph chosen_nodes
 graph = record { constant = refl; ordered = λ n node h. (stands n node h).1; once = λ n m node h k. sym (stands n node h).0 ∙ (stands m node k).0; few = omega arith }
 
 abbrev at_root : ℕ → ℕ × ℕ
@@ -89,7 +89,7 @@ asks = record {
   vars = merge;
 }
 
-is_query : IsQuery chosen_nodes chosen_query
+pub is_query : IsQuery chosen_nodes chosen_query
 is_query = queries_of_pairs both_chosen at_choice (Left 17) (Right 0) chosen_query choice_kept asks
 
 -- a chosen by b or by its complement is a
