@@ -9,4 +9,6 @@ pub mod event_premises
 pub mod event_outcome_samples
 pub mod event_literal_premises
 pub mod event_pair_premises
+pub mod event_apart_premises
+pub mod event_limit_premises
 pub mod one_text_runs

@@ -2,7 +2,9 @@
 #![tactic(auto)]
 
 pub mod block_premises;
+pub mod event_apart_premises;
 pub mod event_assume_rows;
+pub mod event_limit_premises;
 pub mod event_literal_premises;
 pub mod event_outcome_samples;
 pub mod event_pair_premises;

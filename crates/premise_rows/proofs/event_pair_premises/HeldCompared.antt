@@ -98,7 +98,7 @@ two_are = record {
     back x tree (inr (inl h)) stands = absurd (no_care_tree both_held joined_same single number_once all_hold (Left 2) tree h)
     back x tree (inr (inr h)) stands = absurd (no_care_tree both_held joined_same single number_once all_hold (Left 2) tree h)
 
-from_always : IsSeparationFromAlways both_held order 1 (Left 2) two (false ∷ false ∷ [])
+pub from_always : IsSeparationFromAlways both_held order 1 (Left 2) two (false ∷ false ∷ [])
 from_always = record {
   lower = omega arith;
   founder_is = record { before = []; after = Right 2 ∷ []; split = refl; class_is = refl; first = λ u h. absurd (omega (arith, h.1)) };
@@ -122,7 +122,7 @@ separated = record {
   };
 }
 
-grows : GrowsEvents with_classes.events at_load
+pub grows : GrowsEvents with_classes.events at_load
 grows = record { graph = (_, refl); children = (_, refl); places = (_, refl) }
 
 pub can_be_compared : HeldPairCanBeCompared

@@ -53,7 +53,7 @@ data IsMet : Option ℕ → ℕ → List ℕ → Type 0 where
   before_it : {p : ℕ} → p ≤ 3 → IsMet (Some 2) p (1 ∷ [])
 
 -- what reads what
-abbrev ReadsSo : ℕ → ℕ → Type 0
+abbrev pub ReadsSo : ℕ → ℕ → Type 0
 ReadsSo p q = ((p ≡ 4) × (q ≡ 2)) ⊎ ((p ≡ 3) × (q ≤ 2))
 
 abbrev ReadsOf : Equation ℕ → Type 0
@@ -179,7 +179,7 @@ module _ (load out : Cover) (load_sound : IsCoverSound load) (out_sound : IsCove
   latch_depth = depth_one s same_or_not single once all_hold (codes "q") 2 3 latch
 
   -- what is visited
-  reading : {p q : ℕ} → Reads c p q → ReadsSo p q
+  pub reading : {p q : ℕ} → Reads c p q → ReadsSo p q
   reading (Reads.by_gate {out = o} {q = q} {fanins = fanins} {cover = cover} h k) = each_at ReadsOf c.equations (first, (second, (tt, tt))) (Gate o fanins cover) h q k
     where
       first : (r : ℕ) → Contains (0 ∷ 1 ∷ 2 ∷ []) r → ReadsSo 3 r

@@ -1,6 +1,6 @@
 use mathlib.Core.Path.{fun_ext}
 use Rattle.std.specs.Prelude.{map, string_bytes}
-use Rattle.std.proofs.Common.{subst, sym}
+use Rattle.std.proofs.Common.{subst}
 use Rattle.std.proofs.lemmas.List.Elements.{All-weaker}
 use Rattle.command_line.specs.Jobs.{job_of}
 use Rattle.job_base.specs.sec_files.job_files.Reading.{Held}

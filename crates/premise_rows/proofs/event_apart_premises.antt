@@ -1,0 +1,9 @@
+pub mod OneClass
+pub mod EnableSide
+pub mod Enables
+pub mod TwoSide
+pub mod TwoPair
+pub mod TwoApart
+pub mod TwoTold
+pub mod TwoFrame
+pub mod TwoCompared

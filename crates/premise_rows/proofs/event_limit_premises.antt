@@ -1,0 +1,9 @@
+pub mod Latchless
+pub mod Numbers
+pub mod ChosenNets
+pub mod ChosenFunction
+pub mod ChosenClauses
+pub mod AtLimit
+pub mod Found
+pub mod LearnedClause
+pub mod OneConflict

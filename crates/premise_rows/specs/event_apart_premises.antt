@@ -1,0 +1,4 @@
+pub mod OneClass
+pub mod Enables
+pub mod TwoLoads
+pub mod TwoClasses

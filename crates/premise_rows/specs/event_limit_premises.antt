@@ -1,0 +1,4 @@
+pub mod Chosen
+pub mod AtLimit
+pub mod Found
+pub mod OneConflict
