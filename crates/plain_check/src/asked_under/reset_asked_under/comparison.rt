@@ -55,7 +55,7 @@ pub fn compare_reset_under(
         &mut functions.places,
         asked.as_slice(),
     )?;
-    let findings = findings_under(
+    match findings_under(
         alloc,
         setup,
         bases,
@@ -64,8 +64,10 @@ pub fn compare_reset_under(
         under.as_slice(),
         &premise.meeting,
         conflicts,
-    )?;
-    Ok(findings)
+    ) {
+        Ok(findings) => Ok(findings),
+        Err(error) => Err(CompareUnderError::from(error)),
+    }
 }
 
 /// What is found of the pairs by what is asked of them without the assumption and under it.

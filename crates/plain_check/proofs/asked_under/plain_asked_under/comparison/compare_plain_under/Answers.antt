@@ -104,8 +104,8 @@ findings_under-requires-clause-asked c =
 pub findings_under-requires-clause-bits : goal.findings_under-requires-clause-bits
 findings_under-requires-clause-bits c = c.requires.premise.bits
 
-pub returns : goal.returns
-returns c =
+pub returns-in-Ok : goal.returns-in-Ok
+returns-in-Ok c =
     let s = c.args.setup.now in
     let f = c.in_ok-functions.functions in
     let g : Functions = record { aig = c.asked_under.new.aig; places = c.asked_under.new.table; left = f.left; right = f.right } in
@@ -120,7 +120,7 @@ returns c =
           (c.in_ok-under.ensures.under n inputs output size is.function is.assumption) in
           let are : AreAskedUnder s g c.in_ok-asked.asked.items c.in_ok-under.under.items c.args.premise.now.meeting (assumption_of n inputs output) =
           asked_by order.Shifts c.args.premise.now (length s.columns) n inputs output size is g.aig g.places (AreAsked s g s.pairs) c.in_ok-asked.asked.items c.in_ok-under.under.items later given in
-          c.in_ok-findings.ensures (assumption_of n inputs output)
+          c.in-Ok.ensures (assumption_of n inputs output)
           (subst (λ (us : List Obligation). AreAskedUnder s g c.as_slice-3.result.now us c.args.premise.now.meeting (assumption_of n inputs output)) (sym c.as_slice-4.ensures.value)
           (subst (λ (os : List Obligation). AreAskedUnder s g os c.in_ok-under.under.items c.args.premise.now.meeting (assumption_of n inputs output)) (sym c.as_slice-3.ensures.value) are));
     }

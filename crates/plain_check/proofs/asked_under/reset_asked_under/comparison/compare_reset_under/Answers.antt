@@ -79,8 +79,8 @@ findings_under-requires-clause-asked c =
 pub findings_under-requires-clause-bits : goal.findings_under-requires-clause-bits
 findings_under-requires-clause-bits c = c.requires.premise.bits
 
-pub returns : goal.returns
-returns c =
+pub returns-in-Ok : goal.returns-in-Ok
+returns-in-Ok c =
     let s = c.args.setup.now in
     let b = c.in_ok-bases.bases in
     let f = c.in_ok-functions.functions in
@@ -99,7 +99,7 @@ returns c =
           (c.in_ok-under.ensures.under n inputs output size is.function is.assumption) in
           let are : AreAskedUnder s b g c.in_ok-asked.asked.items c.in_ok-under.under.items c.args.premise.now.meeting (assumption_of n inputs output) =
           asked_by order.Cycles c.args.premise.now (length s.columns) n inputs output size is g.aig g.places (AreAsked s b g s.pairs) c.in_ok-asked.asked.items c.in_ok-under.under.items later given in
-          c.in_ok-findings.ensures (assumption_of n inputs output)
+          c.in-Ok.ensures (assumption_of n inputs output)
           (subst (λ (us : List Obligation). AreAskedUnder s b g c.as_slice-2.result.now us c.args.premise.now.meeting (assumption_of n inputs output)) (sym c.as_slice-3.ensures.value)
           (subst (λ (os : List Obligation). AreAskedUnder s b g os c.in_ok-under.under.items c.args.premise.now.meeting (assumption_of n inputs output)) (sym c.as_slice-2.ensures.value) are));
     }
