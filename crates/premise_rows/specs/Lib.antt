@@ -8,4 +8,5 @@ pub mod event_assume_rows
 pub mod event_premises
 pub mod event_outcome_samples
 pub mod event_pair_premises
+pub mod event_class_premises
 pub mod one_text_runs

@@ -1,0 +1,13 @@
+pub mod Pairs
+pub mod ClassMap
+pub mod Tables
+pub mod Members
+pub mod TwoNets
+pub mod TwoEnables
+pub mod Encodings
+pub mod AtLimit
+pub mod Visited
+pub mod Totals
+pub mod Enables
+pub mod Chain
+pub mod Ring

@@ -1,0 +1,55 @@
+//! That the premises of what is promised of classes of latches are met. The functions do nothing: each contract is an example.
+
+ghost use Rattle.premise_rows.specs.event_class_premises.AtLimit.{LimitsMeetPremises};
+ghost use Rattle.premise_rows.specs.event_class_premises.ClassMap.{ClassMapMeetsPremises};
+ghost use Rattle.premise_rows.specs.event_class_premises.Enables.{EnableMeetsPremises};
+ghost use Rattle.premise_rows.specs.event_class_premises.Members.{MembersMeetPremises};
+ghost use Rattle.premise_rows.specs.event_class_premises.Ring.{RingMeetsPremises};
+ghost use Rattle.premise_rows.specs.event_class_premises.Tables.{TablesMeetPremises};
+ghost use Rattle.premise_rows.specs.event_class_premises.Totals.{TotalsMeetPremises};
+ghost use Rattle.premise_rows.specs.event_class_premises.TwoEnables.{ApartMeetsPremises, FoundsMeetPremises};
+
+/// Two latches that load under one input, one in each of two circuits: their class map from its begin to its end.
+pub fn class_map_meets_premises()
+    ensures { ClassMapMeetsPremises }
+{}
+
+/// The table in which the second of them finds its class, and the query that would find it too.
+pub fn tables_meet_premises()
+    ensures { TablesMeetPremises }
+{}
+
+/// The class that the first of them founds, and that the second joins it.
+pub fn members_meet_premises()
+    ensures { MembersMeetPremises }
+{}
+
+/// Two latches that load under different inputs: an assignment tells the second from the class of the first.
+pub fn apart_meets_premises()
+    ensures { ApartMeetsPremises }
+{}
+
+/// So the second founds a class of its own.
+pub fn founds_meet_premises()
+    ensures { FoundsMeetPremises }
+{}
+
+/// Where no conflicts are allowed and the lists of variables are long, both meet the limit.
+pub fn limits_meet_premises()
+    ensures { LimitsMeetPremises }
+{}
+
+/// What is counted of the enables of the two that load under one input.
+pub fn totals_meet_premises()
+    ensures { TotalsMeetPremises }
+{}
+
+/// The first of these enables as an event function.
+pub fn enable_meets_premises()
+    ensures { EnableMeetsPremises }
+{}
+
+/// A latch behind a ring of two latches: its enable reaches more event nodes and weighs more than is allowed.
+pub fn ring_meets_premises()
+    ensures { RingMeetsPremises }
+{}
