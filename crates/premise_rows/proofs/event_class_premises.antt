@@ -8,6 +8,7 @@ pub mod Encodings
 pub mod AtLimit
 pub mod Visited
 pub mod Totals
+pub mod OneNode
 pub mod Enables
 pub mod Chain
 pub mod Ring

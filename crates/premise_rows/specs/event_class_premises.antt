@@ -4,5 +4,6 @@ pub mod Members
 pub mod TwoEnables
 pub mod AtLimit
 pub mod Totals
+pub mod OneNode
 pub mod Enables
 pub mod Ring

@@ -4,6 +4,7 @@ ghost use Rattle.premise_rows.specs.event_class_premises.AtLimit.{LimitsMeetPrem
 ghost use Rattle.premise_rows.specs.event_class_premises.ClassMap.{ClassMapMeetsPremises};
 ghost use Rattle.premise_rows.specs.event_class_premises.Enables.{EnableMeetsPremises};
 ghost use Rattle.premise_rows.specs.event_class_premises.Members.{MembersMeetPremises};
+ghost use Rattle.premise_rows.specs.event_class_premises.OneNode.{NodesMeetPremises};
 ghost use Rattle.premise_rows.specs.event_class_premises.Ring.{RingMeetsPremises};
 ghost use Rattle.premise_rows.specs.event_class_premises.Tables.{TablesMeetPremises};
 ghost use Rattle.premise_rows.specs.event_class_premises.Totals.{TotalsMeetPremises};
@@ -44,7 +45,12 @@ pub fn totals_meet_premises()
     ensures { TotalsMeetPremises }
 {}
 
-/// The first of these enables as an event function.
+/// A latch that loads under what another latch has taken over: what is counted of its enable, which reaches an event node besides the root.
+pub fn nodes_meet_premises()
+    ensures { NodesMeetPremises }
+{}
+
+/// The enable of a latch that loads under an input, as an event function.
 pub fn enable_meets_premises()
     ensures { EnableMeetsPremises }
 {}
