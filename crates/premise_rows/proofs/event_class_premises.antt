@@ -9,6 +9,9 @@ pub mod AtLimit
 pub mod Visited
 pub mod Totals
 pub mod OneNode
+pub mod Heavy
+pub mod AlwaysFits
 pub mod Enables
-pub mod Chain
-pub mod Ring
+pub mod Listed
+pub mod ShiftNet
+pub mod Shifted

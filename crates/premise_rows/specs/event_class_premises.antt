@@ -5,5 +5,7 @@ pub mod TwoEnables
 pub mod AtLimit
 pub mod Totals
 pub mod OneNode
+pub mod Heavy
+pub mod AlwaysFits
 pub mod Enables
-pub mod Ring
+pub mod Shifted

@@ -1,16 +1,18 @@
 //! That the premises of what is promised of classes of latches are met. The functions do nothing: each contract is an example.
 
+ghost use Rattle.premise_rows.specs.event_class_premises.AlwaysFits.{AlwaysMeetsPremises};
 ghost use Rattle.premise_rows.specs.event_class_premises.AtLimit.{LimitsMeetPremises};
 ghost use Rattle.premise_rows.specs.event_class_premises.ClassMap.{ClassMapMeetsPremises};
 ghost use Rattle.premise_rows.specs.event_class_premises.Enables.{EnableMeetsPremises};
+ghost use Rattle.premise_rows.specs.event_class_premises.Heavy.{HeavyMeetsPremises};
 ghost use Rattle.premise_rows.specs.event_class_premises.Members.{MembersMeetPremises};
 ghost use Rattle.premise_rows.specs.event_class_premises.OneNode.{NodesMeetPremises};
-ghost use Rattle.premise_rows.specs.event_class_premises.Ring.{RingMeetsPremises};
+ghost use Rattle.premise_rows.specs.event_class_premises.Shifted.{ShiftMeetsPremises};
 ghost use Rattle.premise_rows.specs.event_class_premises.Tables.{TablesMeetPremises};
 ghost use Rattle.premise_rows.specs.event_class_premises.Totals.{TotalsMeetPremises};
 ghost use Rattle.premise_rows.specs.event_class_premises.TwoEnables.{ApartMeetsPremises, FoundsMeetPremises};
 
-/// Two latches that load under one input, one in each of two circuits: their class map from its begin to its end.
+/// Two latches that load under one input, one in each of two circuits: their class map from its beginning to its end.
 pub fn class_map_meets_premises()
     ensures { ClassMapMeetsPremises }
 {}
@@ -35,6 +37,11 @@ pub fn founds_meet_premises()
     ensures { FoundsMeetPremises }
 {}
 
+/// A latch that reads itself and yet loads in each cycle is of class 0.
+pub fn always_meets_premises()
+    ensures { AlwaysMeetsPremises }
+{}
+
 /// Where no conflicts are allowed and the lists of variables are long, both meet the limit.
 pub fn limits_meet_premises()
     ensures { LimitsMeetPremises }
@@ -55,7 +62,12 @@ pub fn enable_meets_premises()
     ensures { EnableMeetsPremises }
 {}
 
-/// A latch behind a ring of two latches: its enable reaches more event nodes and weighs more than is allowed.
-pub fn ring_meets_premises()
-    ensures { RingMeetsPremises }
+/// A latch that loads by a cover of very many rows: its enable weighs more than is allowed.
+pub fn heavy_meets_premises()
+    ensures { HeavyMeetsPremises }
+{}
+
+/// A latch behind a shift register of 10,000 latches: its enable reaches more event nodes than are allowed.
+pub fn shift_meets_premises()
+    ensures { ShiftMeetsPremises }
 {}
