@@ -11,4 +11,5 @@ pub mod event_literal_premises
 pub mod event_pair_premises
 pub mod event_apart_premises
 pub mod event_limit_premises
+pub mod event_class_premises
 pub mod one_text_runs

@@ -4,6 +4,7 @@
 pub mod block_premises;
 pub mod event_apart_premises;
 pub mod event_assume_rows;
+pub mod event_class_premises;
 pub mod event_limit_premises;
 pub mod event_literal_premises;
 pub mod event_outcome_samples;

@@ -1,0 +1,17 @@
+pub mod Pairs
+pub mod ClassMap
+pub mod Tables
+pub mod Members
+pub mod TwoNets
+pub mod TwoEnables
+pub mod Encodings
+pub mod AtLimit
+pub mod Visited
+pub mod Totals
+pub mod OneNode
+pub mod Heavy
+pub mod AlwaysFits
+pub mod Enables
+pub mod Listed
+pub mod ShiftNet
+pub mod Shifted

@@ -1,0 +1,11 @@
+pub mod ClassMap
+pub mod Tables
+pub mod Members
+pub mod TwoEnables
+pub mod AtLimit
+pub mod Totals
+pub mod OneNode
+pub mod Heavy
+pub mod AlwaysFits
+pub mod Enables
+pub mod Shifted
