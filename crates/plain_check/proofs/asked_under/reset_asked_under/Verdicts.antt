@@ -26,7 +26,7 @@ use Rattle.assume_queries.specs.assume_sequences.Filled.{bit_of}
 use Rattle.reset_form.specs.declared.reset_functions.bases.Bases.{Bases}
 use Rattle.reset_form.specs.declared.reset_functions.functions.Functions.{Functions}
 use Rattle.reset_form.specs.declared.reset_asked.findings.ResetVerdict.{ResetVerdict}
-use Rattle.reset_form.specs.reset_asked.Asked.{AskedOf, AreAsked}
+use Rattle.reset_form.specs.reset_asked.Asked.{AskedOf}
 use Rattle.reset_form.specs.reset_asked.Numbers.{numbered}
 use Rattle.reset_form.proofs.reset_asked.Sound.{AreSound}
 use Rattle.plain_check.specs.asked_under.reset_asked_under.Asked.{AreAskedUnder}

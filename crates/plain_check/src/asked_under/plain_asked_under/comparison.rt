@@ -1,6 +1,7 @@
 //! Comparing the pairs of two circuits under an assumption.
 
-ghost use Rattle.std.specs.Prelude.{◌≡◌, ◌≤◌, length, map, IfOk};
+ghost use Rattle.std.specs.Prelude.{◌≡◌, ◌+◌, ◌*◌, ◌≤◌, length, map, Ok, IfOk};
+ghost use Rattle.plain_asked.specs.Pairs.{Unfolds};
 ghost use Rattle.flat_net.specs.View.{circuit_of};
 ghost use Rattle.assume_laws.specs.Assume.{Assumption};
 ghost use Rattle.assume_queries.specs.assume_sequences.Filled.{bit_of};
@@ -19,7 +20,7 @@ use assume_queries::assume_answers::VariableOrder;
 use assume_queries::assume_sequences::Premise;
 use obligations::{Decided, Obligation, decide_all, greatest_size, verdict_at};
 use plain_asked::{Findings, Functions, ask, unfold_pairs};
-use sec_base::{Bits, MAX_CONFLICTS, NoMemory};
+use sec_base::{Bits, MAX_CONFLICTS, MAX_WEIGHT, NoMemory};
 use sec_setup::Setup;
 use std::alloc::Global;
 
@@ -49,9 +50,30 @@ pub fn compare_plain_under(
         &setup.orders,
         setup.pairs.as_slice(),
     )?;
+    compare_functions(alloc, setup, &mut functions, premise, conflicts)
+}
+
+/// Compares the pairs by their functions, to whose graph and table those of the assumption are added.
+fn compare_functions(
+    alloc: Global,
+    setup: &Setup<'_>,
+    functions: &mut Functions,
+    premise: &Premise,
+    conflicts: u32,
+) -> Result<Findings, CompareUnderError>
+    requires setup { IsSetup setup.now }
+    requires unfolds { Unfolds setup.now.left.now setup.now.right.now setup.now.orders.left setup.now.orders.right setup.now.pairs (Ok functions.old) }
+    requires small { length functions.old.aig ≤ 2 * MAX_WEIGHT + 1 }
+    requires few { length functions.old.places ≤ 2 * MAX_WEIGHT }
+    requires premise { CanBeAssumed premise.now (length setup.now.columns) }
+    requires conflicts { conflicts ≤ MAX_CONFLICTS }
+    ensures { FormedUnder setup.now premise.now conflicts result }
+{
+    setup.left.keeps();
+    setup.right.keeps();
     functions.aig.keeps();
     functions.places.keeps();
-    let asked = ask(alloc, setup, &functions)?;
+    let asked = ask(alloc, setup, functions)?;
     let under = asked_under(
         alloc,
         VariableOrder::Shifts,
@@ -61,18 +83,16 @@ pub fn compare_plain_under(
         &mut functions.places,
         asked.as_slice(),
     )?;
-    match findings_under(
+    let findings = findings_under(
         alloc,
         setup,
-        &functions,
+        functions,
         asked.as_slice(),
         under.as_slice(),
         &premise.meeting,
         conflicts,
-    ) {
-        Ok(findings) => Ok(findings),
-        Err(error) => Err(CompareUnderError::from(error)),
-    }
+    )?;
+    Ok(findings)
 }
 
 /// What is found of the pairs by what is asked of them without the assumption and under it.

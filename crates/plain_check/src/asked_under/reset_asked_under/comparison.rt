@@ -1,12 +1,13 @@
 //! Comparing the pairs of two circuits from their initial values under an assumption.
 
-ghost use Rattle.std.specs.Prelude.{◌≡◌, ◌≤◌, length, map, IfOk};
+ghost use Rattle.std.specs.Prelude.{◌≡◌, ◌+◌, ◌*◌, ◌≤◌, length, map, Ok, IfOk};
 ghost use Rattle.assume_laws.specs.Assume.{Assumption};
 ghost use Rattle.assume_queries.specs.assume_sequences.Assumed.{CanBeAssumed};
 ghost use Rattle.assume_queries.specs.assume_sequences.Filled.{bit_of};
 ghost use Rattle.sec_setup.specs.ports.Pairs.{places_of};
 ghost use Rattle.sec_setup.specs.Setup.{IsSetup};
 ghost use Rattle.reset_form.specs.reset_functions.Bases.{AreBases};
+ghost use Rattle.reset_form.specs.reset_functions.Pairs.{Unfolds};
 ghost use Rattle.reset_form.specs.reset_asked.Numbers.{numbered};
 ghost use Rattle.plain_check.specs.asked_under.reset_asked_under.Asked.{AreAskedUnder, CanBeDecided};
 ghost use Rattle.plain_check.specs.asked_under.reset_asked_under.Formed.{FormedUnder};
@@ -20,7 +21,7 @@ use assume_queries::assume_sequences::Premise;
 use obligations::{Decided, Obligation, decide_all, greatest_size, verdict_at};
 use reset_form::reset_asked::{ResetFindings, ask};
 use reset_form::reset_functions::{Bases, Functions, bases_of, unfold_pairs};
-use sec_base::{Bits, MAX_CONFLICTS, NoMemory};
+use sec_base::{Bits, MAX_CONFLICTS, MAX_WEIGHT, NoMemory};
 use sec_setup::Setup;
 use std::alloc::Global;
 
@@ -39,13 +40,34 @@ pub fn compare_reset_under(
     requires conflicts { conflicts ≤ MAX_CONFLICTS }
     ensures { FormedUnder setup.now premise.now conflicts result }
 {
-    setup.left.keeps();
-    setup.right.keeps();
     let bases = bases_of(setup)?;
     let mut functions = unfold_pairs(alloc, setup, bases)?;
+    compare_functions(alloc, setup, bases, &mut functions, premise, conflicts)
+}
+
+/// Compares the pairs by their functions, to whose graph and table those of the assumption are added.
+fn compare_functions(
+    alloc: Global,
+    setup: &Setup<'_>,
+    bases: Bases,
+    functions: &mut Functions,
+    premise: &Premise,
+    conflicts: u32,
+) -> Result<ResetFindings, CompareUnderError>
+    requires setup { IsSetup setup.now }
+    requires bases { AreBases setup.now bases }
+    requires unfolds { Unfolds setup.now bases (Ok functions.old) }
+    requires small { length functions.old.aig ≤ 2 * MAX_WEIGHT + 1 }
+    requires few { length functions.old.places ≤ 2 * MAX_WEIGHT }
+    requires premise { CanBeAssumed premise.now (length setup.now.columns) }
+    requires conflicts { conflicts ≤ MAX_CONFLICTS }
+    ensures { FormedUnder setup.now premise.now conflicts result }
+{
+    setup.left.keeps();
+    setup.right.keeps();
     functions.aig.keeps();
     functions.places.keeps();
-    let asked = ask(alloc, setup, bases, &functions)?;
+    let asked = ask(alloc, setup, bases, functions)?;
     let under = asked_under(
         alloc,
         VariableOrder::Cycles,
@@ -55,19 +77,17 @@ pub fn compare_reset_under(
         &mut functions.places,
         asked.as_slice(),
     )?;
-    match findings_under(
+    let findings = findings_under(
         alloc,
         setup,
         bases,
-        &functions,
+        functions,
         asked.as_slice(),
         under.as_slice(),
         &premise.meeting,
         conflicts,
-    ) {
-        Ok(findings) => Ok(findings),
-        Err(error) => Err(CompareUnderError::from(error)),
-    }
+    )?;
+    Ok(findings)
 }
 
 /// What is found of the pairs by what is asked of them without the assumption and under it.
