@@ -5,9 +5,7 @@ ghost use Rattle.aig.specs.lane_eval.root_classes.Inputs.{inputs_of};
 ghost use Rattle.swept_queries.specs.node_agreement.Answers.{IsAnswer, IsOutcome};
 
 use crate::node_agreement::table::{ask_table, is_light};
-use aig::lane_eval::root_classes::{
-    Aig, Bits, Ids, Lit, MAX_TABLE_VARIABLES, NoMemory, variables,
-};
+use aig::lane_eval::root_classes::{Aig, Bits, Ids, Lit, MAX_TABLE_VARIABLES, NoMemory, variables};
 use pair_decide::{Decision, Query, SameBy, decide};
 use std::alloc::Global;
 
