@@ -14,7 +14,7 @@ ghost use Rattle.edbf_unfold.specs.Care.{IsWithEnable, IsAndEnable, IsCareOf};
 use super::EventUnfolder;
 use crate::event_literals::{
     Aig, Driver, EventGraph, Lit, NoMemory, Place, PlaceTable, Signal, Ways, constant, latch_of,
-    short_or,
+    short_and,
 };
 
 /// The literal of an enable by those of its two functions: the one with the latch at 0, or not that with it at 1.
@@ -27,13 +27,10 @@ pub(super) fn enable_of(events: &mut EventGraph, low: Lit, high: Lit) -> Result<
     ensures grown { HasGrown events.old events.new 1 }
 {
     events.keeps();
-    let off = Aig::not(high);
-    if let Some(enable) = short_or(events.aig(), low, off) {
-        return Ok(enable);
-    }
-    let neither = events.and(Aig::not(low), Aig::not(off))?;
+    let (left, right) = short_and(events.aig(), Aig::not(low), high);
+    let hold = events.and(left, right)?;
     events.keeps();
-    Ok(Aig::not(neither))
+    Ok(Aig::not(hold))
 }
 
 impl<'a> EventUnfolder<'a> {
