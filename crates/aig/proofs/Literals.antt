@@ -36,3 +36,11 @@ flip-parity x = by (parity x)
     by : (x % 2 ≡ 0) ⊎ (x % 2 ≡ 1) → ((x % 2 ≡ 0) × (flip x % 2 ≡ 1)) ⊎ ((x % 2 ≡ 1) × (flip x % 2 ≡ 0))
     by (inl e) = inl (e, omega (arith, flip-even x e))
     by (inr e) = inr (e, omega (arith, flip-odd x e))
+
+-- the complement of the complement
+pub flip-twice : (x : ℕ) → flip (flip x) ≡ x
+flip-twice x = by (parity x)
+  where
+    by : (x % 2 ≡ 0) ⊎ (x % 2 ≡ 1) → flip (flip x) ≡ x
+    by (inl e) = let up : flip x ≡ x + 1 = flip-even x e in let odd : flip x % 2 ≡ 1 = omega (arith, up, e) in omega (arith, flip-odd (flip x) odd, up)
+    by (inr e) = let down : flip x ≡ x - 1 = flip-odd x e in let even : flip x % 2 ≡ 0 = omega (arith, down, e) in omega (arith, flip-even (flip x) even, down, e)

@@ -1,5 +1,5 @@
 //! What is built in a graph: a literal of another graph put into it, where the variables have other numbers, the or of two literals
-//! where the graph has it already, and the literals of places that were met.
+//! by two shorter ones, and the literals of places that were met.
 
 pub mod aig_or;
 mod copy;

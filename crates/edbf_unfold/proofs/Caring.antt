@@ -1,18 +1,22 @@
 -- The care of the places of a walk, place by place, while the graph grows.
-use Rattle.std.proofs.Common.{◌≡◌, ◌∙◌, ◌+◌, ◌*◌, ◌<◌, ℕ, true, false, List, [], ◌∷◌, ◌++◌, length, take, slice_get, Some, refl, sym, ap, subst, arith, inl, inr}
-use Rattle.std.specs.Prelude.{◌⊎◌}
-use Rattle.std.specs.List.{Contains}
-use Rattle.std.proofs.lemmas.List.{take_more}
+use Rattle.std.proofs.Common.{◌≡◌, ◌∙◌, ◌+◌, ◌*◌, ◌<◌, ℕ, suc, ◌≤◌, true, false, List, [], ◌∷◌, ◌++◌, length, take, slice_get, Some, Result, Ok, Err, refl, sym, ap, subst, arith, inl, inr}
+use Rattle.std.specs.Prelude.{◌⊎◌, IfOk}
+use Rattle.std.specs.List.{All, Contains}
+use Rattle.std.specs.List.Sorted.{IsPermutation}
+use Rattle.std.proofs.lemmas.List.{length-append, take_more}
 use Rattle.std.proofs.lemmas.List.Elements.{Contains-append_left, Contains-push, Contains-push_cases}
+use Rattle.std.proofs.lemmas.List.Sorted.{Contains-permutation, IsPermutation-sym}
 use Rattle.std.proofs.lemmas.Option.{slice_get_within, get_or_from_slice_get}
 use Rattle.circuit_theory.specs.Circuit.{IsLatch}
-use Rattle.circuit_theory.proofs.Lists.{Contains-head, Contains-tail, Contains-cases}
+use Rattle.base_tables.proofs.TableLemmas.{take-push}
+use Rattle.circuit_theory.proofs.Lists.{All-from_each, Contains-head, Contains-tail, Contains-cases}
 use Rattle.circuit_theory.specs.Frame.{NotPut}
 use Rattle.edbf_unfold.specs.event_literals.LatchAt.{LatchAt}
 use Rattle.edbf_unfold.specs.event_literals.View.{circuit_of}
 use Rattle.edbf_unfold.proofs.event_literals.Places.{one_at}
 use Rattle.event_nodes.specs.Lit.{Lit}
-use Rattle.event_nodes.specs.Graph.{flip}
+use Rattle.event_nodes.specs.Node.{Node}
+use Rattle.event_nodes.specs.Graph.{IsGraph, Grows, flip}
 use Rattle.event_nodes.specs.Rules.{IsAndOf}
 use Rattle.event_nodes.proofs.Growth.{Grows-length, IsAndOf-grows}
 use Rattle.event_nodes.proofs.Literals.{flip-within}
@@ -25,7 +29,7 @@ use Rattle.edbf_unfold.specs.declared.event_literals.event_walk.frames.Put.TheVa
 use Rattle.edbf_unfold.specs.declared.event_literals.event_walk.frames.Step.{Step}
 use Rattle.edbf_unfold.specs.event_literals.event_walk.Ready.{put_of, IsReadyBy}
 use Rattle.edbf_unfold.specs.event_literals.Known.{IsKnownAt, IsEnableLit, AreKnown, IsMet}
-use Rattle.edbf_unfold.specs.Care.{IsEnableOnward, IsHeldPlace, IsPlaceEnable, IsAndOfAll, IsCareOf, IsWithEnable, IsAndEnable}
+use Rattle.edbf_unfold.specs.Care.{IsEnableOnward, IsHeldPlace, IsPlaceEnable, IsAndOfAll, IsAndOfThese, IsCareOf, AreEnablesAt, HasEnable, IsEnableBy}
 use Rattle.edbf_unfold.proofs.event_literals.Known.{known_at_later}
 use Rattle.edbf_unfold.proofs.event_literals.OrStaying.{IsShortOr-grows}
 use Rattle.edbf_unfold.proofs.event_literals.Lits.{entry_known}
@@ -57,78 +61,137 @@ module _ (e : EventCircuitView) (w v : EventGraphView) (is : IsEventGraph w) (gr
   all_later (y ∷ ys) x h = (h.0, all_later ys h.0 h.1, IsAndOf-grows w.graph v.graph grows.graph h.0 y x h.2)
 
   module _ (same : v.children ≡ w.children) (frames : List Frame) where
-    place_later : (p : ℕ × ℕ) (lit : ℕ) → IsPlaceEnable e w frames p lit → IsPlaceEnable e v frames p lit
+    pub place_later : (p : ℕ × ℕ) (lit : ℕ) → IsPlaceEnable e w frames p lit → IsPlaceEnable e v frames p lit
     place_later p lit k = record {
       held = k.held;
       onward = subst (λ (es : List (ℕ × ℕ)). IsEnableOnward e v (path_of es k.held.frame.node) p.1 lit) (sym same) (onward_later (path_of w.children k.held.frame.node) p.1 lit k.onward);
     }
 
-    pub care_later : (places : List (ℕ × ℕ)) (lit : ℕ) → IsCareOf e w frames places lit → IsCareOf e v frames places lit
-    care_later places lit k = record {
-      enables = k.enables;
+    pub enables_later : (places : List (ℕ × ℕ)) (enables : List ℕ) → AreEnablesAt e w frames places enables → AreEnablesAt e v frames places enables
+    enables_later places enables k = record {
       each = λ y h. let p = k.each y h in (p.0, p.1, place_later p.0 y p.2);
       all = λ p h held. let y = k.all p h held in (y.0, y.1, place_later p y.0 y.2);
-      is = all_later k.enables lit k.is;
-      within = omega (arith, k.within, Grows-length w.graph v.graph grows.graph);
     }
 
--- no place: 1
-pub care_none : (e : EventCircuitView) (w : EventGraphView) (frames : List Frame) → IsEventGraph w → IsCareOf e w frames [] 1
-care_none e w frames is = record {
-  enables = [];
-  each = λ y h. absurd (omega (arith, h.1));
+-- no place has an enable
+pub enables_none : (e : EventCircuitView) (w : EventGraphView) (frames : List Frame) (enables : List ℕ) → enables ≡ [] → AreEnablesAt e w frames [] enables
+enables_none e w frames enables none = record {
+  each = λ y h. absurd (nothing_in y (subst (λ (ys : List ℕ). Contains ys y) none h));
   all = λ p h held. absurd (omega (arith, h.1));
-  is = refl;
-  within = let some = slice_get_within w.graph 0 _ is.is_graph.constant in omega (arith, some);
 }
+  where
+    nothing_in : (y : ℕ) → Contains [] y → ⊥
+    nothing_in y h = omega (arith, h.1)
 
 -- one place more
-pub care_push : (e : EventCircuitView) (w : EventGraphView) (frames : List Frame) (places : List (ℕ × ℕ)) (care : ℕ) (p : ℕ × ℕ) (lit : ℕ) → IsCareOf e w frames places care → IsWithEnable e w frames care p lit → IsCareOf e w frames (places ++ p ∷ []) lit
-care_push e w frames places care p lit k more = go more.is
+enables_push : (e : EventCircuitView) (w : EventGraphView) (frames : List Frame) (places : List (ℕ × ℕ)) (enables more : List ℕ) (p : ℕ × ℕ) → AreEnablesAt e w frames places enables → HasEnable e w frames enables p more → AreEnablesAt e w frames (places ++ p ∷ []) more
+enables_push e w frames places enables more p k has = go has
   where
     before : (q : ℕ × ℕ) → Contains places q → Contains (places ++ p ∷ []) q
     before q h = Contains-append_left places (p ∷ []) q h
 
-    go : ((IsHeldPlace e frames p → ⊥) × (lit ≡ care)) ⊎ ((y : ℕ) × IsPlaceEnable e w frames p y × IsAndOf w.graph care y lit) → IsCareOf e w frames (places ++ p ∷ []) lit
-    go (inl off) = record {
-      enables = k.enables;
+    go : HasEnable e w frames enables p more → AreEnablesAt e w frames (places ++ p ∷ []) more
+    go (inl off) = subst (AreEnablesAt e w frames (places ++ p ∷ [])) (sym off.1) (record {
       each = λ y h. let q = k.each y h in (q.0, before q.0 q.1, q.2);
       all = λ q h held. pick q held (Contains-push_cases places p q h);
-      is = subst (IsAndOfAll w.graph k.enables) (sym off.1) k.is;
-      within = more.within;
-    }
+    })
       where
-        pick : (q : ℕ × ℕ) → IsHeldPlace e frames q → Contains places q ⊎ (p ≡ q) → (y : ℕ) × Contains k.enables y × IsPlaceEnable e w frames q y
+        pick : (q : ℕ × ℕ) → IsHeldPlace e frames q → Contains places q ⊎ (p ≡ q) → (y : ℕ) × Contains enables y × IsPlaceEnable e w frames q y
         pick q held (inl h) = k.all q h held
         pick q held (inr same) = absurd (off.0 (subst (IsHeldPlace e frames) (sym same) held))
-    go (inr own) = record {
-      enables = own.0 ∷ k.enables;
-      each = λ y h. from y (Contains-cases own.0 y k.enables h);
+    go (inr own) = subst (AreEnablesAt e w frames (places ++ p ∷ [])) (sym own.2) (record {
+      each = λ y h. from y (Contains-push_cases enables own.0 y h);
       all = λ q h held. pick q held (Contains-push_cases places p q h);
-      is = (care, k.is, own.2);
-      within = more.within;
-    }
+    })
       where
-        from : (y : ℕ) → (own.0 ≡ y) ⊎ Contains k.enables y → (q : ℕ × ℕ) × Contains (places ++ p ∷ []) q × IsPlaceEnable e w frames q y
-        from y (inl same) = (p, Contains-push places p, subst (IsPlaceEnable e w frames p) same own.1)
-        from y (inr h) = let q = k.each y h in (q.0, before q.0 q.1, q.2)
+        from : (y : ℕ) → Contains enables y ⊎ (own.0 ≡ y) → (q : ℕ × ℕ) × Contains (places ++ p ∷ []) q × IsPlaceEnable e w frames q y
+        from y (inl h) = let q = k.each y h in (q.0, before q.0 q.1, q.2)
+        from y (inr same) = (p, Contains-push places p, subst (IsPlaceEnable e w frames p) same own.1)
 
-        pick : (q : ℕ × ℕ) → IsHeldPlace e frames q → Contains places q ⊎ (p ≡ q) → (y : ℕ) × Contains (own.0 ∷ k.enables) y × IsPlaceEnable e w frames q y
-        pick q held (inl h) = let y = k.all q h held in (y.0, Contains-tail own.0 y.0 k.enables y.1, y.2)
-        pick q held (inr same) = (own.0, Contains-head own.0 k.enables, subst (λ (r : ℕ × ℕ). IsPlaceEnable e w frames r own.0) same own.1)
+        pick : (q : ℕ × ℕ) → IsHeldPlace e frames q → Contains places q ⊎ (p ≡ q) → (y : ℕ) × Contains (enables ++ own.0 ∷ []) y × IsPlaceEnable e w frames q y
+        pick q held (inl h) = let y = k.all q h held in (y.0, Contains-append_left enables (own.0 ∷ []) y.0 y.1, y.2)
+        pick q held (inr same) = (own.0, Contains-push enables own.0, subst (λ (r : ℕ × ℕ). IsPlaceEnable e w frames r own.0) same own.1)
 
 -- the next place of a table
-pub care_next : (e : EventCircuitView) (w v : EventGraphView) → IsEventGraph w → GrowsEvents w v → v.children ≡ w.children → (frames : List Frame) (table : List (ℕ × ℕ)) (i care : ℕ) (p : ℕ × ℕ) (lit : ℕ) → slice_get table i ≡ Some p →
-    IsCareOf e w frames (take i table) care → IsWithEnable e v frames care p lit → IsCareOf e v frames (take (i + 1) table) lit
-care_next e w v is grows same frames table i care p lit here k more =
-    subst (λ (ps : List (ℕ × ℕ)). IsCareOf e v frames ps lit) (sym (next table i p here)) (care_push e v frames (take i table) care p lit (care_later e w v is grows same frames (take i table) care k) more)
+pub enables_next : (e : EventCircuitView) (w v : EventGraphView) → IsEventGraph w → GrowsEvents w v → v.children ≡ w.children → (frames : List Frame) (table : List (ℕ × ℕ)) (i : ℕ) (enables more : List ℕ) (p : ℕ × ℕ) → slice_get table i ≡ Some p →
+    AreEnablesAt e w frames (take i table) enables → HasEnable e v frames enables p more → AreEnablesAt e v frames (take (i + 1) table) more
+enables_next e w v is grows same frames table i enables more p here k has =
+    subst (λ (ps : List (ℕ × ℕ)). AreEnablesAt e v frames ps more) (sym (next table i p here)) (enables_push e v frames (take i table) enables more p (enables_later e w v is grows same frames (take i table) enables k) has)
   where
     next : (ps : List (ℕ × ℕ)) (n : ℕ) (q : ℕ × ℕ) → slice_get ps n ≡ Some q → take (n + 1) ps ≡ take n ps ++ q ∷ []
     next ps n q at = take_more ps n q (slice_get_within ps n q at) ∙ ap (λ (r : ℕ × ℕ). take n ps ++ r ∷ []) (get_or_from_slice_get ps n q q at)
 
--- a place whose latch is none, is put or isn't enabled changes nothing
-pub with_none : (e : EventCircuitView) (w : EventGraphView) (frames : List Frame) (care : ℕ) (p : ℕ × ℕ) → care < 2 * length w.graph → (IsHeldPlace e frames p → ⊥) → IsWithEnable e w frames care p care
-with_none e w frames care p within off = record { within = within; is = inl (off, refl) }
+-- at most one enable more
+pub has_few : (e : EventCircuitView) (w : EventGraphView) (frames : List Frame) (enables more : List ℕ) (p : ℕ × ℕ) → HasEnable e w frames enables p more → length more ≤ length enables + 1
+has_few e w frames enables more p (inl off) = omega (arith, ap length off.1)
+has_few e w frames enables more p (inr own) = omega (arith, ap length own.2, length-append enables (own.0 ∷ []))
+
+-- no literal is their and: 1
+pub and_none : (g : List Node) → IsGraph g → IsAndOfThese g [] 1
+and_none g graph = record { taken = []; each = λ y h. h; all = λ y h. h; is = refl; within = let some = slice_get_within g 0 _ graph.constant in omega (arith, some) }
+
+module _ (g : List Node) (lits : List ℕ) (i y : ℕ) (here : slice_get lits i ≡ Some y) where
+  -- one literal more
+  and_more : (h : List Node) → Grows g h → (x z : ℕ) → IsAndOfThese g (take i lits) x → IsAndOf h x y z → z < 2 * length h → IsAndOfThese h (take (i + 1) lits) z
+  and_more h grows x z k more within = subst (λ (ls : List ℕ). IsAndOfThese h ls z) (take-push lits i y here) (record {
+    taken = y ∷ k.taken;
+    each = λ u m. from u (Contains-cases y u k.taken m);
+    all = λ u m. onto u (Contains-push_cases (take i lits) y u m);
+    is = (x, all_grow k.taken x k.is, more);
+    within = within;
+  })
+    where
+      from : (u : ℕ) → (y ≡ u) ⊎ Contains k.taken u → Contains (take i lits ++ y ∷ []) u
+      from u (inl same) = subst (Contains (take i lits ++ y ∷ [])) same (Contains-push (take i lits) y)
+      from u (inr m) = Contains-append_left (take i lits) (y ∷ []) u (k.each u m)
+
+      onto : (u : ℕ) → Contains (take i lits) u ⊎ (y ≡ u) → Contains (y ∷ k.taken) u
+      onto u (inl m) = Contains-tail y u k.taken (k.all u m)
+      onto u (inr same) = subst (Contains (y ∷ k.taken)) same (Contains-head y k.taken)
+
+      all_grow : (ys : List ℕ) (u : ℕ) → IsAndOfAll g ys u → IsAndOfAll h ys u
+      all_grow [] u m = m
+      all_grow (v ∷ ys) u m = (m.0, all_grow ys m.0 m.1, IsAndOf-grows g h grows m.0 v u m.2)
+
+  pub and_made : {E : Type 0} (h : List Node) → Grows g h → (x : ℕ) (made : Result Lit E) → IsAndOfThese g (take i lits) x → IfOk made (λ z. IsAndOf h x y z.0) → IfOk made (λ z. z.0 < 2 * length h) → IfOk made (λ z. IsAndOfThese h (take (i + 1) lits) z.0)
+  and_made h grows x (Ok z) k more within = and_more h grows x z.0 k more within
+  and_made h grows x (Err e) k more within = tt
+
+  -- one that stood before
+  pub and_again : (x k : ℕ) → suc k ≡ i → slice_get lits k ≡ slice_get lits i → IsAndOfThese g (take i lits) x → IsAndOfThese g (take (i + 1) lits) x
+  and_again x k before same is = subst (λ (ls : List ℕ). IsAndOfThese g ls x) (take-push lits i y here) (record {
+    taken = is.taken;
+    each = λ u m. Contains-append_left (take i lits) (y ∷ []) u (is.each u m);
+    all = λ u m. onto u (Contains-push_cases (take i lits) y u m);
+    is = is.is;
+    within = is.within;
+  })
+    where
+      there : Contains (take i lits) y
+      there =
+          let one : k + 1 ≡ i = omega (arith, before) in
+          subst (λ (n : ℕ). Contains (take n lits) y) one (subst (λ (ls : List ℕ). Contains ls y) (take-push lits k y (same ∙ here)) (Contains-push (take k lits) y))
+
+      onto : (u : ℕ) → Contains (take i lits) u ⊎ (y ≡ u) → Contains is.taken u
+      onto u (inl m) = is.all u m
+      onto u (inr e) = subst (Contains is.taken) e (is.all y there)
+
+-- in another order, and as one and
+pub care_made : (e : EventCircuitView) (w v : EventGraphView) → IsEventGraph w → GrowsEvents w v → v.children ≡ w.children → (frames : List Frame) (places : List (ℕ × ℕ)) (enables ordered : List ℕ) (lit : ℕ) → AreEnablesAt e w frames places enables →
+    IsPermutation enables ordered → IsAndOfThese v.graph ordered lit → IsCareOf e v frames places lit
+care_made e w v is grows same frames places enables ordered lit k moved all =
+    let later = enables_later e w v is grows same frames places enables k in record {
+      enables = all.taken;
+      each = λ y h. later.each y (Contains-permutation ordered enables y (IsPermutation-sym enables ordered moved) (all.each y h));
+      all = λ p h held. let y = later.all p h held in (y.0, all.all y.0 (Contains-permutation enables ordered y.0 moved y.1), y.2);
+      is = all.is;
+      within = all.within;
+    }
+
+-- each enable is a literal of the graph
+pub enables_within : (e : EventCircuitView) (w : EventGraphView) (frames : List Frame) (places : List (ℕ × ℕ)) (enables ordered : List ℕ) → AreEnablesAt e w frames places enables → IsPermutation enables ordered → All (λ y. y < 2 * length w.graph) ordered
+enables_within e w frames places enables ordered k moved =
+    All-from_each (λ y. y < 2 * length w.graph) ordered (λ y h. (k.each y (Contains-permutation ordered enables y (IsPermutation-sym enables ordered moved) h)).2.onward.enable.within)
 
 -- a latch that is put isn't free
 pub put_not_free : (p : ℕ × ℕ) (f : Frame) (x : Lit) → ((f.put ≡ Low p.1) × (x.0 ≡ 0)) ⊎ ((f.put ≡ High p.1) × (x.0 ≡ 1)) → NotPut (put_of f.put) p.1 → ⊥
@@ -176,8 +239,8 @@ module _ (e : EventCircuitView) (w v : EventGraphView) (is : IsEventGraph v) (sa
       subst (λ (h : Frame). IsKnownAt e v (put_of put) l.next.0 ((side_of e).class step.signal ∷ path_of v.children h.node) x.0) frame_is
       (subst (λ (n : List ℕ). IsKnownAt e v (put_of put) l.next.0 n x.0) path (subst (λ (o : Put). IsKnownAt e v (put_of o) l.next.0 (path_of v.children g.node) x.0) put_is own))
 
-  pub with_own : (care lit : ℕ) → IsAndEnable memo v.graph care (step.onward, l.next.0) (step.high, l.next.0) lit → lit < 2 * length v.graph → IsWithEnable e v frames care (step.frame, step.signal) lit
-  with_own care lit k within = record { within = within; is = inr (k.enable, record { held = record { frame = f; at = at; free = free; enabled = enabled }; onward = own }, k.is) }
+  pub own_enable : (lit : ℕ) → IsEnableBy memo v.graph (step.onward, l.next.0) (step.high, l.next.0) lit → IsPlaceEnable e v frames (step.frame, step.signal) lit
+  own_enable lit k = record { held = record { frame = f; at = at; free = free; enabled = enabled }; onward = own }
     where
       onto : (g : Frame) × (slice_get frames step.onward ≡ Some g) × (g.put ≡ Low step.signal) × IsChild w.children ready.frame.node ((side_of e).class step.signal) g.node
       onto = let o = ready.onward l.name l.next.0 latch free_there in (o.0, o.1, low o.2.own, o.2.child)
@@ -192,7 +255,7 @@ module _ (e : EventCircuitView) (w v : EventGraphView) (is : IsEventGraph v) (sa
       high_known : IsKnownAt e v (Some (step.signal, true)) l.next.0 ((side_of e).class step.signal ∷ path_of v.children f.node) k.f1.0
       high_known = let o = ready.high l.name l.next.0 latch free_there enabled in at_child o.0 (High step.signal) step.high k.f1 o.1 o.2.1 o.2.0 k.high_met
 
-      own : IsEnableOnward e v (path_of v.children f.node) step.signal k.enable
+      own : IsEnableOnward e v (path_of v.children f.node) step.signal lit
       own = record {
         position = j;
         latch = l;

@@ -1,6 +1,6 @@
 -- The literal of the care of what a start reaches: the and of the enables of the enabled latches that are reached, each at the child by
 -- its class.
-use Rattle.std.specs.Prelude.{◌≡◌, ◌⊎◌, ℕ, ◌*◌, ◌<◌, List, [], ◌∷◌, length, slice_get, Some, Contains}
+use Rattle.std.specs.Prelude.{◌≡◌, ◌⊎◌, ℕ, ◌*◌, ◌<◌, List, [], ◌∷◌, ◌++◌, length, slice_get, Some, Contains}
 use Rattle.circuit_theory.specs.Frame.{NotPut, ReachedAt}
 use Rattle.circuit_theory.specs.EventSizes.{Start}
 use Rattle.edbf_unfold.specs.event_literals.LatchAt.{LatchAt}
@@ -51,21 +51,31 @@ pub record IsCareOf (e : EventCircuitView) (w : EventGraphView) (frames : List F
   pub is : IsAndOfAll w.graph enables lit
   pub within : lit < 2 * length w.graph
 
--- the literal is the care with that of one place more
-pub record IsWithEnable (e : EventCircuitView) (w : EventGraphView) (frames : List Frame) (care : ℕ) (p : ℕ × ℕ) (lit : ℕ) : Type 0 where
-  pub within : lit < 2 * length w.graph
-  pub is : ((IsHeldPlace e frames p → ⊥) × (lit ≡ care)) ⊎ ((y : ℕ) × IsPlaceEnable e w frames p y × IsAndOf w.graph care y lit)
+-- the literals are those of the enables of the enabled latches at these places
+pub record AreEnablesAt (e : EventCircuitView) (w : EventGraphView) (frames : List Frame) (places : List (ℕ × ℕ)) (enables : List ℕ) : Type 0 where
+  pub each : (y : ℕ) → Contains enables y → (p : ℕ × ℕ) × Contains places p × IsPlaceEnable e w frames p y
+  pub all : (p : ℕ × ℕ) → Contains places p → IsHeldPlace e frames p → (y : ℕ) × Contains enables y × IsPlaceEnable e w frames p y
 
--- the literal is the and of the care and of the enable whose two functions were met at these places
-pub record IsAndEnable (memo : List ((ℕ × ℕ) × Lit)) (g : List Node) (care : ℕ) (low high : ℕ × ℕ) (lit : ℕ) : Type 0 where
+-- the enable of one place more stands behind these, if its latch is an enabled one which isn't read as a constant
+abbrev pub HasEnable : EventCircuitView → EventGraphView → List Frame → List ℕ → ℕ × ℕ → List ℕ → Type 0
+HasEnable e w frames enables p more = ((IsHeldPlace e frames p → ⊥) × (more ≡ enables)) ⊎ ((y : ℕ) × IsPlaceEnable e w frames p y × (more ≡ enables ++ y ∷ []))
+
+-- the literal is that of the enable whose two functions were met at these places
+pub record IsEnableBy (memo : List ((ℕ × ℕ) × Lit)) (g : List Node) (low high : ℕ × ℕ) (lit : ℕ) : Type 0 where
   pub f0 : Lit
   pub f1 : Lit
-  pub enable : ℕ
   pub low_met : Contains memo (low, f0)
   pub high_met : Contains memo (high, f1)
-  pub or_is : IsShortOr g f0.0 (flip f1.0) enable
-  pub within : enable < 2 * length g
-  pub is : IsAndOf g care enable lit
+  pub or_is : IsShortOr g f0.0 (flip f1.0) lit
+  pub within : lit < 2 * length g
+
+-- the literal is the and of all these, in whatever order, each taken once or more often
+pub record IsAndOfThese (g : List Node) (lits : List ℕ) (x : ℕ) : Type 0 where
+  pub taken : List ℕ
+  pub each : (y : ℕ) → Contains taken y → Contains lits y
+  pub all : (y : ℕ) → Contains lits y → Contains taken y
+  pub is : IsAndOfAll g taken x
+  pub within : x < 2 * length g
 
 -- the literal is the care of what the start reaches
 pub record IsCareLit (e : EventCircuitView) (w : EventGraphView) (x : Start ℕ) (lit : ℕ) : Type 0 where

@@ -4,7 +4,7 @@
 mod builder;
 pub mod event_walk;
 
-pub use aig::graph_copy::aig_or::short_or;
+pub use aig::graph_copy::aig_or::short_and;
 pub use builder::{EventBuilder, Unfolding};
 pub use event_walk::{
     Aig, Counter, Driver, EventCircuit, EventGraph, EventUnfoldError, Frame, Ids, Lit, NoMemory,

@@ -1,4 +1,5 @@
 pub mod OrOperands
+pub mod OrKeeping
 pub mod OrValues
 pub mod OrStaying
 pub mod Deciding

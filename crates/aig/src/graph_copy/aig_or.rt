@@ -1,5 +1,5 @@
-//! The or of two literals of an and-inverter graph where the graph has a literal for it already, which hashing doesn't find.
+//! The or of two literals of an and-inverter graph by two shorter ones, so that ors of some common shapes are one literal.
 
-mod combine;
+mod restrict;
 
-pub use combine::short_or;
+pub use restrict::short_and;

@@ -31,7 +31,7 @@ use Rattle.event_nodes.specs.View.{Enabled}
 use Rattle.event_nodes.specs.Visited.{HoldsNodes}
 use Rattle.pair_decide.specs.Queries.{IsSame}
 use Rattle.edbf_unfold.specs.class_queries.Laws.{AreKept}
-use Rattle.edbf_unfold.specs.event_literals.ShortOr.{short_or, is_and, is_conjunct, operands}
+use Rattle.edbf_unfold.specs.event_literals.ShortOr.{short_and, one_and, under, restricted, with_sign, is_conjunct, operands, node_operands}
 use Rattle.event_form.specs.event_agreement.Queries.{AsksEventPair}
 use Rattle.event_form.specs.event_agreement.event_pairs.Functions.{IsEventFunction}
 use Rattle.event_form.specs.Functions.{IsFunctionOf, signal_start}
@@ -112,9 +112,9 @@ kept = record {
 }
 
 pub left_function : IsFunctionOf loads_a at_load 4 (over_load 10)
-unfolding flip place_lit simple_and short_or is_and is_conjunct operands
+unfolding flip place_lit simple_and short_and one_and under restricted with_sign is_conjunct operands node_operands
 left_function =
-    held.y_function load_cover same_cover load_sound same_sound refl refl holds_load loads_load 10 15 next_low next_high (omega arith) (omega arith) refl 10
+    held.y_function load_cover same_cover load_sound same_sound refl refl holds_load loads_load 10 15 next_low next_high (omega arith) (omega arith) (7, refl, refl) 10
     (10 ∷ [], (10, [], next_low, refl, refl), (10, (10, (10, (10, refl, refl), (11, refl, refl)), refl), refl))
     (omega arith)
   where
@@ -150,15 +150,15 @@ high_built = (
 )
 
 pub right_function : IsFunctionOf loads_not_a at_load 4 (over_load 13)
-unfolding flip place_lit simple_and short_or is_and is_conjunct operands
+unfolding flip place_lit simple_and short_and one_and under restricted with_sign is_conjunct operands node_operands
 right_function =
-    held.y_function load_not_cover not_cover load_not_sound not_sound refl refl holds_not loads_not 12 17 low_built high_built (omega arith) (omega arith) refl 13
+    held.y_function load_not_cover not_cover load_not_sound not_sound refl refl holds_not loads_not 12 17 low_built high_built (omega arith) (omega arith) (7, refl, refl) 13
     (12 ∷ [], (12, [], low_built, refl, refl), (13, (13, (13, (13, refl, refl), (12, refl, refl)), refl), refl))
     (omega arith)
 
 pub right_latch_function : IsFunctionOf loads_not_a at_load 2 (over_load 12)
-unfolding flip place_lit simple_and short_or is_and is_conjunct operands
-right_latch_function = held.latch_function load_not_cover not_cover load_not_sound not_sound refl refl holds_not loads_not 12 17 low_built high_built (omega arith) (omega arith) refl
+unfolding flip place_lit simple_and short_and one_and under restricted with_sign is_conjunct operands node_operands
+right_latch_function = held.latch_function load_not_cover not_cover load_not_sound not_sound refl refl holds_not loads_not 12 17 low_built high_built (omega arith) (omega arith) (7, refl, refl)
 
 pub left_nodes : HoldsNodes loads_a at_load.children (signal_start 4)
 left_nodes = held.nodes_made load_cover same_cover load_sound same_sound refl refl holds_load loads_load

@@ -1,14 +1,13 @@
 -- What the tests find out step by step.
-use Rattle.std.proofs.Common.{◌≡◌, ◌∙◌, ℕ, zero, suc, ◌+◌, ◌*◌, ◌<◌, ◌==◌, ◌||◌, Bool, true, false, List, length, Option, Some, None, refl, sym, ap, subst, arith}
-use Rattle.std.specs.Prelude.{option_map, IfSome}
-use Rattle.std.specs.Option.{option_or}
+use Rattle.std.proofs.Common.{◌≡◌, ◌∙◌, ℕ, zero, suc, ◌+◌, ◌*◌, ◌<◌, ◌==◌, ◌||◌, ◌&&◌, Bool, true, false, if◌then◌else◌, List, length, Option, Some, None, refl, sym, ap, subst, arith}
+use Rattle.std.specs.Prelude.{unwrap_or}
 use Rattle.std.proofs.lemmas.Bool.{false≢true}
 use Rattle.std.proofs.lemmas.Bool.Decides.{Decides-eqb}
 use Rattle.aig.specs.declared.node.Lit.{Lit}
 use Rattle.aig.specs.declared.node.Node.{Node}
-use Rattle.aig.specs.Graph.{IsGraph}
+use Rattle.aig.specs.Graph.{IsGraph, flip}
 use Rattle.aig.specs.Values.{value}
-use Rattle.aig.specs.graph_copy.aig_or.ShortOr.{operands, either, is_conjunct, combined, short_or}
+use Rattle.aig.specs.graph_copy.aig_or.ShortOr.{node_operands, operands, either, is_conjunct, by_operands, restricted, under, split_and, shorter_and, short_and}
 use Rattle.aig.proofs.graph_copy.aig_or.OrOperands.{passed}
 use Rattle.aig.proofs.graph_copy.aig_or.OrValues.{short_value}
 use Rattle.aig.proofs.graph_copy.aig_or.OrStaying.{short_within}
@@ -52,19 +51,58 @@ module _ (g : List Node) (e x : ℕ) where
       subst (λ (k : ℕ). either (is_conjunct g k e) o ≡ (x == e) || either (is_conjunct g steps e) (operands g x)) same
       (ap (either (is_conjunct g steps e)) are ∙ sym (ap (λ (b : Bool). b || either (is_conjunct g steps e) (operands g x)) (failed x e differ)))
 
-module _ (g : List Node) (x y : ℕ) where
-  pub short_first : (e : ℕ) → Some e ≡ combined g x (operands g y) → Some e ≡ short_or g x y
-  unfolding short_or
-  short_first e found = ap (λ (o : Option ℕ). option_or o (combined g y (operands g x))) found
+module _ (g : List Node) (a x : ℕ) where
+  pub restricted_ends : (steps : ℕ) → steps ≡ 0 → x ≡ restricted g steps a x
+  unfolding restricted
+  restricted_ends zero none = refl
+  restricted_ends (suc steps) none = absurd (omega (arith, none))
 
-  pub short_second : (o : Option ℕ) → None ≡ combined g x (operands g y) → o ≡ combined g y (operands g x) → o ≡ short_or g x y
-  unfolding short_or
-  short_second o none found = found ∙ ap (λ (p : Option ℕ). option_or p (combined g y (operands g x))) none
+  pub restricted_on : (steps : ℕ) → (steps ≡ 0 → ⊥) → true ≡ is_conjunct g 7 x a → 1 ≡ restricted g steps a x
+  unfolding restricted
+  restricted_on zero some on = absurd (some refl)
+  restricted_on (suc steps) some on = ap (λ (b : Bool). if b then 1 else if is_conjunct g 7 (flip x) a then 0 else by_operands (restricted g steps a) x (node_operands g x)) on
 
-  pub some_within : IsGraph g → (o : Option Lit) → option_map (λ k. k.0) o ≡ short_or g x y → IfSome o (λ k. k.0 < 2 * length g)
-  some_within graph None is = tt
-  some_within graph (Some k) is = short_within g graph x y k.0 (sym is)
+  pub restricted_off : (steps : ℕ) → (steps ≡ 0 → ⊥) → false ≡ is_conjunct g 7 x a → true ≡ is_conjunct g 7 (flip x) a → 0 ≡ restricted g steps a x
+  unfolding restricted
+  restricted_off zero some on off = absurd (some refl)
+  restricted_off (suc steps) some on off =
+      ap (λ (b : Bool). if b then 0 else by_operands (restricted g steps a) x (node_operands g x)) off
+      ∙ ap (λ (b : Bool). if b then 1 else if is_conjunct g 7 (flip x) a then 0 else by_operands (restricted g steps a) x (node_operands g x)) on
 
-  pub some_value : IsGraph g → (o : Option Lit) → option_map (λ k. k.0) o ≡ short_or g x y → IfSome o (λ k. (a : ℕ → Bool) → value g a k.0 ≡ (value g a x || value g a y))
-  some_value graph None is = tt
-  some_value graph (Some k) is = λ a. short_value g graph a x y k.0 (sym is)
+  -- one step down
+  pub restricted_under : (steps n : ℕ) → steps ≡ n + 1 → false ≡ is_conjunct g 7 x a → false ≡ is_conjunct g 7 (flip x) a → (o : Option (Lit × Lit)) → o ≡ node_operands g x → by_operands (restricted g n a) x o ≡ restricted g steps a x
+  unfolding restricted
+  restricted_under zero n one on off o are = absurd (omega (arith, one))
+  restricted_under (suc steps) n one on off o are =
+      let same : n ≡ steps = omega (arith, one) in
+      ap (by_operands (restricted g n a) x) are
+      ∙ (ap (λ (k : ℕ). by_operands (restricted g k a) x (node_operands g x)) same
+      ∙ (ap (λ (b : Bool). if b then 0 else by_operands (restricted g steps a) x (node_operands g x)) off
+      ∙ ap (λ (b : Bool). if b then 1 else if is_conjunct g 7 (flip x) a then 0 else by_operands (restricted g steps a) x (node_operands g x)) on))
+
+  pub under_on : restricted g 7 (flip x) (flip a) ≡ 1 → 1 ≡ under g a x
+  unfolding under
+  under_on on = ap (λ (b : Bool). if b then 1 else restricted g 7 a x) (sym ((Decides-eqb (restricted g 7 (flip x) (flip a)) 1).1 on))
+
+  pub under_else : (restricted g 7 (flip x) (flip a) ≡ 1 → ⊥) → restricted g 7 a x ≡ under g a x
+  unfolding under
+  under_else differ = ap (λ (b : Bool). if b then 1 else restricted g 7 a x) (sym (failed (restricted g 7 (flip x) (flip a)) 1 differ))
+
+module _ (g : List Node) (l r : ℕ) where
+  -- an operand of r, and the and of the other one and of l where r is 1
+  pub short_some : (m : ℕ) → m ≡ under g r l → (p : ℕ × ℕ) → Some p ≡ split_and g m (operands g r) → p ≡ short_and g l r
+  unfolding short_and
+  short_some m read p is = ap (λ (o : Option (ℕ × ℕ)). unwrap_or o (under g m r, under g (under g m r) m)) is ∙ ap (λ (k : ℕ). shorter_and g k r) read
+
+  pub short_none : (m : ℕ) → m ≡ under g r l → None ≡ split_and g m (operands g r) → (k j : ℕ) → k ≡ under g m r → j ≡ under g k m → (k, j) ≡ short_and g l r
+  unfolding short_and
+  short_none m read none k j left right =
+      ap (λ (y : ℕ). (k, y)) right ∙ (ap (λ (y : ℕ). (y, under g y m)) left
+      ∙ (ap (λ (o : Option (ℕ × ℕ)). unwrap_or o (under g m r, under g (under g m r) m)) none ∙ ap (λ (y : ℕ). shorter_and g y r) read))
+
+  module _ (graph : IsGraph g) (p : ℕ × ℕ) (are : p ≡ short_and g l r) where
+    pub pair_within : l < 2 * length g → r < 2 * length g → (p.0 < 2 * length g) × (p.1 < 2 * length g)
+    pair_within left right = subst (λ (q : ℕ × ℕ). (q.0 < 2 * length g) × (q.1 < 2 * length g)) (sym are) (short_within g graph l r left right)
+
+    pub pair_values : (a : ℕ → Bool) → (value g a p.0 && value g a p.1) ≡ (value g a l && value g a r)
+    pair_values a = subst (λ (q : ℕ × ℕ). (value g a q.0 && value g a q.1) ≡ (value g a l && value g a r)) (sym are) (short_value g graph a l r)

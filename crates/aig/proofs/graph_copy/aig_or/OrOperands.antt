@@ -1,5 +1,5 @@
 -- The operands of a literal stand in the graph.
-use Rattle.std.proofs.Common.{◌≡◌, ◌∙◌, ℕ, ◌*◌, ◌/◌, ◌%◌, ◌<◌, ◌==◌, ◌||◌, ◌&&◌, Bool, true, false, if◌then◌else◌, List, length, slice_get, Option, Some, None, refl, sym, ap, subst, inl, inr, arith}
+use Rattle.std.proofs.Common.{◌≡◌, ℕ, ◌*◌, ◌/◌, ◌%◌, ◌<◌, ◌==◌, ◌||◌, ◌&&◌, Bool, true, false, if◌then◌else◌, List, length, slice_get, Option, Some, None, refl, ap, inl, inr, arith}
 use Rattle.std.specs.Prelude.{◌⊎◌}
 use Rattle.std.proofs.lemmas.Bool.{false≢true}
 use Rattle.std.proofs.lemmas.Bool.Decides.{Decides-eqb}
@@ -8,7 +8,7 @@ use Rattle.aig.specs.declared.node.Lit.{Lit}
 use Rattle.aig.specs.declared.node.Node.{Node}
 use Rattle.aig.specs.declared.node.Node.TheVariants.{Constant, Input, And}
 use Rattle.aig.specs.Graph.{IsGraph, IsLitOf}
-use Rattle.aig.specs.graph_copy.aig_or.ShortOr.{operands_of, operands}
+use Rattle.aig.specs.graph_copy.aig_or.ShortOr.{operands_of, node_operands, operands}
 
 -- tests that passed
 pub passed : (m n : ℕ) → (m == n) ≡ true → m ≡ n
@@ -29,20 +29,25 @@ operands_node (Some (Input v)) l r e = absurd (none-some (l, r) e)
 operands_node (Some Constant) l r e = absurd (none-some (l, r) e)
 operands_node None l r e = absurd (none-some (l, r) e)
 
+pub node_at : (g : List Node) (x : ℕ) (l r : Lit) → node_operands g x ≡ Some (l, r) → slice_get g (x / 2) ≡ Some (And l r)
+unfolding node_operands
+node_at g x l r e = operands_node (slice_get g (x / 2)) l r e
+
 -- the literal is that of their and
 pub operands_lit : (g : List Node) (x : ℕ) (l r : Lit) → operands g x ≡ Some (l, r) → IsLitOf g (And l r) x
 unfolding operands
 operands_lit g x l r = by (x % 2 == 0) refl
   where
-    by : (b : Bool) → (x % 2 == 0) ≡ b → (if b then operands_of (slice_get g (x / 2)) else None) ≡ Some (l, r) → IsLitOf g (And l r) x
-    by true even e = (x / 2, (let h : x % 2 ≡ 0 = passed (x % 2) 0 even in omega arith), operands_node (slice_get g (x / 2)) l r e)
+    by : (b : Bool) → (x % 2 == 0) ≡ b → (if b then node_operands g x else None) ≡ Some (l, r) → IsLitOf g (And l r) x
+    by true even e = (x / 2, (let h : x % 2 ≡ 0 = passed (x % 2) 0 even in omega arith), node_at g x l r e)
     by false odd e = absurd (none-some (l, r) e)
 
-module _ (g : List Node) (graph : IsGraph g) (x : ℕ) (l r : Lit) (are : operands g x ≡ Some (l, r)) where
-  -- both are literals of nodes before it
-  pub operands_within : (l.0 < 2 * length g) × (r.0 < 2 * length g)
-  operands_within =
-      let lit = operands_lit g x l r are in
-      let above = graph.ordered lit.0 (And l r) lit.2 in
-      let inside = slice_get_within g lit.0 (And l r) lit.2 in
-      (omega (arith, above.0, above.1, inside), omega (arith, above.1, inside))
+-- the operands of a node are literals of nodes before it
+pub and_within : (g : List Node) → IsGraph g → (n : ℕ) (l r : Lit) → slice_get g n ≡ Some (And l r) → (l.0 < 2 * length g) × (r.0 < 2 * length g)
+and_within g graph n l r at =
+    let above = graph.ordered n (And l r) at in
+    let inside = slice_get_within g n (And l r) at in
+    (omega (arith, above.0, above.1, inside), omega (arith, above.1, inside))
+
+pub operands_within : (g : List Node) → IsGraph g → (x : ℕ) (l r : Lit) → operands g x ≡ Some (l, r) → (l.0 < 2 * length g) × (r.0 < 2 * length g)
+operands_within g graph x l r are = let lit = operands_lit g x l r are in and_within g graph lit.0 l r lit.2

@@ -1,75 +1,33 @@
--- The short literal is an operand of one of both, is one alone, and stays while the graph grows.
-use Rattle.std.proofs.Common.{◌≡◌, ◌∙◌, ℕ, zero, suc, ◌*◌, ◌/◌, ◌%◌, ◌<◌, ◌==◌, ◌||◌, ◌&&◌, Bool, true, false, if◌then◌else◌, List, length, get_or, slice_get, Option, Some, None, refl, sym, ap, subst, inl, inr, arith}
-use Rattle.std.specs.Prelude.{◌⊎◌}
+-- The shorter literals are literals of the graph, the literal of the or is one alone, and all stay while the graph grows.
+use Rattle.std.proofs.Common.{◌≡◌, ◌∙◌, ℕ, zero, suc, ◌*◌, ◌/◌, ◌%◌, ◌<◌, ◌==◌, ◌||◌, Bool, if◌then◌else◌, List, length, get_or, slice_get, Option, Some, None, refl, sym, ap, subst, arith}
+use Rattle.std.specs.Prelude.{option_map, unwrap_or}
 use Rattle.std.specs.Option.{option_or}
-use Rattle.std.proofs.lemmas.Option.{none-some, same_Some, slice_get_within, slice_get-get_or}
+use Rattle.std.proofs.lemmas.Option.{slice_get-get_or}
 use Rattle.aig.specs.declared.node.Lit.{Lit}
 use Rattle.aig.specs.declared.node.Node.{Node}
-use Rattle.aig.specs.declared.node.Node.TheVariants.{Constant, And}
-use Rattle.aig.specs.Graph.{IsGraph, IsLitOf, Grows, flip}
-use Rattle.aig.specs.Rules.{IsAndOf}
-use Rattle.aig.proofs.Growth.{slice_get-grows, IsOrOf-grows, IsOrOf-one}
-use Rattle.aig.specs.graph_copy.aig_or.ShortOr.{operands_of, operands, either, is_conjunct, are_both, is_and, combined, short_or, IsShortOrBy, IsShortOr}
-use Rattle.aig.proofs.graph_copy.aig_or.OrOperands.{operands_lit, operands_within}
+use Rattle.aig.specs.declared.node.Node.TheVariants.{Constant}
+use Rattle.aig.specs.Graph.{IsGraph, Grows, flip}
+use Rattle.aig.specs.Rules.{simple_and, IsAndOf}
+use Rattle.aig.proofs.Growth.{slice_get-grows, IsAndOf-grows, IsAndOf-one}
+use Rattle.aig.proofs.Literals.{flip-within}
+use Rattle.aig.specs.graph_copy.aig_or.ShortOr.{operands_of, node_operands, operands, either, is_conjunct, with_sign, by_operands, restricted, under, one_and, split_and, shorter_and, short_and, IsShortOr}
+use Rattle.aig.proofs.graph_copy.aig_or.OrOperands.{node_at, and_within, operands_within}
+use Rattle.aig.proofs.graph_copy.aig_or.OrKeeping.{within_kept, restricted_keeps, under_keeps, short_keeps}
 
--- an operand of the and that the literal stands for
-pub record IsOperand (g : List Node) (e x : ℕ) : Type 0 where
-  pub left : Lit
-  pub right : Lit
-  pub lit : IsLitOf g (And left right) x
-  pub one : (e ≡ left.0) ⊎ (e ≡ right.0)
+-- literals of the graph
+pub restricted_within : (g : List Node) → IsGraph g → (steps a x : ℕ) → x < 2 * length g → restricted g steps a x < 2 * length g
+restricted_within g graph steps a x h = restricted_keeps g (λ y. y < 2 * length g) (within_kept g graph) steps a x h
 
-combined_operand : (g : List Node) (x y e : ℕ) → combined g x (operands g y) ≡ Some e → IsOperand g e y
-combined_operand g x y e = by (operands g y) refl
-  where
-    second : (l r : Lit) → operands g y ≡ Some (l, r) → (b : Bool) → (if b then Some r.0 else None) ≡ Some e → IsOperand g e y
-    second l r are true same = record { left = l; right = r; lit = operands_lit g y l r are; one = inr (sym (same_Some r.0 e same)) }
-    second l r are false same = absurd (none-some e same)
+pub under_within : (g : List Node) → IsGraph g → (a x : ℕ) → x < 2 * length g → under g a x < 2 * length g
+under_within g graph a x h = under_keeps g (λ y. y < 2 * length g) (within_kept g graph) a x h
 
-    first : (l r : Lit) → operands g y ≡ Some (l, r) → (b : Bool) → (if b then Some l.0 else if is_and g r.0 (flip l.0) x then Some r.0 else None) ≡ Some e → IsOperand g e y
-    first l r are true same = record { left = l; right = r; lit = operands_lit g y l r are; one = inl (sym (same_Some l.0 e same)) }
-    first l r are false same = second l r are (is_and g r.0 (flip l.0) x) same
-
-    by : (o : Option (Lit × Lit)) → operands g y ≡ o → combined g x o ≡ Some e → IsOperand g e y
-    by None are same = absurd (none-some e same)
-    by (Some (l, r)) are same = first l r are (is_and g l.0 (flip r.0) x) same
-
-pub short_operand : (g : List Node) (x y e : ℕ) → short_or g x y ≡ Some e → IsOperand g e x ⊎ IsOperand g e y
-unfolding short_or
-short_operand g x y e = by (combined g x (operands g y)) refl
-  where
-    by : (o : Option ℕ) → combined g x (operands g y) ≡ o → option_or o (combined g y (operands g x)) ≡ Some e → IsOperand g e x ⊎ IsOperand g e y
-    by None none same = inl (combined_operand g y x e same)
-    by (Some k) own same = inr (subst (λ (n : ℕ). IsOperand g n y) (same_Some k e same) (combined_operand g x y k own))
-
--- it is a literal of the graph
-operand_within : (g : List Node) (e x : ℕ) → IsGraph g → IsOperand g e x → e < 2 * length g
-operand_within g e x graph k = go k.one
-  where
-    above : (k.left.0 < k.right.0) × (k.right.0 < 2 * k.lit.0)
-    above = graph.ordered k.lit.0 (And k.left k.right) k.lit.2
-
-    inside : k.lit.0 < length g
-    inside = slice_get_within g k.lit.0 (And k.left k.right) k.lit.2
-
-    go : (e ≡ k.left.0) ⊎ (e ≡ k.right.0) → e < 2 * length g
-    go (inl one) = omega (arith, one, above.0, above.1, inside)
-    go (inr one) = omega (arith, one, above.1, inside)
-
-pub short_within : (g : List Node) → IsGraph g → (x y e : ℕ) → short_or g x y ≡ Some e → e < 2 * length g
-short_within g graph x y e short = elim (short_operand g x y e short) [ inl k ↦ operand_within g e x graph k | inr k ↦ operand_within g e y graph k ]
+pub short_within : (g : List Node) → IsGraph g → (l r : ℕ) → l < 2 * length g → r < 2 * length g → ((short_and g l r).0 < 2 * length g) × ((short_and g l r).1 < 2 * length g)
+short_within g graph l r left right = short_keeps g (λ y. y < 2 * length g) (within_kept g graph) l r left right
 
 -- there is one literal
 pub IsShortOr-one : (g : List Node) → IsGraph g → (x y lit other : ℕ) → IsShortOr g x y lit → IsShortOr g x y other → lit ≡ other
-IsShortOr-one g graph x y lit other is also = by (short_or g x y) is also
-  where
-    by : (o : Option ℕ) → IsShortOrBy g x y o lit → IsShortOrBy g x y o other → lit ≡ other
-    by None p q = IsOrOf-one g graph x y lit other p q
-    by (Some e) p q = p ∙ sym q
-
--- the short literal, where there is one
-pub short_is : (g : List Node) (x y e : ℕ) → Some e ≡ short_or g x y → IsShortOr g x y e
-short_is g x y e short = subst (λ (o : Option ℕ). IsShortOrBy g x y o e) short refl
+IsShortOr-one g graph x y lit other (k, is, e) (m, also, f) =
+    e ∙ (ap flip (IsAndOf-one g graph (short_and g (flip x) (flip y)).0 (short_and g (flip x) (flip y)).1 k m is also) ∙ sym f)
 
 module _ (g h : List Node) (graph : IsGraph g) (grows : Grows g h) where
   same_node : (n : ℕ) → n < length g → slice_get h n ≡ slice_get g n
@@ -77,9 +35,13 @@ module _ (g h : List Node) (graph : IsGraph g) (grows : Grows g h) where
       let here = slice_get-get_or g n Constant inside in
       slice_get-grows g h grows n (get_or g n Constant) here ∙ sym here
 
+  node_grows : (x : ℕ) → x < 2 * length g → node_operands h x ≡ node_operands g x
+  unfolding node_operands
+  node_grows x inside = ap operands_of (same_node (x / 2) (omega arith))
+
   operands_grow : (x : ℕ) → x < 2 * length g → operands h x ≡ operands g x
   unfolding operands
-  operands_grow x inside = ap (λ (o : Option Node). if x % 2 == 0 then operands_of o else None) (same_node (x / 2) (omega arith))
+  operands_grow x inside = ap (λ (o : Option (Lit × Lit)). if x % 2 == 0 then o else None) (node_grows x inside)
 
   conjunct_grows : (steps e x : ℕ) → x < 2 * length g → is_conjunct h steps e x ≡ is_conjunct g steps e x
   unfolding is_conjunct
@@ -92,33 +54,63 @@ module _ (g h : List Node) (graph : IsGraph g) (grows : Grows g h) where
           let within = operands_within g graph x l r are in
           ap (λ (b : Bool). b || is_conjunct h steps e r.0) (lower l.0 within.0) ∙ ap (λ (b : Bool). is_conjunct g steps e l.0 || b) (lower r.0 within.1)
 
-  and_grows : (e z x : ℕ) → x < 2 * length g → is_and h e z x ≡ is_and g e z x
-  unfolding is_and
-  and_grows e z x inside =
-      ap (λ (b : Bool). ((x == z) && b) || are_both e z (operands h x)) (conjunct_grows 6 e x inside) ∙ ap (λ (o : Option (Lit × Lit)). ((x == z) && is_conjunct g 6 e x) || are_both e z o) (operands_grow x inside)
-
-  combined_grows : (x y : ℕ) → x < 2 * length g → y < 2 * length g → combined h x (operands h y) ≡ combined g x (operands g y)
-  combined_grows x y in_x in_y = ap (combined h x) (operands_grow y in_y) ∙ by (operands g y)
+  restricted_grows : (steps a x : ℕ) → a < 2 * length g → x < 2 * length g → restricted h steps a x ≡ restricted g steps a x
+  unfolding restricted
+  restricted_grows zero a x in_a in_x = refl
+  restricted_grows (suc steps) a x in_a in_x =
+      ap (λ (b : Bool). if b then 1 else if is_conjunct h 7 (flip x) a then 0 else by_operands (restricted h steps a) x (node_operands h x)) (conjunct_grows 7 x a in_a)
+      ∙ (ap (λ (b : Bool). if is_conjunct g 7 x a then 1 else if b then 0 else by_operands (restricted h steps a) x (node_operands h x)) (conjunct_grows 7 (flip x) a in_a)
+      ∙ ap (λ (y : ℕ). if is_conjunct g 7 x a then 1 else if is_conjunct g 7 (flip x) a then 0 else y)
+        (ap (by_operands (restricted h steps a) x) (node_grows x in_x) ∙ by (λ y. restricted_grows steps a y in_a) (node_operands g x) refl))
     where
-      by : (o : Option (Lit × Lit)) → combined h x o ≡ combined g x o
-      by None = refl
-      by (Some (l, r)) =
-          ap (λ (b : Bool). if b then Some l.0 else if is_and h r.0 (flip l.0) x then Some r.0 else None) (and_grows l.0 (flip r.0) x in_x)
-          ∙ ap (λ (b : Bool). if is_and g l.0 (flip r.0) x then Some l.0 else if b then Some r.0 else None) (and_grows r.0 (flip l.0) x in_x)
+      by : ((y : ℕ) → y < 2 * length g → restricted h steps a y ≡ restricted g steps a y) → (o : Option (Lit × Lit)) → node_operands g x ≡ o → by_operands (restricted h steps a) x o ≡ by_operands (restricted g steps a) x o
+      by lower None are = refl
+      by lower (Some (l, r)) are =
+          let within = and_within g graph (x / 2) l r (node_at g x l r are) in
+          ap (λ (y : ℕ). unwrap_or (option_map (with_sign x) (simple_and y (restricted h steps a r.0))) x) (lower l.0 within.0)
+          ∙ ap (λ (y : ℕ). unwrap_or (option_map (with_sign x) (simple_and (restricted g steps a l.0) y)) x) (lower r.0 within.1)
 
-  pub short_grows : (x y : ℕ) → x < 2 * length g → y < 2 * length g → short_or h x y ≡ short_or g x y
-  unfolding short_or
-  short_grows x y in_x in_y =
-      ap (λ (o : Option ℕ). option_or o (combined h y (operands h x))) (combined_grows x y in_x in_y) ∙ ap (λ (o : Option ℕ). option_or (combined g x (operands g y)) o) (combined_grows y x in_y in_x)
+  under_grows : (a x : ℕ) → a < 2 * length g → x < 2 * length g → under h a x ≡ under g a x
+  unfolding under
+  under_grows a x in_a in_x =
+      ap (λ (y : ℕ). if y == 1 then 1 else restricted h 7 a x) (restricted_grows 7 (flip x) (flip a) (flip-within x (length g) in_x) (flip-within a (length g) in_a))
+      ∙ ap (λ (y : ℕ). if restricted g 7 (flip x) (flip a) == 1 then 1 else y) (restricted_grows 7 a x in_a in_x)
+
+  -- a literal where a third one is 1, which is itself read where it is
+  again_grows : (l r : ℕ) → l < 2 * length g → r < 2 * length g → under h (under h l r) l ≡ under g (under g l r) l
+  again_grows l r in_l in_r = ap (λ (y : ℕ). under h y l) (under_grows l r in_l in_r) ∙ under_grows (under g l r) l (under_within g graph l r in_r) in_l
+
+  one_grows : (l r : ℕ) → l < 2 * length g → r < 2 * length g → one_and h l r ≡ one_and g l r
+  unfolding one_and
+  one_grows l r in_l in_r =
+      ap (λ (y : ℕ). if y == 1 then Some (under h l r) else None) (again_grows l r in_l in_r) ∙ ap (λ (y : ℕ). if under g (under g l r) l == 1 then Some y else None) (under_grows l r in_l in_r)
+
+  split_grows : (l r : ℕ) → l < 2 * length g → r < 2 * length g → split_and h l (operands h r) ≡ split_and g l (operands g r)
+  split_grows l r in_l in_r = ap (split_and h l) (operands_grow r in_r) ∙ by (operands g r) refl
+    where
+      by : (o : Option (Lit × Lit)) → operands g r ≡ o → split_and h l o ≡ split_and g l o
+      by None are = refl
+      by (Some (c, d)) are =
+          let within = operands_within g graph r c d are in
+          ap (λ (o : Option ℕ). option_or (option_map (λ x. (c.0, x)) o) (option_map (λ x. (d.0, x)) (one_and h l c.0))) (one_grows l d.0 in_l within.1)
+          ∙ ap (λ (o : Option ℕ). option_or (option_map (λ x. (c.0, x)) (one_and g l d.0)) (option_map (λ x. (d.0, x)) o)) (one_grows l c.0 in_l within.0)
+
+  shorter_grows : (l r : ℕ) → l < 2 * length g → r < 2 * length g → shorter_and h l r ≡ shorter_and g l r
+  shorter_grows l r in_l in_r =
+      ap (λ (o : Option (ℕ × ℕ)). unwrap_or o (under h l r, under h (under h l r) l)) (split_grows l r in_l in_r)
+      ∙ (ap (λ (y : ℕ). unwrap_or (split_and g l (operands g r)) (y, under h (under h l r) l)) (under_grows l r in_l in_r)
+      ∙ ap (λ (y : ℕ). unwrap_or (split_and g l (operands g r)) (under g l r, y)) (again_grows l r in_l in_r))
+
+  pub short_grows : (l r : ℕ) → l < 2 * length g → r < 2 * length g → short_and h l r ≡ short_and g l r
+  unfolding short_and
+  short_grows l r in_l in_r =
+      ap (λ (y : ℕ). shorter_and h y r) (under_grows r l in_r in_l) ∙ shorter_grows (under g r l) r (under_within g graph r l in_l) in_r
+
+  -- the one that is made of the shorter literals
+  pub made_is : (x y k lit : ℕ) → x < 2 * length g → y < 2 * length g → IsAndOf h (short_and g (flip x) (flip y)).0 (short_and g (flip x) (flip y)).1 k → lit ≡ flip k → IsShortOr h x y lit
+  made_is x y k lit in_x in_y is same =
+      (k, subst (λ (p : ℕ × ℕ). IsAndOf h p.0 p.1 k) (sym (short_grows (flip x) (flip y) (flip-within x (length g) in_x) (flip-within y (length g) in_y))) is, same)
 
   -- the literal stays
   pub IsShortOr-grows : (x y lit : ℕ) → x < 2 * length g → y < 2 * length g → IsShortOr g x y lit → IsShortOr h x y lit
-  IsShortOr-grows x y lit in_x in_y is = subst (λ (o : Option ℕ). IsShortOrBy h x y o lit) (sym (short_grows x y in_x in_y)) (by (short_or g x y) is)
-    where
-      by : (o : Option ℕ) → IsShortOrBy g x y o lit → IsShortOrBy h x y o lit
-      by None p = IsOrOf-grows g h grows x y lit p
-      by (Some e) p = p
-
-  -- the one that is made where there was none
-  pub made_is : (x y both lit : ℕ) → x < 2 * length g → y < 2 * length g → None ≡ short_or g x y → IsAndOf h (flip x) (flip y) both → lit ≡ flip both → IsShortOr h x y lit
-  made_is x y both lit in_x in_y none own same = subst (λ (o : Option ℕ). IsShortOrBy h x y o lit) (none ∙ sym (short_grows x y in_x in_y)) (both, own, same)
+  IsShortOr-grows x y lit in_x in_y (k, is, same) = made_is x y k lit in_x in_y (IsAndOf-grows g h grows (short_and g (flip x) (flip y)).0 (short_and g (flip x) (flip y)).1 k is) same

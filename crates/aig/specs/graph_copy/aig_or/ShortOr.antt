@@ -1,11 +1,11 @@
--- The or of two literals where the graph has a literal for it already, by the combining theorem: e and z, or e and not z, is e.
-use Rattle.std.specs.Prelude.{◌≡◌, ℕ, zero, suc, ◌/◌, ◌%◌, ◌==◌, ◌||◌, ◌&&◌, Bool, false, if◌then◌else◌, List, slice_get, Option, Some, None}
+-- The or of two literals, by two shorter ones: of what both have in common, what the one says already isn't asked of the other again.
+use Rattle.std.specs.Prelude.{◌≡◌, ℕ, zero, suc, ◌/◌, ◌%◌, ◌==◌, ◌||◌, Bool, false, if◌then◌else◌, List, slice_get, Option, Some, None, option_map, unwrap_or}
 use Rattle.std.specs.Option.{option_or}
 use Rattle.aig.specs.declared.node.Lit.{Lit}
 use Rattle.aig.specs.declared.node.Node.{Node}
 use Rattle.aig.specs.declared.node.Node.TheVariants.{Constant, Input, And}
 use Rattle.aig.specs.Graph.{flip}
-use Rattle.aig.specs.Rules.{IsOrOf}
+use Rattle.aig.specs.Rules.{simple_and, IsAndOf}
 
 -- the operands of a node that is an and
 abbrev pub operands_of : Option Node → Option (Lit × Lit)
@@ -14,9 +14,13 @@ operands_of (Some (Input v)) = None
 operands_of (Some Constant) = None
 operands_of None = None
 
+-- the operands of the literal's node
+unfoldable pub node_operands : List Node → ℕ → Option (Lit × Lit)
+node_operands g x = operands_of (slice_get g (x / 2))
+
 -- the operands of a literal that stands for an and, and not for its complement
 unfoldable pub operands : List Node → ℕ → Option (Lit × Lit)
-operands g x = if x % 2 == 0 then operands_of (slice_get g (x / 2)) else None
+operands g x = if x % 2 == 0 then node_operands g x else None
 
 -- one of both passes the test
 abbrev pub either : (ℕ → Bool) → Option (Lit × Lit) → Bool
@@ -28,29 +32,41 @@ unfoldable pub is_conjunct : List Node → ℕ → ℕ → ℕ → Bool
 is_conjunct g zero e x = x == e
 is_conjunct g (suc steps) e x = (x == e) || either (is_conjunct g steps e) (operands g x)
 
--- they are e and z
-abbrev pub are_both : ℕ → ℕ → Option (Lit × Lit) → Bool
-are_both e z None = false
-are_both e z (Some (l, r)) = ((l.0 == e) && (r.0 == z)) || ((l.0 == z) && (r.0 == e))
+-- y, or its complement where x is a complement
+unfoldable pub with_sign : ℕ → ℕ → ℕ
+with_sign x y = if x % 2 == 0 then y else flip y
 
--- x is the and of e and z: z itself, where e is a conjunct of it, or the literal of their node
-unfoldable pub is_and : List Node → ℕ → ℕ → ℕ → Bool
-is_and g e z x = ((x == z) && is_conjunct g 6 e x) || are_both e z (operands g x)
+-- the literal of x's node by its operands, read so: their and where that needs no node, or else x as it is
+abbrev pub by_operands : (ℕ → ℕ) → ℕ → Option (Lit × Lit) → ℕ
+by_operands read x None = x
+by_operands read x (Some (l, r)) = unwrap_or (option_map (with_sign x) (simple_and (read l.0) (read r.0))) x
 
--- e, if these are e and not z, and x is the and of e and z
-abbrev pub combined : List Node → ℕ → Option (Lit × Lit) → Option ℕ
-combined g x None = None
-combined g x (Some (l, r)) = if is_and g l.0 (flip r.0) x then Some l.0 else if is_and g r.0 (flip l.0) x then Some r.0 else None
+-- x restricted to where a is 1: 1 if it is a conjunct of a, 0 if its complement is, or else by its operands, so many steps down at most
+unfoldable pub restricted : List Node → ℕ → ℕ → ℕ → ℕ
+restricted g zero a x = x
+restricted g (suc steps) a x = if is_conjunct g 7 x a then 1 else if is_conjunct g 7 (flip x) a then 0 else by_operands (restricted g steps a) x (node_operands g x)
 
--- the literal of the or, where one is e and not z, and the other e and z
-unfoldable pub short_or : List Node → ℕ → ℕ → Option ℕ
-short_or g x y = option_or (combined g x (operands g y)) (combined g y (operands g x))
+-- x where a is 1: 1 also where a's complement is 1 wherever x's is
+unfoldable pub under : List Node → ℕ → ℕ → ℕ
+under g a x = if restricted g 7 (flip x) (flip a) == 1 then 1 else restricted g 7 a x
 
--- the short literal, or else the one that the graph makes
-abbrev pub IsShortOrBy : List Node → ℕ → ℕ → Option ℕ → ℕ → Type 0
-IsShortOrBy g x y None lit = IsOrOf g x y lit
-IsShortOrBy g x y (Some e) lit = lit ≡ e
+-- the and of l and r, if it is one literal: r where l is 1, if l is 1 wherever that is
+unfoldable pub one_and : List Node → ℕ → ℕ → Option ℕ
+one_and g l r = if under g (under g l r) l == 1 then Some (under g l r) else None
+
+-- an operand of r, and the and of l with the other one as one literal
+abbrev pub split_and : List Node → ℕ → Option (Lit × Lit) → Option (ℕ × ℕ)
+split_and g l None = None
+split_and g l (Some (c, d)) = option_or (option_map (λ x. (c.0, x)) (one_and g l d.0)) (option_map (λ x. (d.0, x)) (one_and g l c.0))
+
+-- the same, or else r where l is 1, and l where that is
+abbrev pub shorter_and : List Node → ℕ → ℕ → ℕ × ℕ
+shorter_and g l r = unwrap_or (split_and g l (operands g r)) (under g l r, under g (under g l r) l)
+
+-- two literals whose and is that of l and r
+unfoldable pub short_and : List Node → ℕ → ℕ → ℕ × ℕ
+short_and g l r = shorter_and g (under g r l) r
 
 -- the literal for x or y
 abbrev pub IsShortOr : List Node → ℕ → ℕ → ℕ → Type 0
-IsShortOr g x y lit = IsShortOrBy g x y (short_or g x y) lit
+IsShortOr g x y lit = (k : ℕ) × IsAndOf g (short_and g (flip x) (flip y)).0 (short_and g (flip x) (flip y)).1 k × (lit ≡ flip k)

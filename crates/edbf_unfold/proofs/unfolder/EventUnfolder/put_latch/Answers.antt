@@ -1,5 +1,5 @@
--- A latch that is put changes nothing, and an enabled one that isn't brings its enable, by its two functions.
-use Rattle.std.proofs.Common.{◌≡◌, ◌∙◌, ◌<◌, length, slice_get, Some, sym, ap, subst, rules}
+-- A latch that is put changes nothing, and an enabled one that isn't brings its enable, made of its two functions.
+use Rattle.std.proofs.Common.{◌≡◌, ◌∙◌, ◌<◌, length, slice_get, Some, refl, sym, ap, subst, inl, inr, rules}
 use Rattle.std.proofs.lemmas.Option.{slice_get_within}
 use Rattle.edbf_unfold.specs.event_literals.View.{NetView}
 use Rattle.event_nodes.specs.View.{EventCircuitView, Enabled}
@@ -7,11 +7,11 @@ use Rattle.event_nodes.proofs.flat_net.Drivers.{driven_latch, latch_out, latch_e
 use Rattle.circuit_theory.specs.Frame.{NotPut}
 use Rattle.edbf_unfold.specs.event_literals.event_walk.Ready.{put_of}
 use Rattle.edbf_unfold.specs.declared.event_literals.event_walk.frames.Step.{Step}
-use Rattle.edbf_unfold.proofs.Caring.{with_none, put_not_held, with_own, low_met, high_met}
+use Rattle.edbf_unfold.proofs.Caring.{put_not_held, own_enable, low_met, high_met}
 use Rattle.edbf_unfold.proofs.event_literals.Going.{are_known_later}
 use Rattle.edbf_unfold.proofs.event_literals.event_walk.Lent.{sound_of, latch_of_lent}
 use Rattle.edbf_unfold.proofs.event_literals.Lits.{grown_none}
-use Rattle.edbf_unfold.proofs.unfolder.EventUnfolder.with_latch.Goals as goal
+use Rattle.edbf_unfold.proofs.unfolder.EventUnfolder.put_latch.Goals as goal
 
 pub is_enabled-requires : goal.is_enabled-requires
 is_enabled-requires c =
@@ -29,11 +29,11 @@ latch_of-requires c =
     let l = driven_latch u.circuit.net sound c.args.place.1 c.args.j c.requires.latch in
     subst (λ (n : NetView). c.args.j < length n.latches) (sym (c.net.ensures ∙ ap (λ (e : EventCircuitView). e.net) c.circuit-circuit.ensures)) (slice_get_within u.circuit.net.latches c.args.j l.0 l.1)
 
-pub and_enable-requires-clause-within : goal.and_enable-requires-clause-within
-and_enable-requires-clause-within c = λ p x h. (c.requires.known p x h).3.within
+pub enable_by-requires-clause-within : goal.enable_by-requires-clause-within
+enable_by-requires-clause-within c = λ p x h. (c.requires.known p x h).3.within
 
-pub and_enable-requires-clause-low : goal.and_enable-requires-clause-low
-and_enable-requires-clause-low c =
+pub enable_by-requires-clause-low : goal.enable_by-requires-clause-low
+enable_by-requires-clause-low c =
     let u = c.args.self.now in
     let free : NotPut (put_of c.frame-frame.result.put) c.args.place.1 = search rules in
     let lent = c.circuit-circuit.result.now in
@@ -48,8 +48,8 @@ and_enable-requires-clause-low c =
     let step : Step = record { rank = 0; signal = c.args.place.1; frame = c.args.place.0; onward = c.args.ways.onward; high = c.args.ways.high } in
     low_met u.circuit u.frames c.args.events.now.children u.memo step c.requires.ready c.frame-frame.result c.frame-frame.ensures free m latch
 
-pub and_enable-requires-clause-high : goal.and_enable-requires-clause-high
-and_enable-requires-clause-high c =
+pub enable_by-requires-clause-high : goal.enable_by-requires-clause-high
+enable_by-requires-clause-high c =
     let u = c.args.self.now in
     let free : NotPut (put_of c.frame-frame.result.put) c.args.place.1 = search rules in
     let lent = c.circuit-circuit.result.now in
@@ -64,8 +64,8 @@ and_enable-requires-clause-high c =
     let step : Step = record { rank = 0; signal = c.args.place.1; frame = c.args.place.0; onward = c.args.ways.onward; high = c.args.ways.high } in
     high_met u.circuit u.frames c.args.events.now.children u.memo step c.requires.ready c.frame-frame.result c.frame-frame.ensures free m latch enabled
 
-pub returns-in_ok-lit-clause-here : goal.returns-in_ok-lit-clause-here
-returns-in_ok-lit-clause-here c =
+pub returns-in_ok-push-clause-here : goal.returns-in_ok-push-clause-here
+returns-in_ok-push-clause-here c =
     let u = c.args.self.now in
     let free : NotPut (put_of c.frame-frame.result.put) c.args.place.1 = search rules in
     let lent = c.circuit-circuit.result.now in
@@ -78,9 +78,13 @@ returns-in_ok-lit-clause-here c =
     let enabled : Enabled u.circuit c.args.place.1 = subst (Enabled u.circuit) out (subst (λ (e : EventCircuitView). Enabled e m.out.0) c.circuit-circuit.ensures
     (c.is_enabled.ensures.yes m (subst (λ (e : EventCircuitView). slice_get e.net.latches c.args.j ≡ Some m) (sym c.circuit-circuit.ensures) on_m) c.if-is_enabled.true)) in
     let step : Step = record { rank = 0; signal = c.args.place.1; frame = c.args.place.0; onward = c.args.ways.onward; high = c.args.ways.high } in
-    with_own u.circuit c.args.events.now c.and_enable.new.events c.keeps-then-is_enabled.ensures.events c.and_enable.ensures.grown.children u.frames u.memo
-    (are_known_later u.circuit c.args.events.now c.and_enable.new.events u.frames u.memo c.keeps-2.ensures.events c.and_enable.ensures.grown.grows c.requires.known) step c.requires.ready c.frame-frame.result c.frame-frame.ensures free c.args.j m on_m out latch enabled
-    c.args.care.0 c.in_ok-lit.lit.0 c.in_ok-lit.ensures.here c.in_ok-lit.ensures.within
+    inr (
+      c.in_ok-enable.enable.0,
+      own_enable u.circuit c.args.events.now c.enable_by.new.events c.keeps-then-is_enabled.ensures.events c.enable_by.ensures.grown.children u.frames u.memo
+          (are_known_later u.circuit c.args.events.now c.enable_by.new.events u.frames u.memo c.keeps-2.ensures.events c.enable_by.ensures.grown.grows c.requires.known) step c.requires.ready c.frame-frame.result c.frame-frame.ensures free c.args.j m on_m out latch enabled
+          c.in_ok-enable.enable.0 c.in_ok-enable.ensures.here,
+      c.in_ok-push.ensures.items,
+    )
 
 pub returns-else-is_enabled-clause-here : goal.returns-else-is_enabled-clause-here
 returns-else-is_enabled-clause-here c =
@@ -88,20 +92,18 @@ returns-else-is_enabled-clause-here c =
     let lent = c.circuit-circuit.result.now in
     let sound = sound_of u.circuit lent c.circuit-circuit.ensures c.keeps.ensures.sound in
     let l = driven_latch u.circuit.net sound c.args.place.1 c.args.j c.requires.latch in
-    with_none u.circuit c.args.events.now u.frames c.args.care.0 c.args.place c.requires.care
-    (λ held. c.is_enabled.ensures.no l.0 (subst (λ (e : EventCircuitView). slice_get e.net.latches c.args.j ≡ Some l.0) (sym c.circuit-circuit.ensures) l.1) c.if-is_enabled.false
-    (subst (λ (e : EventCircuitView). Enabled e l.0.out.0) (sym c.circuit-circuit.ensures) (subst (Enabled u.circuit) (sym l.2) held.enabled)))
+    inl (λ held. c.is_enabled.ensures.no l.0 (subst (λ (e : EventCircuitView). slice_get e.net.latches c.args.j ≡ Some l.0) (sym c.circuit-circuit.ensures) l.1) c.if-is_enabled.false
+    (subst (λ (e : EventCircuitView). Enabled e l.0.out.0) (sym c.circuit-circuit.ensures) (subst (Enabled u.circuit) (sym l.2) held.enabled)), refl)
 
 pub returns-in-Some-clause-here : goal.returns-in-Some-clause-here
 returns-in-Some-clause-here c =
-    with_none c.args.self.now.circuit c.args.events.now c.args.self.now.frames c.args.care.0 c.args.place c.requires.care
-    (put_not_held c.args.self.now.circuit c.args.self.now.frames c.args.place c.frame-frame.result c.frame-frame.ensures c.in-Some.field-0 c.in-Some.ensures.here)
+    inl (put_not_held c.args.self.now.circuit c.args.self.now.frames c.args.place c.frame-frame.result c.frame-frame.ensures c.in-Some.field-0 c.in-Some.ensures.here, refl)
 
 pub frame-frame-requires : goal.frame-frame-requires
 frame-frame-requires c = slice_get_within c.args.self.now.frames c.args.place.0 c.requires.ready.frame c.requires.ready.at
 
 pub returns-else-is_enabled-clause-grown : goal.returns-else-is_enabled-clause-grown
-returns-else-is_enabled-clause-grown c = grown_none c.args.events.now 2
+returns-else-is_enabled-clause-grown c = grown_none c.args.events.now 1
 
 pub returns-in-Some-clause-grown : goal.returns-in-Some-clause-grown
-returns-in-Some-clause-grown c = grown_none c.args.events.now 2
+returns-in-Some-clause-grown c = grown_none c.args.events.now 1

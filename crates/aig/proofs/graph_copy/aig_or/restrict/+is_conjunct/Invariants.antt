@@ -1,5 +1,5 @@
 -- Each step goes down.
-use Rattle.aig.proofs.graph_copy.aig_or.combine.+is_conjunct.Given as goal
+use Rattle.aig.proofs.graph_copy.aig_or.restrict.+is_conjunct.Given as goal
 
 abbrev pub decreases-is_conjunct : goal.decreases-is_conjunct
 decreases-is_conjunct l = l.steps

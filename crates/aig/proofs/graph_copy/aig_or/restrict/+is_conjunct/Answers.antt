@@ -1,8 +1,8 @@
 -- The literal itself, or a step down by either operand.
-use Rattle.std.proofs.Common.{◌≡◌, ◌∙◌, ◌-◌, Some, None, arith}
+use Rattle.std.proofs.Common.{◌∙◌, ◌-◌, Some, None, arith}
 use Rattle.aig.specs.graph_copy.aig_or.ShortOr.{is_conjunct}
 use Rattle.aig.proofs.graph_copy.aig_or.Deciding.{or_first, or_second, conjunct_itself, conjunct_ends, conjunct_under}
-use Rattle.aig.proofs.graph_copy.aig_or.combine.+is_conjunct.Goals as goal
+use Rattle.aig.proofs.graph_copy.aig_or.restrict.+is_conjunct.Goals as goal
 
 pub returns-then-x-e : goal.returns-then-x-e
 returns-then-x-e t c = conjunct_itself c.args.graph.now c.args.e.0 c.args.x.0 c.args.steps (omega arith)
