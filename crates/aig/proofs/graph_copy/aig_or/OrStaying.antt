@@ -61,7 +61,7 @@ module _ (g h : List Node) (graph : IsGraph g) (grows : Grows g h) where
       ap (λ (b : Bool). if b then 1 else if is_conjunct h 7 (flip x) a then 0 else by_operands (restricted h steps a) x (node_operands h x)) (conjunct_grows 7 x a in_a)
       ∙ (ap (λ (b : Bool). if is_conjunct g 7 x a then 1 else if b then 0 else by_operands (restricted h steps a) x (node_operands h x)) (conjunct_grows 7 (flip x) a in_a)
       ∙ ap (λ (y : ℕ). if is_conjunct g 7 x a then 1 else if is_conjunct g 7 (flip x) a then 0 else y)
-        (ap (by_operands (restricted h steps a) x) (node_grows x in_x) ∙ by (λ y. restricted_grows steps a y in_a) (node_operands g x) refl))
+      (ap (by_operands (restricted h steps a) x) (node_grows x in_x) ∙ by (λ y. restricted_grows steps a y in_a) (node_operands g x) refl))
     where
       by : ((y : ℕ) → y < 2 * length g → restricted h steps a y ≡ restricted g steps a y) → (o : Option (Lit × Lit)) → node_operands g x ≡ o → by_operands (restricted h steps a) x o ≡ by_operands (restricted g steps a) x o
       by lower None are = refl

@@ -95,7 +95,11 @@ fn restricted(graph: &Aig, steps: u32, a: Lit, x: Lit) -> Lit
         return Lit::FALSE;
     }
     match node_operands(graph, x) {
-        Some((l, r)) => joined(x, restricted(graph, steps - 1, a, l), restricted(graph, steps - 1, a, r)),
+        Some((l, r)) => joined(
+            x,
+            restricted(graph, steps - 1, a, l),
+            restricted(graph, steps - 1, a, r),
+        ),
         None => x,
     }
 }
@@ -115,11 +119,7 @@ fn joined(x: Lit, l: Lit, r: Lit) -> Lit
 fn with_sign(x: Lit, y: Lit) -> Lit
     ensures { result.0 ≡ with_sign x.0 y.0 }
 {
-    if x.is_complement() {
-        Aig::not(y)
-    } else {
-        y
-    }
+    if x.is_complement() { Aig::not(y) } else { y }
 }
 
 /// Whether e is a conjunct of x: x itself, or one of an operand, so many steps down at most.

@@ -23,7 +23,7 @@ returns-in-Some t c =
     ∙ (ap (λ (y : ℕ). unwrap_or (option_map (with_sign c.args.x.0) (simple_and y c.restricted-in-Some.result.0)) c.args.x.0) c.restricted.ensures
     ∙ (ap (λ (y : ℕ). unwrap_or (option_map (with_sign c.args.x.0) (simple_and (restricted c.args.graph.now (c.args.steps - 1) c.args.a.0 c.in-Some.l.0) y)) c.args.x.0) c.restricted-in-Some.ensures
     ∙ restricted_under c.args.graph.now c.args.a.0 c.args.x.0 c.args.steps (c.args.steps - 1) (omega arith) (sym c.if-is_conjunct.false ∙ c.is_conjunct.ensures)
-      (sym c.if-is_conjunct-2.false ∙ (c.is_conjunct-2.ensures ∙ ap (λ (y : ℕ). is_conjunct c.args.graph.now 7 y c.args.a.0) c.not.ensures.literal)) (Some (c.in-Some.l, c.in-Some.r)) c.in-Some.ensures.operands))
+    (sym c.if-is_conjunct-2.false ∙ (c.is_conjunct-2.ensures ∙ ap (λ (y : ℕ). is_conjunct c.args.graph.now 7 y c.args.a.0) c.not.ensures.literal)) (Some (c.in-Some.l, c.in-Some.r)) c.in-Some.ensures.operands))
 
 pub returns-in-None : goal.returns-in-None
 returns-in-None t c =

@@ -21,8 +21,8 @@ pub returns-clause-literal : goal.returns-clause-literal
 returns-clause-literal c =
     c.restricted-2.ensures
     ∙ under_else c.args.graph.now c.args.a.0 c.args.x.0
-      (λ same. c.if-restricted-eq1.false
-      (c.restricted.ensures ∙ (ap (λ (y : ℕ). restricted c.args.graph.now 7 c.not.result.0 y) c.not-2.ensures.literal ∙ (ap (λ (y : ℕ). restricted c.args.graph.now 7 y (flip c.args.a.0)) c.not.ensures.literal ∙ same))))
+    (λ same. c.if-restricted-eq1.false
+    (c.restricted.ensures ∙ (ap (λ (y : ℕ). restricted c.args.graph.now 7 c.not.result.0 y) c.not-2.ensures.literal ∙ (ap (λ (y : ℕ). restricted c.args.graph.now 7 y (flip c.args.a.0)) c.not.ensures.literal ∙ same))))
 
 pub returns-clause-within : goal.returns-clause-within
 returns-clause-within c = subst (λ (y : ℕ). y < 2 * length c.args.graph.now) (sym c.restricted-2.ensures) (restricted_within c.args.graph.now c.keeps.ensures.graph 7 c.args.a.0 c.args.x.0 c.requires.x)
