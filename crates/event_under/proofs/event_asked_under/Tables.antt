@@ -3,9 +3,8 @@ use Rattle.std.proofs.Common.{◌≡◌, ◌∙◌, ℕ, ◌+◌, ◌≤◌, Lis
 use Rattle.std.specs.List.{Contains}
 use Rattle.std.proofs.lemmas.List.{map-append}
 use Rattle.std.proofs.lemmas.Option.{get_or_from_slice_get}
-use Rattle.circuit_theory.proofs.Lists.{Contains-map_from, at_of, map_at}
+use Rattle.circuit_theory.proofs.Lists.{Contains-map_from, at_of}
 use Rattle.flat_net.proofs.Places.{All-at}
-use Rattle.base_tables.specs.Table.{AreDistinct}
 use Rattle.base_tables.proofs.TableLemmas.{slice_get-take, take-push}
 use Rattle.event_nodes.specs.Nodes.{EventGraphView, IsEventGraph}
 use Rattle.event_nodes.specs.event_variables.ranked_nodes.Named.{ranked_in}

@@ -3,14 +3,14 @@ use Rattle.std.proofs.Common.{◌≡◌, ◌∙◌, ℕ, ◌<◌, ◌≤◌, Boo
 use Rattle.std.specs.List.{AllPairs}
 use Rattle.std.proofs.lemmas.Option.{slice_get-get_or, get_or_from_slice_get}
 use Rattle.circuit_theory.specs.Query.{Variable}
-use Rattle.circuit_theory.proofs.Lists.{map_at, length-map}
+use Rattle.circuit_theory.proofs.Lists.{map_at}
 use Rattle.circuit_theory.proofs.Numbers.{slice_get-map}
 use Rattle.circuit_theory.specs.Frame.{NodeBefore}
 use Rattle.flat_net.proofs.Places.{All-at}
 use Rattle.circuit_laws.specs.reset_laws.Reset.{CycleBefore}
 use Rattle.cbf_unfold.specs.unfold_places.Growing.{TakesBits}
 use Rattle.cbf_unfold.specs.unfold_places.Reach.{Adds}
-use Rattle.cbf_unfold.proofs.unfold_places.Lists.{adds_at, adds_length}
+use Rattle.cbf_unfold.proofs.unfold_places.Lists.{adds_at}
 use Rattle.cbf_unfold.specs.shift_variables.Variables.{variable_of}
 use Rattle.cbf_unfold.proofs.shift_variables.Reading.{pair_is}
 use Rattle.cbf_unfold.specs.shift_variables.query_places.Places.{place_of}

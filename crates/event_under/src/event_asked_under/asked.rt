@@ -74,11 +74,16 @@ pub fn ask_under(
 {
     events.keeps();
     let ranked = ranks_of(alloc, events)?;
-    let mut places = ranked_places(alloc, events, ranked.ranks.as_slice())?;
+    let places = ranked_places(alloc, events, ranked.ranks.as_slice())?;
     let copy = copy_graph(alloc, events.aig())?;
     let GraphCopy { aig, lits } = copy;
-    let mut aig = aig;
-    if !is_small(&aig, &places) {
+    let mut questions = EventQuestions {
+        aig,
+        places,
+        ranked,
+        asked: Vec::new(alloc),
+    };
+    if !is_small(&questions.aig, &questions.places) {
         return Err(UnderError::NoMemory);
     }
     let under = asked_under(
@@ -86,19 +91,21 @@ pub fn ask_under(
         VariableOrder::Cycles,
         own,
         weight,
-        &mut aig,
-        &mut places,
+        &mut questions.aig,
+        &mut questions.places,
         asked,
     )?;
-    let asked = with_sides(alloc, &mut aig, lits.as_slice(), asked, under.as_slice())?;
-    aig.keeps();
-    places.keeps();
-    Ok(EventQuestions {
-        aig,
-        places,
-        ranked,
+    let made = with_sides(
+        alloc,
+        &mut questions.aig,
+        lits.as_slice(),
         asked,
-    })
+        under.as_slice(),
+    )?;
+    questions.asked = made;
+    questions.aig.keeps();
+    questions.places.keeps();
+    Ok(questions)
 }
 
 /// Whether an assumption can be asked over the graph and the table.

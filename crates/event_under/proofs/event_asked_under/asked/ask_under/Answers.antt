@@ -75,11 +75,11 @@ returns-clause-under c = λ n inputs s size own assumes a b cut pairs kept are.
     let start : c.in_ok-places.places ≡ ranked_in r.ranks.items w.places = c.in_ok-places.ensures ∙ ap (λ (ranks : List ℕ). ranked_in ranks w.places) c.as_slice.ensures.value in
     let adds : Adds (λ p. Unit {0}) (ranked_in r.ranks.items w.places) table = subst (λ (t : List (ℕ × ℕ)). Adds (λ p. Unit {0}) t table) start c.in_ok-under.ensures.adds in
     let twins : AreTwins w.graph f lits = subst (λ (g : List Node). AreTwins g f lits) c.aig.ensures c.in_ok-copy.ensures.twins in
-    let sides : AreWithSides lits h asked made c.in_ok-asked.asked.items =
-    subst (λ (us : List Obligation). AreWithSides lits h asked us c.in_ok-asked.asked.items) c.as_slice-3.ensures.value
-    (subst (λ (ls : List Lit). AreWithSides ls h asked c.as_slice-3.result.now c.in_ok-asked.asked.items) c.as_slice-2.ensures.value c.in_ok-asked.ensures.made) in
-    all_asked (assumption_of n inputs s) a b w kept r c.in_ok-ranked.ensures table adds f c.asked_under.new.aig h lits c.keeps-2.ensures.graph c.in_ok-under.ensures.grows c.in_ok-asked.ensures.grows twins (c.in_ok-copy.ensures.each ∙ ap length c.aig.ensures) cut pairs asked made
-    c.in_ok-asked.asked.items are (c.in_ok-under.ensures.under n inputs s size own assumes) sides
+    let sides : AreWithSides lits h asked made c.in_ok-made.made.items =
+    subst (λ (us : List Obligation). AreWithSides lits h asked us c.in_ok-made.made.items) c.as_slice-3.ensures.value
+    (subst (λ (ls : List Lit). AreWithSides ls h asked c.as_slice-3.result.now c.in_ok-made.made.items) c.as_slice-2.ensures.value c.in_ok-made.ensures.made) in
+    all_asked (assumption_of n inputs s) a b w kept r c.in_ok-ranked.ensures table adds f c.asked_under.new.aig h lits c.keeps-2.ensures.graph c.in_ok-under.ensures.grows c.in_ok-made.ensures.grows twins (c.in_ok-copy.ensures.each ∙ ap length c.aig.ensures) cut pairs asked made
+    c.in_ok-made.made.items are (c.in_ok-under.ensures.under n inputs s size own assumes) sides
 
 pub returns-clause-distinct : goal.returns-clause-distinct
 returns-clause-distinct c = named_apart c.args.events.now.children c.in_ok-ranked.ranked c.in_ok-ranked.ensures c.keeps.ensures.events.is_tree c.keeps.ensures.events.once c.asked_under.new.table c.keeps-3.ensures
