@@ -149,12 +149,7 @@ fn and_all(events: &mut EventGraph, lits: &[u32]) -> Result<Lit, NoMemory>
 }
 
 /// The and of those before this place, and of the literal there.
-fn and_next(
-    events: &mut EventGraph,
-    care: Lit,
-    lits: &[u32],
-    i: usize,
-) -> Result<Lit, NoMemory>
+fn and_next(events: &mut EventGraph, care: Lit, lits: &[u32], i: usize) -> Result<Lit, NoMemory>
     requires place { i < length lits.now }
     requires within { All (λ y. y < 2 * length events.old.graph) lits.now }
     requires before { IsAndOfThese events.old.graph (take i lits.now) care.0 }

@@ -15,11 +15,14 @@ put_latch-requires-clause-latch c =
 
 pub returns-in_default-clause-here : goal.returns-in_default-clause-here
 returns-in_default-clause-here c =
-    inl (λ held.
-    let sound = sound_of c.args.self.now.circuit c.circuit-circuit.result.now c.circuit-circuit.ensures c.keeps.ensures.sound in
-    let on = held.enabled in
-    let o = latch_of_equation c.args.self.now.circuit.net sound on.name c.args.place.1 on.next on.latch in
-    c.in_default.not-Latch o.j (one_at c.args.self.now.circuit.net.drivers c.args.place.1 c.driver.result (driver.Latch o.j) (subst (λ (n : NetView). slice_get n.drivers c.args.place.1 ≡ Some c.driver.result) (c.net.ensures ∙ ap (λ (e : EventCircuitView). e.net) c.circuit-circuit.ensures) c.driver.ensures) o.owner), refl)
+    inl (
+      λ held.
+          let sound = sound_of c.args.self.now.circuit c.circuit-circuit.result.now c.circuit-circuit.ensures c.keeps.ensures.sound in
+          let on = held.enabled in
+          let o = latch_of_equation c.args.self.now.circuit.net sound on.name c.args.place.1 on.next on.latch in
+          c.in_default.not-Latch o.j (one_at c.args.self.now.circuit.net.drivers c.args.place.1 c.driver.result (driver.Latch o.j) (subst (λ (n : NetView). slice_get n.drivers c.args.place.1 ≡ Some c.driver.result) (c.net.ensures ∙ ap (λ (e : EventCircuitView). e.net) c.circuit-circuit.ensures) c.driver.ensures) o.owner),
+      refl,
+    )
 
 pub returns-in_default-clause-grown : goal.returns-in_default-clause-grown
 returns-in_default-clause-grown c = grown_none c.args.events.now 1

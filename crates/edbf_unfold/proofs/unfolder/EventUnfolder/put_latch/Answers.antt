@@ -92,8 +92,11 @@ returns-else-is_enabled-clause-here c =
     let lent = c.circuit-circuit.result.now in
     let sound = sound_of u.circuit lent c.circuit-circuit.ensures c.keeps.ensures.sound in
     let l = driven_latch u.circuit.net sound c.args.place.1 c.args.j c.requires.latch in
-    inl (λ held. c.is_enabled.ensures.no l.0 (subst (λ (e : EventCircuitView). slice_get e.net.latches c.args.j ≡ Some l.0) (sym c.circuit-circuit.ensures) l.1) c.if-is_enabled.false
-    (subst (λ (e : EventCircuitView). Enabled e l.0.out.0) (sym c.circuit-circuit.ensures) (subst (Enabled u.circuit) (sym l.2) held.enabled)), refl)
+    inl (
+      λ held. c.is_enabled.ensures.no l.0 (subst (λ (e : EventCircuitView). slice_get e.net.latches c.args.j ≡ Some l.0) (sym c.circuit-circuit.ensures) l.1) c.if-is_enabled.false
+          (subst (λ (e : EventCircuitView). Enabled e l.0.out.0) (sym c.circuit-circuit.ensures) (subst (Enabled u.circuit) (sym l.2) held.enabled)),
+      refl,
+    )
 
 pub returns-in-Some-clause-here : goal.returns-in-Some-clause-here
 returns-in-Some-clause-here c =
