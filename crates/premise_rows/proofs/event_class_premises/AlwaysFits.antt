@@ -29,7 +29,7 @@ use Rattle.edbf_unfold.specs.Care.{IsCareLit}
 use Rattle.edbf_unfold.specs.class_queries.Enables.{both_of, IsEnableFunction}
 use Rattle.edbf_unfold.specs.class_queries.Laws.{AreKept}
 use Rattle.edbf_unfold.specs.event_literals.Known.{IsEnableLit}
-use Rattle.edbf_unfold.specs.event_literals.ShortOr.{short_or, operands}
+use Rattle.edbf_unfold.specs.event_literals.ShortOr.{short_and, one_and, under, restricted, with_sign, is_conjunct, operands, node_operands}
 use Rattle.edbf_unfold.specs.event_literals.event_walk.Walk.{enable_start}
 use Rattle.edbf_unfold.proofs.class_queries.Meaning.{lits_are_functions}
 use Rattle.class_search.specs.declared.search.Fit.TheVariants as fit
@@ -144,7 +144,7 @@ high = (2 ∷ 1 ∷ [], (2, 1 ∷ [], (0, refl, (1, refl, refl)), (1, [], refl, 
 
 -- so that the or of a with its complement is the enable
 value_is : IsEnableLit always_loads at_root [] loading_latch 1
-unfolding flip simple_and short_or operands
+unfolding flip simple_and short_and one_and under restricted with_sign is_conjunct operands node_operands
 value_is = record {
   f0 = 2;
   f1 = 2;

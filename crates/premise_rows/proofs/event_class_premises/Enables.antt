@@ -16,7 +16,7 @@ use Rattle.event_nodes.specs.event_variables.Inputs.{AreVisitedInputs, IsVisited
 use Rattle.event_nodes.specs.event_variables.Variables.{GoesBefore, variable_of}
 use Rattle.edbf_unfold.specs.Care.{IsCareLit}
 use Rattle.edbf_unfold.specs.event_literals.Known.{IsEnableLit}
-use Rattle.edbf_unfold.specs.event_literals.ShortOr.{short_or, is_and, is_conjunct, operands}
+use Rattle.edbf_unfold.specs.event_literals.ShortOr.{short_and, one_and, under, restricted, with_sign, is_conjunct, operands, node_operands}
 use Rattle.event_classes.specs.event_functions.class_totals.EnableFunctions.{IsEnableFunctionOf}
 use Rattle.event_classes.proofs.event_functions.Covering.{two_roots, care_supports}
 use Rattle.event_classes.proofs.event_functions.class_totals.EnableCovering.{own_enable_supports}
@@ -61,13 +61,13 @@ high = (
 )
 
 value_is : IsEnableLit loads_a at_enables [] q_latch 2
-unfolding flip short_or is_and is_conjunct operands
+unfolding flip simple_and short_and one_and under restricted with_sign is_conjunct operands node_operands
 value_is = record {
   f0 = 6;
   f1 = 9;
   low = record { tree = hold_tree load_cover 0 1 false []; unfolds = hold_next s same_or_not left_net.single once (codes "q") 2 3 latch hold false []; builds = low; within = omega arith };
   high = record { tree = hold_tree load_cover 0 1 true []; unfolds = hold_next s same_or_not left_net.single once (codes "q") 2 3 latch hold true []; builds = high; within = omega arith };
-  or_is = refl;
+  or_is = (3, refl, refl);
   within = omega arith;
 }
 

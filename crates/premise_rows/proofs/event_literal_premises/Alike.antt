@@ -7,7 +7,7 @@ use Rattle.event_nodes.specs.aig.Values.{value, lit_bit, node_bits, bits_from}
 use Rattle.event_nodes.proofs.aig.Meaning.{value-grows}
 use Rattle.edbf_unfold.specs.Care.{IsCareLit}
 use Rattle.edbf_unfold.specs.event_literals.Known.{IsEnableLit}
-use Rattle.edbf_unfold.specs.event_literals.ShortOr.{short_or, is_and, is_conjunct, operands}
+use Rattle.edbf_unfold.specs.event_literals.ShortOr.{short_and, one_and, under, restricted, with_sign, is_conjunct, operands, node_operands}
 use Rattle.edbf_unfold.specs.class_queries.Enables.{IsEnableFunction, AsksEnables, IsSame}
 use Rattle.edbf_unfold.specs.class_queries.Laws.{AreKept}
 use Rattle.edbf_unfold.proofs.CareMeaning.{care_value}
@@ -25,20 +25,20 @@ kept : AreKept where_a where_a_too at_chain
 kept = two_kept of_a of_a_too
 
 pub left_lit : IsEnableLit where_a at_chain [] latch_p 10
-unfolding flip short_or is_and is_conjunct operands
-left_lit = chain.p_lit of_a 18 21 10 p_a_low p_a_high (omega arith) (omega arith) (omega arith) refl
+unfolding flip simple_and short_and one_and under restricted with_sign is_conjunct operands node_operands
+left_lit = chain.p_lit of_a 18 21 10 p_a_low p_a_high (omega arith) (omega arith) (omega arith) (11, refl, refl)
 
 pub left_care : IsCareLit where_a at_chain p_enable 6
-unfolding flip short_or is_and is_conjunct operands
-left_care = chain.p_care of_a 10 15 a_low a_high (omega arith) (omega arith) refl
+unfolding flip simple_and short_and one_and under restricted with_sign is_conjunct operands node_operands
+left_care = chain.p_care of_a 10 15 a_low a_high (omega arith) (omega arith) (7, refl, refl)
 
 right_lit : IsEnableLit where_a_too at_chain [] latch_p 13
-unfolding flip short_or is_and is_conjunct operands
-right_lit = chain.p_lit of_a_too 22 25 13 p_too_low p_too_high (omega arith) (omega arith) (omega arith) refl
+unfolding flip simple_and short_and one_and under restricted with_sign is_conjunct operands node_operands
+right_lit = chain.p_lit of_a_too 22 25 13 p_too_low p_too_high (omega arith) (omega arith) (omega arith) (12, refl, refl)
 
 right_care : IsCareLit where_a_too at_chain p_enable 6
-unfolding flip short_or is_and is_conjunct operands
-right_care = chain.p_care of_a_too 12 17 not_low not_high (omega arith) (omega arith) refl
+unfolding flip simple_and short_and one_and under restricted with_sign is_conjunct operands node_operands
+right_care = chain.p_care of_a_too 12 17 not_low not_high (omega arith) (omega arith) (7, refl, refl)
 
 left_is : IsEnableFunction both_where_a at_chain (Left 3) 10 6
 left_is = (lits_are_functions where_a where_a_too at_chain kept).0 1 latch_p 10 6 refl (chain.p_enabled of_a) left_lit left_care

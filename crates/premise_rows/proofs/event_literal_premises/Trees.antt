@@ -4,7 +4,8 @@ use Rattle.std.specs.Prelude.{codes}
 use Rattle.circuit_theory.specs.Frame.{EventUnfolds}
 use Rattle.event_nodes.specs.aig.Graph.{flip}
 use Rattle.edbf_unfold.specs.event_literals.Known.{IsKnownAt, IsEnableLit}
-use Rattle.edbf_unfold.specs.event_literals.ShortOr.{IsShortOr, short_or, is_and, is_conjunct, operands}
+use Rattle.event_nodes.specs.aig.Rules.{simple_and}
+use Rattle.edbf_unfold.specs.event_literals.ShortOr.{IsShortOr, short_and, one_and, under, restricted, with_sign, is_conjunct, operands, node_operands}
 use Rattle.edbf_unfold.proofs.EventLiterals.{one_literal, one_enable_literal}
 use Rattle.call_rows.specs.circuit_samples.event_samples.Samples.{load_cover}
 use Rattle.premise_rows.specs.event_literal_premises.Chained.{where_a, where_no_a, at_chain, chain_nodes, latch_q}
@@ -15,8 +16,8 @@ use Rattle.premise_rows.proofs.event_literal_premises.Chains.{of_a, of_no_a}
 
 -- e is the enable of q
 e_is : IsShortOr chain_nodes 10 (flip 15) 6
-unfolding flip short_or is_and is_conjunct operands
-e_is = refl
+unfolding flip simple_and short_and one_and under restricted with_sign is_conjunct operands node_operands
+e_is = (7, refl, refl)
 
 abbrev q_known : IsKnownAt where_a at_chain None 2 [] 10
 q_known = record {

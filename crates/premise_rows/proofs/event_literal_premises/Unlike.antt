@@ -7,7 +7,7 @@ use Rattle.event_nodes.specs.aig.Values.{value, lit_bit, node_bits, bits_from}
 use Rattle.event_nodes.proofs.aig.CoverMeaning.{value-one}
 use Rattle.edbf_unfold.specs.Care.{IsCareLit}
 use Rattle.edbf_unfold.specs.event_literals.Known.{IsEnableLit}
-use Rattle.edbf_unfold.specs.event_literals.ShortOr.{short_or, is_and, is_conjunct, operands}
+use Rattle.edbf_unfold.specs.event_literals.ShortOr.{short_and, one_and, under, restricted, with_sign, is_conjunct, operands, node_operands}
 use Rattle.edbf_unfold.specs.class_queries.Enables.{IsEnableFunction, AsksEnables, IsSame, Distinguishes}
 use Rattle.edbf_unfold.specs.class_queries.Laws.{AreKept}
 use Rattle.edbf_unfold.proofs.class_queries.Meaning.{lits_are_functions, apart_law, always_law, off_law}
@@ -22,12 +22,12 @@ kept : AreKept where_a where_not_a at_chain
 kept = two_kept of_a of_not_a
 
 right_lit : IsEnableLit where_not_a at_chain [] latch_p 12
-unfolding flip short_or is_and is_conjunct operands
-right_lit = chain.p_lit of_not_a 26 29 12 p_not_low p_not_high (omega arith) (omega arith) (omega arith) refl
+unfolding flip simple_and short_and one_and under restricted with_sign is_conjunct operands node_operands
+right_lit = chain.p_lit of_not_a 26 29 12 p_not_low p_not_high (omega arith) (omega arith) (omega arith) (13, refl, refl)
 
 right_care : IsCareLit where_not_a at_chain p_enable 6
-unfolding flip short_or is_and is_conjunct operands
-right_care = chain.p_care of_not_a 12 17 not_low not_high (omega arith) (omega arith) refl
+unfolding flip simple_and short_and one_and under restricted with_sign is_conjunct operands node_operands
+right_care = chain.p_care of_not_a 12 17 not_low not_high (omega arith) (omega arith) (7, refl, refl)
 
 left_is : IsEnableFunction both_unlike at_chain (Left 3) 10 6
 left_is = (lits_are_functions where_a where_not_a at_chain kept).0 1 latch_p 10 6 refl (chain.p_enabled of_a) left_lit left_care
@@ -65,11 +65,11 @@ loaded_kept : AreKept where_a where_loaded at_chain
 loaded_kept = two_kept of_a of_one
 
 loaded_lit : IsEnableLit where_loaded at_chain [] latch_p 6
-unfolding flip short_or is_and is_conjunct operands
-loaded_lit = chain.p_lit of_one 30 33 6 p_one_low p_one_high (omega arith) (omega arith) (omega arith) refl
+unfolding flip simple_and short_and one_and under restricted with_sign is_conjunct operands node_operands
+loaded_lit = chain.p_lit of_one 30 33 6 p_one_low p_one_high (omega arith) (omega arith) (omega arith) (7, refl, refl)
 
 loaded_care : IsCareLit where_loaded at_chain p_enable 6
-unfolding flip simple_and short_or is_and is_conjunct operands
+unfolding flip simple_and short_and one_and under restricted with_sign is_conjunct operands node_operands
 loaded_care = chain.p_care of_one 6 1 one_low one_high (omega arith) (omega arith) (7, refl, refl)
 
 loaded_is : IsEnableFunction both_where_loaded at_chain (Right 3) 6 6
