@@ -1,4 +1,4 @@
--- The or of two literals, by two shorter ones: of what both have in common, what the one says already isn't asked of the other again.
+-- The or of two literals, made of two shorter ones: the complement of each is restricted to where that of the other one is 1.
 use Rattle.std.specs.Prelude.{◌≡◌, ℕ, zero, suc, ◌/◌, ◌%◌, ◌==◌, ◌||◌, Bool, false, if◌then◌else◌, List, slice_get, Option, Some, None, option_map, unwrap_or}
 use Rattle.std.specs.Option.{option_or}
 use Rattle.aig.specs.declared.node.Lit.{Lit}
