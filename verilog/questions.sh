@@ -63,7 +63,7 @@ ask() {
 
 # Asks from any power-up. Where it is left to this script, --expose comes first, which mostly is quick, and then the event mode.
 from_any_power_up() {
-  local event=() first
+  local event=() first second printed
   if [ -n "$is_given" ] || ! cyclic; then
     ask check
     return
@@ -82,12 +82,13 @@ from_any_power_up() {
     say "there is feedback: --expose"
     return
   fi
-  first=$status
+  first=$status printed=second
   ask event "${event[@]}"
-  say "there is feedback: $(answer_of "$scratch/expose.$number") with --expose, $(answer_of "$report") with ${event[*]}"
+  second=$(answer_of "$report")
   if [ "$(strength "$status")" -ge "$(strength "$first")" ]; then
-    report=$scratch/expose.$number status=$first
+    report=$scratch/expose.$number status=$first printed=first
   fi
+  say "there is feedback; --expose: $(answer_of "$scratch/expose.$number"); ${event[*]}: $second; the $printed is taken"
 }
 
 # A file with the initial value 0 where a flip-flop has none: started FROM TO
