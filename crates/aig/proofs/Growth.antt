@@ -1,7 +1,8 @@
 -- A graph that grows: what stood in it stays, and what has one literal keeps it.
-use Rattle.std.proofs.Common.{◌≡◌, ℕ, zero, suc, ◌*◌, ◌≤◌, List, [], ◌∷◌, ◌++◌, length, slice_get, Option, Some, None, refl, sym, ap, subst, ◌∙◌, arith, append_assoc, max, if◌then◌else◌}
+use Rattle.std.proofs.Common.{◌≡◌, ℕ, zero, suc, ◌*◌, ◌≤◌, List, [], ◌∷◌, ◌++◌, length, map, slice_get, Option, Some, None, refl, sym, ap, subst, ◌∙◌, arith, append_assoc, max, if◌then◌else◌}
 use Rattle.std.proofs.lemmas.Option.{none-some}
 use Rattle.std.proofs.lemmas.List.{length-append}
+use Rattle.circuit_theory.specs.Circuit.{Circuit}
 use Rattle.sec_base.specs.circuit_theory.Cover.{Cover}
 use Rattle.sec_base.specs.circuit_theory.Tree.{Tree, Trees, Leaf, Fixed, Branch, Nil, Cons}
 use Rattle.base_tables.specs.Table.{AreDistinct}
@@ -9,7 +10,7 @@ use Rattle.aig.specs.declared.node.Node.{Node}
 use Rattle.aig.specs.declared.node.Node.TheVariants.{Constant, Input, And}
 use Rattle.aig.specs.Graph.{IsGraph, Grows, IsLitOf, flip, vars_of}
 use Rattle.aig.specs.Rules.{simple_and, and_node, IsAndBy, IsAndOf, IsOrOf, place_lit, IsPlaceOf, IsCubeOf, IsRowOf, AreRowsOf, IsCoverOf}
-use Rattle.aig.specs.Builds.{Builds, BuildsAll}
+use Rattle.aig.specs.Builds.{Builds, BuildsAll, HasTreeLit}
 
 pub Grows-refl : (g : List Node) → Grows g g
 Grows-refl g = ([], append_nil g)
@@ -77,6 +78,12 @@ module _ (g h : List Node) (grows : Grows g h) where
     pub BuildsAll-grows : {L : Type 0} (places more : List (ℕ × L)) (trees : Trees L) (fs : List ℕ) → BuildsAll g places trees fs → BuildsAll h (places ++ more) trees fs
     BuildsAll-grows places more Nil fs is = is
     BuildsAll-grows places more (Cons first rest) fs (f, others, here, all, e) = (f, others, Builds-grows places more first f here, BuildsAll-grows places more rest others all, e)
+
+-- the literal of a signal's tree stays where the leaves' literals do
+pub HasTreeLit-grows : (c : Circuit ℕ) (g h : List Node) → Grows g h → (leaf later : ℕ → ℕ → Type 0) → ((s x : ℕ) → leaf s x → later s x) → (s x : ℕ) → HasTreeLit c g leaf s x → HasTreeLit c h later s x
+HasTreeLit-grows c g h grows leaf later stays s x (HasTreeLit.at_leaf _ _ is) = HasTreeLit.at_leaf s x (stays s x is)
+HasTreeLit-grows c g h grows leaf later stays s x (HasTreeLit.at_gate _ _ fanins cover lits stands each is) =
+    HasTreeLit.at_gate s x fanins cover lits stands (λ f member. HasTreeLit-grows c g h grows leaf later stays f (lits f) (each f member)) (IsCoverOf-grows g h grows cover (map lits fanins) x is)
 
 module _ (g : List Node) (graph : IsGraph g) where
   pub IsLitOf-one : (node : Node) (x y : ℕ) → IsLitOf g node x → IsLitOf g node y → x ≡ y

@@ -1,6 +1,6 @@
 -- One node more in a graph.
-use Rattle.std.proofs.Common.{◌≡◌, ◌≢◌, ℕ, zero, suc, ◌+◌, ◌*◌, ◌^◌, ◌<◌, ◌≤◌, ◌⊎◌, inl, inr, ◌==◌, max, Bool, true, false, ◌&&◌, if◌then◌else◌, List, [], ◌∷◌, ◌++◌, length, slice_get, Option, Some, None, Contains, All, map, refl, sym, ap, subst, ◌∙◌, arith}
-use Rattle.std.specs.Prelude.{nat_lt}
+use Rattle.std.proofs.Common.{◌≡◌, ◌≢◌, ℕ, zero, suc, ◌+◌, ◌*◌, ◌^◌, ◌<◌, ◌≤◌, ◌⊎◌, inl, inr, ◌==◌, max, Bool, true, false, ◌&&◌, if◌then◌else◌, List, [], ◌∷◌, ◌++◌, length, slice_get, Option, Some, None, Result, Ok, Err, Contains, All, map, refl, sym, ap, subst, ◌∙◌, arith}
+use Rattle.std.specs.Prelude.{nat_lt, MatchResult}
 use Rattle.std.proofs.lemmas.Option.{slice_get_within, none-some, same_Some}
 use Rattle.std.proofs.lemmas.List.{length-append}
 use Rattle.sec_base.proofs.circuit_theory.Lists.{of_at}
@@ -11,7 +11,7 @@ use Rattle.aig.specs.declared.node.Node.{Node}
 use Rattle.aig.specs.declared.node.Node.TheVariants.{Constant, Input, And}
 use Rattle.aig.specs.Graph.{IsGraph, IsAbove, Grows, IsLitOf, flip, vars_of}
 use Rattle.aig.specs.Values.{value}
-use Rattle.aig.specs.Rules.{simple_and, and_node, IsAndBy, IsAndOf, IsCoverOf, place_lit}
+use Rattle.aig.specs.Rules.{simple_and, and_node, IsAndBy, IsAndOf, IsWithAndBy, IsWithAnd, IsCoverOf, place_lit}
 use Rattle.aig.proofs.Literals.{flip-within}
 use Rattle.aig.proofs.Growth.{slice_get-append, vars_of-append, Grows-refl}
 use Rattle.aig.proofs.Meaning.{value-grows}
@@ -146,6 +146,17 @@ simple_and-is g l r x e = subst (λ (o : Option ℕ). IsAndBy g l r o x) (sym e)
 
 pub and_node-is : (g : List Node) (l r x : ℕ) → simple_and l r ≡ None → IsLitOf g (and_node l r) x → IsAndOf g l r x
 and_node-is g l r x e is = subst (λ (o : Option ℕ). IsAndBy g l r o x) (sym e) is
+
+-- an and that needs no node leaves the graph as it was
+pub with_and-is : (g : List Node) (l r x : ℕ) → simple_and l r ≡ Some x → IsWithAnd g l r g
+with_and-is g l r x e = subst (λ (o : Option ℕ). IsWithAndBy g l r o g) (sym e) refl
+
+-- what an insert of the and's node gives
+pub with_and-made : {E : Type 0} (made : Result Lit E) (g k h : List Node) (node : Node) (l r : ℕ) → simple_and l r ≡ None → k ≡ g → node ≡ and_node l r → MatchResult made (λ x. IsWith k node h) (λ e. h ≡ k) →
+    MatchResult made (λ x. IsWithAnd g l r h) (λ e. h ≡ g)
+with_and-made (Ok x) g k h node l r none same is with =
+    subst (λ (o : Option ℕ). IsWithAndBy g l r o h) (sym none) (subst (λ (n : Node). IsWith g n h) is (subst (λ (f : List Node). IsWith f node h) same with))
+with_and-made (Err e) g k h node l r none same is kept = kept ∙ same
 
 -- a graph has a node
 pub graph-some : (g : List Node) → IsGraph g → 0 < length g

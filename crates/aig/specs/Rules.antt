@@ -1,6 +1,7 @@
 -- Which literal stands for an and, for a cube and for a cover.
 use Rattle.std.specs.Prelude.{◌≡◌, ℕ, ◌+◌, ◌*◌, ◌==◌, ◌||◌, nat_lt, if◌then◌else◌, List, [], ◌∷◌, length, Option, Some, None}
 use Rattle.sec_base.specs.circuit_theory.Cover.{Cover}
+use Rattle.base_tables.specs.unique_table.Places.{IsWith}
 use Rattle.aig.specs.declared.node.Node.{Node}
 use Rattle.aig.specs.declared.node.Node.TheVariants.{And}
 use Rattle.aig.specs.Graph.{flip, IsLitOf}
@@ -23,6 +24,15 @@ IsAndBy g l r (Some y) x = x ≡ y
 -- the literal for l and r
 abbrev pub IsAndOf : List Node → ℕ → ℕ → ℕ → Type 0
 IsAndOf g l r x = IsAndBy g l r (simple_and l r) x
+
+-- the graph as it was, where l and r need no node, or else with their node, which goes last if it isn't there
+abbrev pub IsWithAndBy : List Node → ℕ → ℕ → Option ℕ → List Node → Type 0
+IsWithAndBy g l r None h = IsWith g (and_node l r) h
+IsWithAndBy g l r (Some y) h = h ≡ g
+
+-- the graph with what the and of l and r needs
+abbrev pub IsWithAnd : List Node → ℕ → ℕ → List Node → Type 0
+IsWithAnd g l r h = IsWithAndBy g l r (simple_and l r) h
 
 -- the literal for l or r
 abbrev pub IsOrOf : List Node → ℕ → ℕ → ℕ → Type 0

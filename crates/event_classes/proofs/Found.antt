@@ -42,7 +42,8 @@ use Rattle.class_search.proofs.class_separations.Telling.{told_apart, told_alway
 use Rattle.event_classes.specs.declared.map.ClassMap.{ClassMap}
 use Rattle.class_search.specs.declared.search.Fit.{Fit}
 use Rattle.class_search.specs.declared.search.Fit.TheVariants as fit
-use Rattle.event_classes.specs.Map.{IsMade, IsEnableAt, IsOwnAt, AreToldAt, AreToldBy, places_in, taken_of}
+use Rattle.event_classes.specs.Map.{IsMade, IsEnableAt, IsOwnAt, AreToldAt, AreToldBy, places_in, taken_of, HasEnableLit}
+use Rattle.event_classes.proofs.EnableLits.{lit_grows}
 use Rattle.event_classes.proofs.Setting.{next_enabled}
 
 module _ (a b : EventCircuitView) (v w : EventGraphView) (kept : AreKept a b v) (grows_to : GrowsEvents v w) (place : Tag → Either ℕ ℕ) (taken : List (Either ℕ ℕ)) (u : Either ℕ ℕ) (latch : Enable) (conflicts : ℕ)
@@ -151,12 +152,12 @@ told_by m n tag x conflicts rest same kept grows made enable own ready classes (
 told_by m n tag x conflicts rest same kept grows made enable own ready classes (fit.Founds always told) is =
     let on = next_enabled m.left m.right (taken_of m) rest (places_in m tag) made.stand.so_far in
     subst (λ (o : ClassMap). AreToldAt o tag always told.items) (sym same) (
-      are_told_in m.left m.right m.events n.events kept grows (places_in m) (taken_of m) (places_in m tag) x conflicts (enable on) ready.in_order.within (own on) m.classes.items made.stand.members classes made.told.own always told.items is,
-      λ later h. are_told_of m.left m.right m.events n.events kept grows (places_in m) (taken_of m) (places_in m tag) x conflicts (enable on) ready.in_order.within (own on) m.classes.items made.stand.members classes made.told.own always told.items is,
+      are_told_in m.left m.right m.events n.events kept grows (places_in m) (taken_of m) (places_in m tag) x conflicts (enable on) ready.in_order.within (own on).0 m.classes.items made.stand.members classes made.told.own always told.items is,
+      λ later h. are_told_of m.left m.right m.events n.events kept grows (places_in m) (taken_of m) (places_in m tag) x conflicts (enable on) ready.in_order.within (own on).0 m.classes.items made.stand.members classes made.told.own always told.items is,
     )
 
--- the variables of an enable stay so while the graph grows
+-- the variables of an enable, and its literal, stay so while the graph grows
 pub own_grows : (m n : ClassMap) (tag : Tag) (x : Enable) → n ≡ record m { events = n.events } → IsEventGraph m.events → GrowsEvents m.events n.events → IsReadyEnable m.events x → IsOwnAt m tag x → IsOwnAt n tag x
 own_grows m n tag x same is grows ready own =
-    subst (λ (o : ClassMap). IsEnabled (both_of o.left o.right).circuit (places_in o tag) → AreNodeVariables (IsClassTree (both_of o.left o.right) (places_in o tag) (places_in o tag)) (variables_of n.events x.vars)) (sym same)
-    (λ on. subst (AreNodeVariables (IsClassTree (both_of m.left m.right) (places_in m tag) (places_in m tag))) (sym (variables_same m.events n.events is grows x.vars ready.in_order.within)) (own on))
+    subst (λ (o : ClassMap). IsEnabled (both_of o.left o.right).circuit (places_in o tag) → AreNodeVariables (IsClassTree (both_of o.left o.right) (places_in o tag) (places_in o tag)) (variables_of n.events x.vars) × HasEnableLit (both_of o.left o.right) n.events (places_in o tag) x.value.0) (sym same)
+    (λ on. (subst (AreNodeVariables (IsClassTree (both_of m.left m.right) (places_in m tag) (places_in m tag))) (sym (variables_same m.events n.events is grows x.vars ready.in_order.within)) (own on).0, lit_grows (both_of m.left m.right) m.events n.events (places_in m tag) x.value.0 is grows (own on).1))

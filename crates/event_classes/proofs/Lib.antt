@@ -1,4 +1,5 @@
 pub mod Naming
+pub mod EnableLits
 pub mod Ready
 pub mod Setting
 pub mod NextLatch

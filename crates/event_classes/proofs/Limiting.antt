@@ -1,5 +1,5 @@
 -- Where a class query met the limit.
-use Rattle.std.proofs.Common.{◌≡◌, ◌∙◌, ◌<◌, ℕ, List, ◌∷◌, length, slice_get, Option, Some, None, Result, Ok, Err, true, true≢false, sym, ap, subst, arith}
+use Rattle.std.proofs.Common.{◌≡◌, ◌∙◌, ◌<◌, ℕ, List, ◌∷◌, length, slice_get, Option, Some, None, Result, Ok, Err, true, true≢false, inl, sym, ap, subst, arith}
 use Rattle.std.specs.Prelude.{is_ok, OnOk}
 use Rattle.std.specs.List.{All}
 use Rattle.std.proofs.lemmas.Option.{slice_get_within}
@@ -32,10 +32,11 @@ use Rattle.class_search.proofs.class_separations.Variables.{variables_same, merg
 use Rattle.event_classes.specs.declared.error.EventError.{EventError}
 use Rattle.event_classes.specs.declared.error.EventError.TheVariants as event_error
 use Rattle.event_classes.specs.declared.map.ClassMap.{ClassMap}
-use Rattle.event_classes.specs.Limits.{HasMetLimit, IsLimitQuery, IsNamed, IsErrorOf}
+use Rattle.event_classes.specs.Limits.{HaveTwoEnables, HasMetLimit, IsLimitQuery, IsNamed, IsErrorOf}
 use Rattle.event_classes.specs.Map.{IsMade, IsEnableAt, IsOwnAt, places_in, taken_of}
 use Rattle.event_classes.specs.Steps.{IsLimitAt}
 use Rattle.event_classes.proofs.Setting.{next_enabled}
+use Rattle.event_classes.proofs.EnableLits.{lit_grows, two_enables}
 
 -- the places of the class and of the member are of the list
 pub named_of : (s : EventSide (Either ℕ ℕ)) (v w : EventGraphView) (place : Tag → Either ℕ ℕ) (taken : List (Either ℕ ℕ)) (classes : List Class) (latch : Enable) (conflicts : ℕ) → HaveMembers s v place taken classes → (u : Unfit) → IsUnfit v w classes latch conflicts u → IsNamed classes u
@@ -115,7 +116,7 @@ module _ (m n : ClassMap) (tag : Tag) (x : Enable) (conflicts : ℕ) (kept : Are
     function = enable (next_enabled m.left m.right (taken_of m) rest (places_in m tag) made.stand.so_far)
 
     variables : AreNodeVariables (IsClassTree s (places_in m tag) (places_in m tag)) (variables_of m.events x.vars)
-    variables = own (next_enabled m.left m.right (taken_of m) rest (places_in m tag) made.stand.so_far)
+    variables = (own (next_enabled m.left m.right (taken_of m) rest (places_in m tag) made.stand.so_far)).0
 
     -- against 1
     always_query : (p : Proof) → IsUnfit m.events n.events m.classes.items x conflicts (unfit.Always p) → Query_of None p
@@ -137,7 +138,7 @@ module _ (m n : ClassMap) (tag : Tag) (x : Enable) (conflicts : ℕ) (kept : Are
     -- against the enable of a member
     member_query : (at member : ℕ) (p : Proof) → IsUnfit m.events n.events m.classes.items x conflicts (unfit.Member at member p) →
         (c : Class) × (slice_get m.classes.items at ≡ Some c) × ((t : Tag) × (slice_get c.tags.items member ≡ Some t)
-        × ((w : EventGraphView) × (q : Query) × AsksEnables s w (places_in m t) (places_in m tag) q.left.0 q.right.0 q.care.0 × HasMetLimit s w (places_in m t) (places_in m tag) q conflicts p))
+        × (((w : EventGraphView) × (q : Query) × AsksEnables s w (places_in m t) (places_in m tag) q.left.0 q.right.0 q.care.0 × HasMetLimit s w (places_in m t) (places_in m tag) q conflicts p) × HaveTwoEnables s (places_in m t) (places_in m tag)))
     member_query at member p ((always, off), (told, are, long, (c, at_c, (vars, is)))) =
         let has = made.stand.members at c at_c in
         let inside = slice_get_within c.enables.items member is.enable is.is in
@@ -158,17 +159,22 @@ module _ (m n : ClassMap) (tag : Tag) (x : Enable) (conflicts : ℕ) (kept : Are
           (
             t.0,
             t.1,
-            (
+            ((
               is.at,
               k.query,
               subst (λ (y : Lit). AsksEnables s is.at (places_in m t.0) (places_in m tag) y.0 k.query.right.0 k.query.care.0) (sym k.left) (subst (λ (y : Lit). AsksEnables s is.at (places_in m t.0) (places_in m tag) is.enable.value.0 y.0 k.query.care.0) (sym k.right) asks),
               record { events = is.kept; variables = subst (λ (vs : List ℕ). AreNodeVariables (IsClassTree s (places_in m t.0) (places_in m tag)) (variables_of is.at vs)) (sym k.vars) merged; limit = k.decided },
             ),
+            two_enables s is.at is.kept (places_in m t.0) (places_in m tag) is.enable.value.0 x.value.0
+            (lit_grows s m.events is.at (places_in m t.0) is.enable.value.0 kept.events is.since (made.lits at member c t.0 is.enable at_c t.1 is.is))
+            (lit_grows s m.events is.at (places_in m tag) x.value.0 kept.events is.since (own (next_enabled m.left m.right (taken_of m) rest (places_in m tag) made.stand.so_far)).1)
+            (λ e. k.decided.wide.apart (inl (ap (λ (y : Lit). y.0) k.left ∙ e ∙ sym (ap (λ (y : Lit). y.0) k.right)))),
+            ),
           ),
         )
 
     abbrev Met : Tag → Proof → Type 0
-    Met t p = (w : EventGraphView) × (q : Query) × AsksEnables s w (places_in m t) (places_in m tag) q.left.0 q.right.0 q.care.0 × HasMetLimit s w (places_in m t) (places_in m tag) q conflicts p
+    Met t p = ((w : EventGraphView) × (q : Query) × AsksEnables s w (places_in m t) (places_in m tag) q.left.0 q.right.0 q.care.0 × HasMetLimit s w (places_in m t) (places_in m tag) q conflicts p) × HaveTwoEnables s (places_in m t) (places_in m tag)
 
     -- the member is the one that is named
     one_member : (at member : ℕ) (c d : Class) (t u : Tag) → slice_get m.classes.items at ≡ Some c → slice_get c.tags.items member ≡ Some t → slice_get m.classes.items at ≡ Some d → slice_get d.tags.items member ≡ Some u → t ≡ u
@@ -177,9 +183,11 @@ module _ (m n : ClassMap) (tag : Tag) (x : Enable) (conflicts : ℕ) (kept : Are
     of_member : (at member : ℕ) (p : Proof) → IsUnfit m.events n.events m.classes.items x conflicts (unfit.Member at member p) → (c : Class) (t : Tag) → slice_get m.classes.items at ≡ Some c → slice_get c.tags.items member ≡ Some t → Query_of (Some t) p
     of_member at member p is c t at_c at_t =
         let k = limit_asked m.left m.right m.events n.events (places_in m) (taken_of m) (places_in m tag) m.classes.items x conflicts kept made.stand.members function at member p is in
-        let q = member_query at member p is in (
+        let q = member_query at member p is in
+        let met = subst (λ (o : Tag). Met o p) (one_member at member q.0 c q.2.0 t q.1 q.2.1 at_c at_t) q.2.2 in (
           subst (λ (o : Tag). IsAsked s (taken_of m) (places_in m tag) (Some (places_in m o))) (one_member at member k.0 c k.2.0 t k.1 k.2.1 at_c at_t) k.2.2,
-          subst (λ (o : Tag). Met o p) (one_member at member q.0 c q.2.0 t q.1 q.2.1 at_c at_t) q.2.2,
+          met.0,
+          met.1,
         )
 
   pub limit_at : (u : Unfit) → IsUnfit m.events n.events m.classes.items x conflicts u → (e : EventError) → IsErrorOf m.classes.items tag e u → (latch : Tag) (other : Option Tag) (proof : Proof) → e ≡ event_error.Limit latch other proof → IsLimitAt m tag latch other conflicts proof

@@ -32,9 +32,10 @@ use Rattle.class_search.proofs.class_fits.Fitting.{fit_first}
 use Rattle.event_classes.specs.declared.map.ClassMap.{ClassMap}
 use Rattle.event_classes.specs.Named.{AreNamed}
 use Rattle.class_search.specs.class_fits.Stand.{IsStand}
-use Rattle.event_classes.specs.Map.{IsWithin, IsMade, IsEnableAt, IsOwnAt, AreToldAt, FitsIn, IsClassSet, GoesOn, places_in, taken_of, with_next}
+use Rattle.event_classes.specs.Map.{IsWithin, IsMade, HaveEnableLits, IsEnableAt, IsOwnAt, AreToldAt, FitsIn, IsClassSet, GoesOn, places_in, taken_of, with_next}
 use Rattle.event_classes.proofs.Naming.{named_joins, named_founds}
 use Rattle.event_classes.proofs.Ready.{ready_grows}
+use Rattle.event_classes.proofs.EnableLits.{lits_grow, lits_stay, lits_join, lits_found}
 use Rattle.class_search.specs.declared.class_separations.apart.Apart.{Apart}
 use Rattle.class_search.specs.class_separations.Apart.{AreTakenMembers, AreToldApart}
 use Rattle.class_search.specs.class_separations.Telling.{HasKept}
@@ -56,6 +57,7 @@ made_grows m n same is grows within rest made = record {
   within = within made.within;
   told = subst (λ (o : ClassMap). AreToldApart o.left o.right n.events (places_in o) (taken_of o) o.classes.items o.aparts.items) (sym same) (told_grows m.left m.right m.events n.events (places_in m) (taken_of m) m.classes.items m.aparts.items is grows made.told);
   named = subst (λ (o : ClassMap). AreNamed o.left.net o.right.net o.classes.items o.aparts.items) (sym same) made.named;
+  lits = subst (λ (o : ClassMap). HaveEnableLits (both_of o.left o.right) n.events (places_in o) o.classes.items) (sym same) (lits_grow (both_of m.left m.right) m.events n.events (places_in m) m.classes.items is grows made.lits);
 }
 
 -- what the graph's growth keeps within its numbers, where nothing is counted
@@ -94,11 +96,14 @@ module _ (m n : ClassMap) (tag : Tag) (class : ℕ) (x : Enable) (kept : AreKept
   abbrev Names : List Class → List Apart → Type 0
   Names classes aparts = AreNamed m.left.net m.right.net classes aparts
 
+  abbrev LitsNow : List Class → Type 0
+  LitsNow classes = HaveEnableLits (both_of (record m.left { classes = n.left.classes }) (record m.right { classes = n.right.classes })) m.events (places_in m) classes
+
   abbrev Joined : (rest : List (Either ℕ ℕ)) → Type 0
   Joined rest = HasJoined m.left m.right n.left n.right (taken_of m) rest (places_in m tag) class
 
-  on_with : ((rest : List (Either ℕ ℕ)) → IsMade m (places_in m tag ∷ rest) → Joined rest → Stands rest n.table n.classes.items) → ((rest : List (Either ℕ ℕ)) → IsMade m (places_in m tag ∷ rest) → ToldNow n.classes.items n.aparts.items) → (IsWithin m → length n.classes.items ≤ 500) → (Names m.classes.items m.aparts.items → Names n.classes.items n.aparts.items) → GoesOn m n tag (with_next m tag)
-  on_with stands told few named = goes_on_with m n tag class kept.left_sound kept.right_sound kept.left kept.right latch set taken events left_count right_count fits stands told few named
+  on_with : ((rest : List (Either ℕ ℕ)) → IsMade m (places_in m tag ∷ rest) → Joined rest → Stands rest n.table n.classes.items) → ((rest : List (Either ℕ ℕ)) → IsMade m (places_in m tag ∷ rest) → ToldNow n.classes.items n.aparts.items) → (IsWithin m → length n.classes.items ≤ 500) → (Names m.classes.items m.aparts.items → Names n.classes.items n.aparts.items) → ((rest : List (Either ℕ ℕ)) → IsMade m (places_in m tag ∷ rest) → LitsNow n.classes.items) → GoesOn m n tag (with_next m tag)
+  on_with stands told few named lits = goes_on_with m n tag class kept.left_sound kept.right_sound kept.left kept.right latch set taken events left_count right_count fits stands told few named lits
 
   function_of : (rest : List (Either ℕ ℕ)) → IsMade m (places_in m tag ∷ rest) → IsEnableFunction (both_of m.left m.right) m.events (places_in m tag) x.value.0 x.care.0
   function_of rest made = enable (next_enabled m.left m.right (taken_of m) rest (places_in m tag) made.stand.so_far)
@@ -113,11 +118,18 @@ module _ (m n : ClassMap) (tag : Tag) (class : ℕ) (x : Enable) (kept : AreKept
       subst (λ (cs : List Class). ToldNow cs n.aparts.items) (sym classes) (subst (ToldNow m.classes.items) (sym aparts)
       (told_stays m.left m.right n.left.classes n.right.classes m.events (places_in m) (taken_of m) rest (places_in m tag) (given rest made) m.classes.items m.aparts.items (members_taken (both_of m.left m.right) m.events (places_in m) (taken_of m) m.classes.items made.stand.members) made.told))
 
+  have_taken : (rest : List (Either ℕ ℕ)) → IsMade m (places_in m tag ∷ rest) → AreTakenMembers (places_in m) (taken_of m) m.classes.items
+  have_taken rest made = members_taken (both_of m.left m.right) m.events (places_in m) (taken_of m) m.classes.items made.stand.members
+
+  keep_lits : n.classes.items ≡ m.classes.items → (rest : List (Either ℕ ℕ)) → IsMade m (places_in m tag ∷ rest) → LitsNow n.classes.items
+  keep_lits classes rest made =
+      subst LitsNow (sym classes) (lits_stay m.left m.right n.left.classes n.right.classes m.events (places_in m) (taken_of m) rest (places_in m tag) (given rest made) m.classes.items (have_taken rest made) made.lits)
+
   names_stay : n.classes.items ≡ m.classes.items → n.aparts.items ≡ m.aparts.items → Names m.classes.items m.aparts.items → Names n.classes.items n.aparts.items
   names_stay classes aparts named = subst (λ (cs : List Class). Names cs n.aparts.items) (sym classes) (subst (Names m.classes.items) (sym aparts) named)
 
   pub known_goes_on : Contains m.table ((x.value.0, x.care.0), class) → n.table ≡ m.table → n.classes.items ≡ m.classes.items → n.aparts.items ≡ m.aparts.items → GoesOn m n tag (with_next m tag)
-  known_goes_on here table classes aparts = on_with stands (stays classes aparts) (λ within. subst (λ (cs : List Class). length cs ≤ 500) (sym classes) within.classes) (names_stay classes aparts)
+  known_goes_on here table classes aparts = on_with stands (stays classes aparts) (λ within. subst (λ (cs : List Class). length cs ≤ 500) (sym classes) within.classes) (names_stay classes aparts) (keep_lits classes)
     where
       own : (rest : List (Either ℕ ℕ)) → IsMade m (places_in m tag ∷ rest) → (j : ℕ) (o : Class) → class ≡ suc j → slice_get m.classes.items j ≡ Some o → IsAmong (both_of m.left m.right) m.events o.enables.items (length o.enables.items) (places_in m tag)
       own rest made j o e at =
@@ -144,6 +156,7 @@ module _ (m n : ClassMap) (tag : Tag) (class : ℕ) (x : Enable) (kept : AreKept
         (stays classes aparts)
         (λ within. subst (λ (cs : List Class). length cs ≤ 500) (sym classes) within.classes)
         (names_stay classes aparts)
+        (keep_lits classes)
 
     pub class_goes_on : (at : ℕ) (o p : Class) → class ≡ suc at → slice_get m.classes.items at ≡ Some o → p.tags.items ≡ o.tags.items ++ tag ∷ [] → p.enables.items ≡ o.enables.items ++ x ∷ [] → IsReadyEnable m.events x → IsOwnAt m tag x → n.classes.items ≡ slice_set m.classes.items at p → n.aparts.items ≡ m.aparts.items → GoesOn m n tag (with_next m tag)
     class_goes_on at o p is at_o tags enables ready own classes aparts =
@@ -153,9 +166,12 @@ module _ (m n : ClassMap) (tag : Tag) (class : ℕ) (x : Enable) (kept : AreKept
         (subst (All (IsReadyEnable m.events)) (sym enables) (All-push (IsReadyEnable m.events) o.enables.items x (All-at (λ (q : Class). All (IsReadyEnable m.events) q.enables.items) m.classes.items at o at_o made.stand.ready) ready)))))
         (λ rest made. subst (λ (cs : List Class). ToldNow cs n.aparts.items) (sym classes) (subst (ToldNow (slice_set m.classes.items at p)) (sym aparts)
         (told_joins m.left m.right n.left.classes n.right.classes m.events (places_in m) (taken_of m) rest (places_in m tag) (given rest made) m.classes.items m.aparts.items (members_taken (both_of m.left m.right) m.events (places_in m) (taken_of m) m.classes.items made.stand.members) made.told
-        tag refl x ready.in_order.within (own (next_enabled m.left m.right (taken_of m) rest (places_in m tag) made.stand.so_far)) at o p at_o tags enables (length-set m.classes.items at p) (at_set m.classes.items at p))))
+        tag refl x ready.in_order.within (own (next_enabled m.left m.right (taken_of m) rest (places_in m tag) made.stand.so_far)).0 at o p at_o tags enables (length-set m.classes.items at p) (at_set m.classes.items at p))))
         (λ within. subst (λ (cs : List Class). length cs ≤ 500) (sym classes) (omega (arith, within.classes, length-set m.classes.items at p)))
         (λ named. subst (λ (cs : List Class). Names cs n.aparts.items) (sym classes) (subst (Names (slice_set m.classes.items at p)) (sym aparts) (named_joins m.left.net m.right.net m.classes.items m.aparts.items named tag latch at o p at_o tags)))
+        (λ rest made. subst LitsNow (sym classes)
+        (lits_join m.left m.right n.left.classes n.right.classes m.events (places_in m) (taken_of m) rest (places_in m tag) (given rest made) m.classes.items (have_taken rest made) made.lits
+        tag refl x (own (next_enabled m.left m.right (taken_of m) rest (places_in m tag) made.stand.so_far)).1 at o p at_o tags enables))
 
     pub founded_goes_on : (o p : Class) → class ≡ suc (length m.classes.items) → length m.classes.items < 500 → o.tags.items ≡ [] → o.enables.items ≡ [] → p.tags.items ≡ o.tags.items ++ tag ∷ [] → p.enables.items ≡ o.enables.items ++ x ∷ [] → IsReadyEnable m.events x → IsOwnAt m tag x → (always : Difference) (told : List Told) → AreToldAt m tag always told → HasKept m.events m.classes.items tag always told m.aparts.items n.aparts.items →
         n.classes.items ≡ m.classes.items ++ p ∷ [] → GoesOn m n tag (with_next m tag)
@@ -168,10 +184,13 @@ module _ (m n : ClassMap) (tag : Tag) (class : ℕ) (x : Enable) (kept : AreKept
         let now = class_now m n tag class kept.left_sound kept.right_sound kept.left kept.right latch set taken events left_count right_count fits rest made in
         subst (λ (cs : List Class). ToldNow cs n.aparts.items) (sym classes)
         (told_founds m.left m.right n.left.classes n.right.classes m.events (places_in m) (taken_of m) rest (places_in m tag) (given rest made) m.classes.items m.aparts.items (members_taken (both_of m.left m.right) m.events (places_in m) (taken_of m) m.classes.items made.stand.members) made.told
-        tag refl x ready.in_order.within (own (next_enabled m.left m.right (taken_of m) rest (places_in m tag) made.stand.so_far)) (now ∙ is)
+        tag refl x ready.in_order.within (own (next_enabled m.left m.right (taken_of m) rest (places_in m tag) made.stand.so_far)).0 (now ∙ is)
         (λ u h. let low = class_within m.left m.right (taken_of m) m.classes.items made.stand.number u h in omega (arith, low, now, is)) always told (tells.1 rest made) n.aparts.items keeps o p no_tags no_enables tags enables))
         (λ within. subst (λ (cs : List Class). length cs ≤ 500) (sym classes) (omega (arith, few, length-append m.classes.items (p ∷ []))))
         (λ named. subst (λ (cs : List Class). Names cs n.aparts.items) (sym classes) (named_founds m.left.net m.right.net m.classes.items m.aparts.items named tag latch m.events always told n.aparts.items tells.0.few keeps o p no_tags tags))
+        (λ rest made. subst LitsNow (sym classes)
+        (lits_found m.left m.right n.left.classes n.right.classes m.events (places_in m) (taken_of m) rest (places_in m tag) (given rest made) m.classes.items (have_taken rest made) made.lits
+        tag refl x (own (next_enabled m.left m.right (taken_of m) rest (places_in m tag) made.stand.so_far)).1 o p no_tags no_enables tags enables))
 
 -- the latch is one where the circuits are the same
 pub tag_same : (m n : ClassMap) (tag : Tag) → n.left ≡ m.left → n.right ≡ m.right → IsTagOf m.left.net m.right.net tag → IsTagOf n.left.net n.right.net tag

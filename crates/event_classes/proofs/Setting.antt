@@ -31,7 +31,7 @@ use Rattle.flat_net.proofs.Nets.{sound_is_net}
 use Rattle.event_classes.specs.declared.map.ClassMap.{ClassMap}
 use Rattle.event_classes.specs.Named.{AreNamed}
 use Rattle.class_search.specs.class_fits.Stand.{IsStand}
-use Rattle.event_classes.specs.Map.{IsWithin, IsMade, FitsIn, IsSetOn, IsClassSet, Counts, GoesOn, places_in, taken_of, with_next}
+use Rattle.event_classes.specs.Map.{IsWithin, IsMade, HaveEnableLits, FitsIn, IsSetOn, IsClassSet, Counts, GoesOn, places_in, taken_of, with_next}
 
 pub latch_there : (n : NetView) (j : ℕ) → j < length n.latches → slice_get n.latches j ≡ Some (latch_at n j)
 latch_there n j inside = slice_get-get_or n.latches j no_latch inside
@@ -109,8 +109,9 @@ module _ (m n : ClassMap) (tag : Tag) (class : ℕ) (sound_a : IsSound m.left.ne
   pub goes_on_with : ((rest : List (Either ℕ ℕ)) → IsMade m (places_in m tag ∷ rest) → HasJoined m.left m.right n.left n.right (taken_of m) rest (places_in m tag) class →
       IsStand n.left n.right m.events (places_in m) (taken_of m ++ places_in m tag ∷ []) rest n.table n.classes.items) →
       ((rest : List (Either ℕ ℕ)) → IsMade m (places_in m tag ∷ rest) → AreToldApart (record m.left { classes = n.left.classes }) (record m.right { classes = n.right.classes }) m.events (places_in m) (taken_of m ++ places_in m tag ∷ []) n.classes.items n.aparts.items) →
-      (IsWithin m → length n.classes.items ≤ 500) → (AreNamed m.left.net m.right.net m.classes.items m.aparts.items → AreNamed m.left.net m.right.net n.classes.items n.aparts.items) → GoesOn m n tag (with_next m tag)
-  goes_on_with stands told few named = record {
+      (IsWithin m → length n.classes.items ≤ 500) → (AreNamed m.left.net m.right.net m.classes.items m.aparts.items → AreNamed m.left.net m.right.net n.classes.items n.aparts.items) →
+      ((rest : List (Either ℕ ℕ)) → IsMade m (places_in m tag ∷ rest) → HaveEnableLits (both_of (record m.left { classes = n.left.classes }) (record m.right { classes = n.right.classes })) m.events (places_in m) n.classes.items) → GoesOn m n tag (with_next m tag)
+  goes_on_with stands told few named lits = record {
     left = same.0;
     right = same.1;
     taken = taken;
@@ -133,6 +134,10 @@ module _ (m n : ClassMap) (tag : Tag) (class : ℕ) (sound_a : IsSound m.left.ne
           (subst (λ (e : EventCircuitView). AreToldApart e n.right m.events (places_in m) (taken_of m ++ places_in m tag ∷ []) n.classes.items n.aparts.items) (sym same.0)
           (subst (λ (e : EventCircuitView). AreToldApart (record m.left { classes = n.left.classes }) e m.events (places_in m) (taken_of m ++ places_in m tag ∷ []) n.classes.items n.aparts.items) (sym same.1) (told rest made)))));
       named = subst (λ (x : NetView). AreNamed x n.right.net n.classes.items n.aparts.items) (sym left_net) (subst (λ (x : NetView). AreNamed m.left.net x n.classes.items n.aparts.items) (sym right_net) (named made.named));
+      lits = subst (λ (w : EventGraphView). HaveEnableLits (both_of n.left n.right) w (places_in n) n.classes.items) (sym events)
+          (subst (λ (place : Tag → Either ℕ ℕ). HaveEnableLits (both_of n.left n.right) m.events place n.classes.items) (sym places_same)
+          (subst (λ (e : EventCircuitView). HaveEnableLits (both_of e n.right) m.events (places_in m) n.classes.items) (sym same.0)
+          (subst (λ (e : EventCircuitView). HaveEnableLits (both_of (record m.left { classes = n.left.classes }) e) m.events (places_in m) n.classes.items) (sym same.1) (lits rest made))));
     };
     counts = λ rest made t.
         subst (λ (w : EventGraphView). HaveCounted n.left n.right w.children (taken_of n) n.left_count n.right_count) (sym events)

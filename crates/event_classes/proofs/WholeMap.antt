@@ -31,7 +31,7 @@ use Rattle.class_search.specs.class_separations.Apart.{AreToldApart}
 use Rattle.event_classes.specs.Named.{AreNamed}
 use Rattle.class_search.specs.class_fits.Stand.{IsStand}
 use Rattle.event_classes.proofs.Naming.{named_none}
-use Rattle.event_classes.specs.Map.{IsMade, GoesOn, IsBegun, IsMadeTo, IsClassMapOf, places_in, taken_of}
+use Rattle.event_classes.specs.Map.{IsMade, GoesOn, IsBegun, IsMadeTo, IsClassMapOf, places_in, taken_of, HaveEnableLits}
 
 none_at : {X : Type 0} (i : ℕ) (y : X) → slice_get [] i ≡ Some y → ⊥
 none_at zero y q = cc
@@ -100,6 +100,7 @@ made_first a b m tags sound_a sound_b left right order left_none right_none begu
         (subst (λ (xs : List Apart). AreToldApart m.left m.right m.events (places_in m) (taken_of m) [] xs) (sym begun.aparts)
         (record { own = λ k i c t x at at_t at_x. absurd (none_at k c at); apart = record { long = refl; each = λ low high below within. absurd (omega (arith, below, within)) } }));
     named = subst (λ (cs : List Class). AreNamed m.left.net m.right.net cs m.aparts.items) (sym begun.classes) (subst (AreNamed m.left.net m.right.net []) (sym begun.aparts) (named_none m.left.net m.right.net));
+    lits = subst (HaveEnableLits (both_of m.left m.right) m.events (places_in m)) (sym begun.classes) (λ k i c t x at at_t at_x. absurd (none_at k c at));
   };
   counts = subst (λ (w : EventGraphView). HaveCounted m.left m.right w.children (taken_of m) m.left_count m.right_count) (sym begun.events)
       (subst (λ (us : List (Either ℕ ℕ)). HaveCounted m.left m.right [] us m.left_count m.right_count) (sym no_latch_taken)

@@ -1,5 +1,5 @@
 -- Class maps that are being made.
-use Rattle.std.specs.Prelude.{◌≡◌, ℕ, ◌<◌, ◌≤◌, List, [], ◌∷◌, ◌++◌, length, map, take, drop, slice_get, Some, Contains}
+use Rattle.std.specs.Prelude.{◌≡◌, ℕ, ◌*◌, ◌<◌, ◌≤◌, List, [], ◌∷◌, ◌++◌, length, map, take, drop, slice_get, Some, Contains}
 use Rattle.circuit_theory.specs.declared.Side.{Side}
 use Rattle.circuit_theory.specs.declared.Side.TheVariants.{A, B}
 use Rattle.circuit_theory.specs.Depth.{LatchesHaveDepths}
@@ -10,7 +10,10 @@ use Rattle.circuit_laws.specs.event_laws.ClassSteps.{IsFirstFit}
 use Rattle.flat_net.specs.declared.parts.LatchAt.{LatchAt}
 use Rattle.sec_base.specs.declared.basics.Tag.{Tag}
 use Rattle.aig.specs.declared.node.Node.TheVariants.{Constant}
-use Rattle.event_nodes.specs.Nodes.{EventGraphView}
+use Rattle.event_nodes.specs.Nodes.{EventGraphView, named_places}
+use Rattle.event_nodes.specs.Graph.{flip}
+use Rattle.event_nodes.specs.Builds.{Builds}
+use Rattle.aig.specs.graph_copy.aig_or.ShortOr.{IsShortOr}
 use Rattle.event_nodes.specs.View.{EventCircuitView}
 use Rattle.event_nodes.specs.Visited.{IsWeighed}
 use Rattle.class_search.specs.event_order.Order.{place_of}
@@ -20,6 +23,7 @@ use Rattle.edbf_unfold.specs.class_queries.Enables.{both_of, IsEnableFunction}
 use Rattle.class_search.specs.class_fits.class_joining.Joining.{with_class}
 use Rattle.event_classes.specs.declared.map.ClassMap.{ClassMap}
 use Rattle.circuit_theory.specs.EventFrames.{AreNodeVariables, IsClassTree}
+use Rattle.circuit_theory.specs.Frame.{EventSide}
 use Rattle.event_nodes.specs.event_variables.Variables.{variables_of}
 use Rattle.class_search.specs.declared.search.Fit.{Fit}
 use Rattle.class_search.specs.declared.search.Fit.TheVariants as fit
@@ -29,6 +33,8 @@ use Rattle.class_search.specs.class_separations.Apart.{AreToldApart, AreToldOf}
 use Rattle.class_search.specs.class_separations.Telling.{AreToldIn}
 use Rattle.event_classes.specs.event_functions.class_totals.Totals.{HaveCounted, AreWithin}
 use Rattle.event_classes.specs.Named.{AreNamed}
+use Rattle.event_classes.specs.Limits.{EnableTrees}
+use Rattle.class_search.specs.declared.class.Class.{Class}
 use Rattle.class_search.specs.class_fits.Stand.{IsStand}
 
 -- all that was counted is within its numbers
@@ -46,6 +52,22 @@ places_in m = place_of m.left.net m.right.net
 abbrev pub taken_of : ClassMap → List (Either ℕ ℕ)
 taken_of m = map (places_in m) m.taken.items
 
+-- the literal is that of the trees of the latch's enable: the function with the latch at 0, or not that with it at 1
+pub record HasEnableLit (s : EventSide (Either ℕ ℕ)) (w : EventGraphView) (u : Either ℕ ℕ) (lit : ℕ) : Type 0 where
+  pub trees : EnableTrees s u
+  pub f0 : ℕ
+  pub f1 : ℕ
+  pub low : Builds w.graph (named_places w) trees.low f0
+  pub high : Builds w.graph (named_places w) trees.high f1
+  pub low_within : f0 < 2 * length w.graph
+  pub high_within : f1 < 2 * length w.graph
+  pub or_is : IsShortOr w.graph f0 (flip f1) lit
+
+-- so are those of the members
+abbrev pub HaveEnableLits : EventSide (Either ℕ ℕ) → EventGraphView → (Tag → Either ℕ ℕ) → List Class → Type 0
+HaveEnableLits s w place classes =
+    (k i : ℕ) (c : Class) (t : Tag) (x : Enable) → slice_get classes k ≡ Some c → slice_get c.tags.items i ≡ Some t → slice_get c.enables.items i ≡ Some x → HasEnableLit s w (place t) x.value.0
+
 -- the class map is right as far as it goes, and these latches are left
 pub record IsMade (m : ClassMap) (rest : List (Either ℕ ℕ)) : Type 0 where
   pub stand : IsStand m.left m.right m.events (places_in m) (taken_of m) rest m.table m.classes.items
@@ -53,6 +75,7 @@ pub record IsMade (m : ClassMap) (rest : List (Either ℕ ℕ)) : Type 0 where
   pub within : IsWithin m
   pub told : AreToldApart m.left m.right m.events (places_in m) (taken_of m) m.classes.items m.aparts.items
   pub named : AreNamed m.left.net m.right.net m.classes.items m.aparts.items
+  pub lits : HaveEnableLits (both_of m.left m.right) m.events (places_in m) m.classes.items
 
 -- it is the enable of the latch with this position
 abbrev pub IsEnableOf : EventCircuitView → EventGraphView → ℕ → Enable → Type 0
@@ -67,9 +90,11 @@ IsEnableOn B m j x = IsEnableOf m.right m.events j x
 abbrev pub IsEnableAt : ClassMap → Tag → Enable → Type 0
 IsEnableAt m tag x = IsEnabled (both_of m.left m.right).circuit (places_in m tag) → IsEnableFunction (both_of m.left m.right) m.events (places_in m tag) x.value.0 x.care.0
 
--- its variables are those of the enable
+-- its literal is that of the enable's trees, and its variables are those of the enable
 abbrev pub IsOwnAt : ClassMap → Tag → Enable → Type 0
-IsOwnAt m tag x = IsEnabled (both_of m.left m.right).circuit (places_in m tag) → AreNodeVariables (IsClassTree (both_of m.left m.right) (places_in m tag) (places_in m tag)) (variables_of m.events x.vars)
+IsOwnAt m tag x =
+    IsEnabled (both_of m.left m.right).circuit (places_in m tag) →
+    AreNodeVariables (IsClassTree (both_of m.left m.right) (places_in m tag) (places_in m tag)) (variables_of m.events x.vars) × HasEnableLit (both_of m.left m.right) m.events (places_in m tag) x.value.0
 
 -- no earlier latch has its literals
 abbrev pub IsAbsent : ClassMap → Enable → Type 0

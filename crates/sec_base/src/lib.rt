@@ -24,7 +24,7 @@ pub use file_path::FilePath;
 pub use limits::{
     DEFAULT_CONFLICTS, MAX_CONFLICTS, MAX_ENABLED_LATCHES, MAX_EVENT_CLASSES, MAX_EVENT_NODES,
     MAX_FILE_BYTES, MAX_LEVELS, MAX_NAME_BYTES, MAX_PLACES, MAX_STATEMENTS, MAX_TABLE_VARIABLES,
-    MAX_WEIGHT,
+    MAX_WEIGHT, limits_are,
 };
 pub use settings::Settings;
 pub use texts::{digit_of, put, put_digits, put_names, put_number};

@@ -1,5 +1,7 @@
 //! The limits of the program, each named once.
 
+ghost use Rattle.std.specs.Prelude.{◌≡◌};
+
 /// The most bytes of a file that is read.
 pub const MAX_FILE_BYTES: u32 = 16_777_216;
 
@@ -35,3 +37,13 @@ pub const MAX_EVENT_CLASSES: usize = 500;
 
 /// The most enabled latches that both cut circuits have together where they are compared in event form.
 pub const MAX_ENABLED_LATCHES: usize = 30_000;
+
+/// The law that each limit is its number: what a contract says by a limit's name, it says of this number. It does nothing.
+pub fn limits_are()
+    ensures texts { (MAX_FILE_BYTES ≡ 16_777_216) × (MAX_NAME_BYTES ≡ 4_096) }
+    ensures designs { (MAX_LEVELS ≡ 64) × (MAX_STATEMENTS ≡ 400_000) × (MAX_PLACES ≡ 4_000_000) }
+    ensures unfoldings { MAX_WEIGHT ≡ 2_000_000 }
+    ensures queries { (MAX_CONFLICTS ≡ 200_000) × (DEFAULT_CONFLICTS ≡ 20_000) × (MAX_TABLE_VARIABLES ≡ 16) }
+    ensures events { (MAX_EVENT_NODES ≡ 10_000) × (MAX_EVENT_CLASSES ≡ 500) × (MAX_ENABLED_LATCHES ≡ 30_000) }
+{
+}

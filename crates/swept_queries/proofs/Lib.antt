@@ -1,4 +1,5 @@
 pub mod Listed
+pub mod Draws
 pub mod ToldApart
 pub mod Stand
 pub mod OneLiteral

@@ -3,20 +3,23 @@
 ghost use Rattle.std.specs.Prelude.{◌≡◌, ◌*◌, length, slice_index, IfOk};
 ghost use Rattle.swept_queries.specs.sweep.lane_eval.Signatures.{word_lane};
 ghost use Rattle.swept_queries.specs.Lanes.{lane_bits};
+ghost use Rattle.swept_queries.specs.Words.{words_for};
 
 use crate::sweep::{Bits, NoMemory};
-use rand_core::{Rng, SeedableRng};
+use rand_core::SeedableRng;
+use rand_core::utils::NextWord;
 use rand_xoshiro::Xoshiro256PlusPlus;
 use std::alloc::Global;
 
-/// Eight words for each of so many variables, the same at each call.
+/// Eight words for each of so many variables, in their order: the first that xoshiro256++ draws, seeded with 1.
 pub(crate) fn seeded_words(alloc: Global, variables: u32) -> Result<Vec<u64>, NoMemory>
-    ensures { IfOk result (λ words. length words.items ≡ 8 * variables) }
+    ensures words { IfOk result (λ words. words.items ≡ words_for variables) }
+    ensures each { IfOk result (λ words. length words.items ≡ 8 * variables) }
 {
     let mut generator = Xoshiro256PlusPlus::seed_from_u64(1);
     let mut words = Vec::new(alloc);
     for _n in 0..8 * (variables as usize) {
-        words.push(generator.next_u64())?;
+        words.push(generator.next_word())?;
     }
     Ok(words)
 }

@@ -18,10 +18,11 @@ use Rattle.aig.specs.declared.node.Node.TheVariants.{Input}
 use Rattle.aig.specs.Graph.{IsGraph, Grows, IsLitOf}
 use Rattle.aig.specs.Values.{value}
 use Rattle.aig.specs.Rules.{IsCoverOf, cover_room}
+use Rattle.aig.specs.Builds.{HasTreeLit}
 use Rattle.flat_net.specs.Weights.{gate_weight}
 use Rattle.flat_net.proofs.Drivers.{gate_equation_stands, gate_out}
 use Rattle.block_refine.specs.declared.latch_blocks.variables.Variables.{Variables}
-use Rattle.block_refine.specs.latch_blocks.Signals.{variable_at, IsLeaf, IsSignalLit, AreSignalLits, lit_at, IsGateLit}
+use Rattle.block_refine.specs.latch_blocks.Signals.{variable_at, IsLeaf, IsVariableLit, IsSignalLit, AreSignalLits, lit_at, IsGateLit}
 use Rattle.block_refine.proofs.latch_blocks.Supports.{From, from_one, to_from, AllSupport, supports_input, supports_cover}
 use Rattle.block_refine.proofs.latch_blocks.Growing.{lits_grow}
 
@@ -29,6 +30,7 @@ use Rattle.block_refine.proofs.latch_blocks.Growing.{lits_grow}
 pub variable_lit : (n : NetView) (w : Variables) (g : List Node) → IsGraph g → (s k : ℕ) (x : Lit) → variable_at n w s ≡ Some k → IsLitOf g (Input k) x.0 → x.0 < 2 * length g → ((a : ℕ → Bool) → value g a x.0 ≡ a k) → IsSignalLit n w g s x
 variable_lit n w g graph s k x has lit within is = record {
   within = within;
+  tree = HasTreeLit.at_leaf s x.0 (k, has, lit);
   values = λ a v reading. reading.variables s k has ∙ sym (is a);
   reads = λ m j reach at. supports_input g graph (IsLeaf n w s) k x.0 lit (s, Reaches.here, has) m j (from_one g x.0 reach) at;
 }
@@ -84,9 +86,17 @@ module _ (n : NetView) (sound : IsSound n) (w : Variables) (g h : List Node) (ol
       let leaf = known.reads k v (to_from h (lit_at lits f.0.0).0 k (subst (λ z. From h (z / 2) k) (sym f.2) from)) at in
       (leaf.0, Reaches.there (Reads.by_gate stands (Contains-map (λ (q : Signal). q.0) lit.gate.fanins f.0 f.1)) leaf.1, leaf.2)
 
+  fanin_tree : (f : ℕ) → Contains (map (λ (k : Signal). k.0) lit.gate.fanins) f → HasTreeLit (circuit_of n) h (IsVariableLit n w h) f (lit_at lits f).0
+  fanin_tree f member =
+      let k = Contains-map_from (λ (k : Signal). k.0) lit.gate.fanins f member in
+      subst (λ p. HasTreeLit (circuit_of n) h (IsVariableLit n w h) p (lit_at lits p).0) k.2 (lits_grow n w g h old grows lits are k.0.0 (lit_at lits k.0.0) (fanin_at k.0 k.1)).tree
+
   pub gate_lit : IsSignalLit n w h s x
   gate_lit = record {
     within = lit.within;
+    tree =
+        HasTreeLit.at_gate s x.0 (map (λ (f : Signal). f.0) lit.gate.fanins) (cover_of n.covers lit.gate) (λ f. (lit_at lits f).0) stands fanin_tree
+        (subst (λ (xs : List ℕ). IsCoverOf h (cover_of n.covers lit.gate) xs x.0) (sym (map-map (λ f. (lit_at lits f).0) (λ (f : Signal). f.0) lit.gate.fanins)) lit.is);
     values = λ a v reading.
         let holds : v s ≡ cover_value (cover_of n.covers lit.gate) (map v (map (λ (f : Signal). f.0) lit.gate.fanins)) =
         All-contains (Holds v) (circuit_of n).equations (gate_equation s (map (λ f. f.0) lit.gate.fanins) (cover_of n.covers lit.gate)) reading.meets stands in

@@ -9,17 +9,18 @@ use Rattle.aig.specs.declared.node.Lit.{Lit}
 use Rattle.aig.specs.declared.node.Node.{Node}
 use Rattle.aig.specs.declared.node.Node.TheVariants.{Input}
 use Rattle.aig.specs.Graph.{IsGraph, Grows}
-use Rattle.aig.proofs.Growth.{Grows-length}
+use Rattle.aig.proofs.Growth.{Grows-length, IsLitOf-grows, HasTreeLit-grows}
 use Rattle.aig.proofs.Meaning.{value-grows}
-use Rattle.flat_net.specs.View.{NetView}
+use Rattle.flat_net.specs.View.{NetView, circuit_of}
 use Rattle.block_refine.specs.declared.latch_blocks.variables.Variables.{Variables}
-use Rattle.block_refine.specs.latch_blocks.Signals.{IsSignalLit, AreSignalLits}
+use Rattle.block_refine.specs.latch_blocks.Signals.{IsVariableLit, IsSignalLit, AreSignalLits}
 use Rattle.block_refine.proofs.latch_blocks.Supports.{old_reached, old_node}
 
 module _ (n : NetView) (w : Variables) where
   pub lit_grows : (g h : List Node) → IsGraph g → Grows g h → (s : ℕ) (x : Lit) → IsSignalLit n w g s x → IsSignalLit n w h s x
   lit_grows g h graph grows s x is = record {
     within = omega (arith, is.within, Grows-length g h grows);
+    tree = HasTreeLit-grows (circuit_of n) g h grows (IsVariableLit n w g) (IsVariableLit n w h) (λ p y (k, has, lit). (k, has, IsLitOf-grows g h grows (Input k) y lit)) s x.0 is.tree;
     values = λ a v reading. is.values a v reading ∙ sym (value-grows g h grows a x.0 is.within);
     reads = λ m k reach at. let old = old_reached g h graph grows x.0 is.within reach in is.reads m k old.1 (old_node g h graph grows m (Input k) old.0 at);
   }

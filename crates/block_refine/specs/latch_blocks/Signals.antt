@@ -11,8 +11,10 @@ use Rattle.flat_net.specs.View.{NetView, circuit_of, cover_of}
 use Rattle.aig.specs.declared.node.Lit.{Lit}
 use Rattle.aig.specs.declared.node.Node.{Node}
 use Rattle.aig.specs.declared.node.Node.TheVariants.{Input}
+use Rattle.aig.specs.Graph.{IsLitOf}
 use Rattle.aig.specs.Values.{value}
 use Rattle.aig.specs.Rules.{IsCoverOf}
+use Rattle.aig.specs.Builds.{HasTreeLit}
 use Rattle.aig.specs.Cone.{IsReached}
 use Rattle.flat_net.specs.Weights.{driver_weight}
 use Rattle.block_refine.specs.declared.latch_blocks.variables.Variables.{Variables}
@@ -47,9 +49,14 @@ pub record IsReading (n : NetView) (w : Variables) (a v : ℕ → Bool) : Type 0
 abbrev pub IsLeaf : NetView → Variables → ℕ → ℕ → Type 0
 IsLeaf n w s k = (p : ℕ) × Reaches (circuit_of n) s p × (variable_at n w p ≡ Some k)
 
--- the literal has the signal's value under each assignment, and reads no variable but the signal's
+-- the literal is the variable of an input or a latch
+abbrev pub IsVariableLit : NetView → Variables → List Node → ℕ → ℕ → Type 0
+IsVariableLit n w g s x = (k : ℕ) × (variable_at n w s ≡ Some k) × IsLitOf g (Input k) x
+
+-- The literal is that of the signal's tree, has the signal's value under each assignment, and reads no variable but the signal's.
 pub record IsSignalLit (n : NetView) (w : Variables) (g : List Node) (s : ℕ) (x : Lit) : Type 0 where
   pub within : x.0 < 2 * length g
+  pub tree : HasTreeLit (circuit_of n) g (IsVariableLit n w g) s x.0
   pub values : (a v : ℕ → Bool) → IsReading n w a v → v s ≡ value g a x.0
   pub reads : (m k : ℕ) → IsReached g (x.0 ∷ []) m → slice_get g m ≡ Some (Input k) → IsLeaf n w s k
 

@@ -14,7 +14,8 @@ use Rattle.aig.proofs.Meaning.{value-grows}
 use Rattle.flat_net.specs.View.{NetView, circuit_of}
 use Rattle.latch_kinds.specs.unate_enable.Cones.{out_of_latch, data_of_latch}
 use Rattle.latch_kinds.specs.unate_enable.Recovery.{IsQueryOf}
-use Rattle.latch_kinds.specs.unate_enable.Building.{HasValue}
+use Rattle.latch_kinds.specs.unate_enable.Building.{HasTree, HasValue}
+use Rattle.latch_kinds.proofs.unate_enable.Literals.{tree_grows}
 
 apart : (vars : List ℕ) (n : ℕ) → length vars ≡ n → ((k : ℕ) → k < n → slice_get vars k ≡ Some k) → AllPairs (λ u v. u ≢ v) vars
 apart vars n count each i j d below inside same =
@@ -24,9 +25,10 @@ apart vars n count each i j d below inside same =
 
 -- both sides on one graph: the first was made on the smaller one
 pub query_from : (n : NetView) (j : ℕ) (places : List ℕ) (g h : List Node) (low high : Lit) (vars : List ℕ) → Grows g h → vars_of h ≤ length places → low.0 < 2 * length g → high.0 < 2 * length h →
+    HasTree (circuit_of n) (out_of_latch n j) false places g (data_of_latch n j) low.0 → HasTree (circuit_of n) (out_of_latch n j) true places h (data_of_latch n j) high.0 →
     HasValue (circuit_of n) (out_of_latch n j) false places g (data_of_latch n j) low.0 → HasValue (circuit_of n) (out_of_latch n j) true places h (data_of_latch n j) high.0 →
     length vars ≡ length places → ((k : ℕ) → k < length places → slice_get vars k ≡ Some k) → IsQueryOf n j places h (record { left = low; right = high; care = low; vars = vars })
-query_from n j places g h low high vars grows few low_within high_within low_is high_is each are = record {
+query_from n j places g h low high vars grows few low_within high_within low_tree high_tree low_is high_is each are = record {
   query = record {
     left = small;
     right = high_within;
@@ -34,8 +36,8 @@ query_from n j places g h low high vars grows few low_within high_within low_is 
     distinct = apart vars (length places) each are;
     covers = λ m v reach at. of_at vars v v (are v (omega (arith, few, vars_of-member h m (Input v) at)));
   };
-  low = record { within = small; is = λ a v case. low_is a v case ∙ sym (value-grows g h grows a low.0 low_within) };
-  high = record { within = high_within; is = high_is };
+  low = record { within = small; tree = tree_grows (circuit_of n) (out_of_latch n j) false places g h grows (data_of_latch n j) low.0 low_tree; is = λ a v case. low_is a v case ∙ sym (value-grows g h grows a low.0 low_within) };
+  high = record { within = high_within; tree = high_tree; is = high_is };
   care = refl;
   each = each;
   variables = are;

@@ -1,8 +1,9 @@
 -- What an answer to the query of a latch says of the latch.
-use Rattle.std.proofs.Common.{◌≡◌, ◌∙◌, ◌<◌, ℕ, Bool, true, false, true≢false, List, length, get_or, slice_get, Some, refl, sym, ap, subst, arith}
+use Rattle.std.proofs.Common.{◌≡◌, ◌∙◌, ◌<◌, ◌≤◌, ℕ, Bool, true, false, true≢false, List, length, get_or, slice_get, Some, refl, sym, ap, subst, arith}
 use Rattle.std.specs.Prelude.{◌≢◌}
 use Rattle.std.proofs.lemmas.Option.{slice_get_within, slice_get-get_or, get_or_from_slice_get}
 use Rattle.circuit_theory.specs.Circuit.{Circuit, Equation, Gate, Latch, Port, IsLatch}
+use Rattle.circuit_theory.specs.Query.{bits_of}
 use Rattle.circuit_theory.specs.Run.{ExtendsWith, IsEnabled}
 use Rattle.circuit_theory.specs.Net.{IsNet}
 use Rattle.circuit_theory.proofs.Lists.{of_at}
@@ -16,7 +17,7 @@ use Rattle.aig.specs.declared.node.Lit.{Lit}
 use Rattle.aig.specs.declared.node.Node.{Node}
 use Rattle.aig.specs.Values.{value}
 use Rattle.pair_decide.specs.declared.query.Query.{Query}
-use Rattle.pair_decide.specs.Queries.{IsSame, assigned_to}
+use Rattle.pair_decide.specs.Queries.{IsSame, Distinguishes, assigned_to}
 use Rattle.pair_decide.specs.declared.query.SameBy.{SameBy}
 use Rattle.pair_decide.specs.declared.query.SameBy.TheVariants as same
 use Rattle.pair_decide.specs.declared.query.Decision.{Decision}
@@ -32,6 +33,7 @@ use Rattle.latch_kinds.specs.unate_enable.Recovery.{recovery_of, IsAsked, IsAnsw
 use Rattle.latch_kinds.specs.unate_enable.Raises.{IsRaise}
 use Rattle.circuit_laws.proofs.EnabledForm.{enabled_loads_or_keeps_in_nets}
 use Rattle.latch_kinds.proofs.unate_enable.Cones.{ArePlaces}
+use Rattle.latch_kinds.proofs.unate_enable.OneCone.{one_cone}
 
 abbrev next_of : Equation ℕ → ℕ
 next_of (Gate out fanins cover) = out
@@ -110,9 +112,33 @@ module _ (n : NetView) (sound : IsSound n) (j : ℕ) (own : j < length n.latches
   not_true true h = absurd (h refl)
   not_true false h = refl
 
+  -- values with which the latch falls answer the query
+  fall_distinguishes : (signals : List ℕ) (cone : LatchCone) (g : List Node) (q : Query) → IsConeOfLatch n j cone → ArePlaces n j signals (places_of n cone) → IsQueryOf n j (places_of n cone) g q → (bits : List Bool) → FallsAt n j bits → Distinguishes g q (assigned_to q.vars bits)
+  fall_distinguishes signals cone g q cone_is are is bits falls = record {
+    care = ap (λ (l : Lit). value g (assigned_to q.vars bits) l.0) is.care ∙ left_one;
+    differ = λ e. true≢false (sym left_one ∙ e ∙ right_zero);
+  }
+    where
+      same : falls.cone ≡ cone
+      same = one_cone n j falls.cone cone falls.cone_is cone_is
+
+      each : length bits ≡ length q.vars
+      each = falls.each ∙ ap (λ (k : LatchCone). length (places_of n k)) same ∙ sym is.each
+
+      takes : (k p : ℕ) → slice_get (places_of n cone) k ≡ Some p → falls.x p ≡ assigned_to q.vars bits k
+      takes k p at =
+          let bit = falls.takes k p (subst (λ (o : LatchCone). slice_get (places_of n o) k ≡ Some p) (sym same) at) in
+          sym (get_or_from_slice_get bits k (falls.x p) false bit) ∙ assigned_to-at q.vars bits is.query.distinct each k k (is.variables k (slice_get_within (places_of n cone) k p at))
+
+      left_one : value g (assigned_to q.vars bits) q.left.0 ≡ true
+      left_one = sym (is.low.is (assigned_to q.vars bits) falls.low (case_of signals (places_of n cone) are false (assigned_to q.vars bits) falls.x falls.low takes falls.low_is)) ∙ falls.low_is_one
+
+      right_zero : value g (assigned_to q.vars bits) q.right.0 ≡ false
+      right_zero = sym (is.high.is (assigned_to q.vars bits) falls.high (case_of signals (places_of n cone) are true (assigned_to q.vars bits) falls.x falls.high takes falls.high_is)) ∙ falls.high_is_zero
+
   -- the sides differ somewhere
   pub falls_from : (signals : List ℕ) (cone : LatchCone) (g : List Node) (q : Query) (bits : List Bool) → IsConeOfLatch n j cone → ArePlaces n j signals (places_of n cone) → IsQueryOf n j (places_of n cone) g q → IsDifference g q bits → IsNotUnate n j bits
-  falls_from signals cone g q bits cone_is are is difference = record { falls = falls; not_enabled = not_enabled }
+  falls_from signals cone g q bits cone_is are is difference = record { falls = falls; least = least; not_enabled = not_enabled }
     where
       places : List ℕ
       places = places_of n cone
@@ -164,6 +190,14 @@ module _ (n : NetView) (sound : IsSound n) (j : ℕ) (own : j < length n.latches
         low_is_one = low_value ∙ left_one;
         high_is_zero = high_value ∙ right_zero;
       }
+
+      least : length bits ≤ 16 → (number : ℕ) × (bits ≡ bits_of number (length bits)) × ((m : ℕ) → m < number → FallsAt n j (bits_of m (length bits)) → ⊥)
+      least few =
+          let k = difference.least (omega (arith, few, difference.each)) in (
+            k.0,
+            k.1 ∙ ap (bits_of k.0) (sym difference.each),
+            λ m below falling. k.2.least m below (subst (λ (len : ℕ). Distinguishes g q (assigned_to q.vars (bits_of m len))) difference.each (fall_distinguishes signals cone g q cone_is are is (bits_of m (length bits)) falling)),
+          )
 
       not_enabled : IsEnabled (circuit_of n) (out_of_latch n j) → ⊥
       not_enabled en =

@@ -9,7 +9,9 @@ use Rattle.aig.specs.declared.node.Lit.{Lit}
 use Rattle.aig.specs.declared.node.Node.{Node}
 use Rattle.aig.specs.Graph.{Grows, vars_of}
 use Rattle.aig.specs.Values.{value}
-use Rattle.latch_kinds.specs.unate_enable.Recovery.{IsCase}
+use Rattle.aig.specs.Rules.{IsCoverOf}
+use Rattle.aig.specs.Builds.{HasTreeLit}
+use Rattle.latch_kinds.specs.unate_enable.Recovery.{IsCase, IsLeafLit}
 
 -- the literal is put, and nothing else is changed
 pub record IsPut (old : ℕ → Option Lit) (s : ℕ) (x : Lit) (new : ℕ → Option Lit) : Type 0 where
@@ -32,9 +34,18 @@ HasValue c u bit places g s x = (a v : ℕ → Bool) → IsCase c u bit places a
 abbrev pub HaveValues : Circuit ℕ → ℕ → Bool → List ℕ → List Node → (ℕ → Option Lit) → Type 0
 HaveValues c u bit places g known = (s : ℕ) (x : Lit) → known s ≡ Some x → HasValue c u bit places g s x.0
 
--- what follows from what: the known literals keep their values on the graph that has grown, and more have theirs
+-- the literal is that of the signal's tree
+abbrev pub HasTree : Circuit ℕ → ℕ → Bool → List ℕ → List Node → ℕ → ℕ → Type 0
+HasTree c u bit places g s x = HasTreeLit c g (IsLeafLit u bit places g) s x
+
+-- the same of all that are known
+abbrev pub HaveTrees : Circuit ℕ → ℕ → Bool → List ℕ → List Node → (ℕ → Option Lit) → Type 0
+HaveTrees c u bit places g known = (s : ℕ) (x : Lit) → known s ≡ Some x → HasTree c u bit places g s x.0
+
+-- what follows from what: the known literals keep their trees and values on the graph that has grown, and more have theirs
 pub record Learns (c : Circuit ℕ) (u : ℕ) (bit : Bool) (places : List ℕ) (g h : List Node) (old new : ℕ → Option Lit) : Type 0 where
   pub within : AreWithin h new
+  pub trees : HaveTrees c u bit places g old → HaveTrees c u bit places h new
   pub values : HaveValues c u bit places g old → HaveValues c u bit places h new
   pub stays : (s : ℕ) → IsKnown old s → IsKnown new s
 
@@ -50,6 +61,7 @@ pub record IsGateLit (n : NetView) (j : ℕ) (known : ℕ → Option Lit) (g h :
   pub at : slice_get n.gates j ≡ Some gate
   pub lits : List Lit
   pub each : AllZip (λ f y. known f.0 ≡ Some y) gate.fanins lits
+  pub is : IsCoverOf h (cover_of n.covers gate) (map (λ y. y.0) lits) x
   pub value : (a : ℕ → Bool) → value h a x ≡ cover_value (cover_of n.covers gate) (map (λ y. value g a y.0) lits)
   pub within : x < 2 * length h
 

@@ -1,12 +1,15 @@
 -- What is found out about a latch.
-use Rattle.std.specs.Prelude.{◌≡◌, ◌↔◌, ℕ, ◌*◌, ◌<◌, ◌≤◌, Bool, true, false, not, ◌||◌, if◌then◌else◌, List, length, slice_get, Some}
+use Rattle.std.specs.Prelude.{◌≡◌, ◌↔◌, ◌⊎◌, ℕ, ◌*◌, ◌<◌, ◌≤◌, Bool, true, false, not, ◌||◌, if◌then◌else◌, List, length, slice_get, Some}
 use Rattle.circuit_theory.specs.Circuit.{Circuit, Meets, InCone}
+use Rattle.circuit_theory.specs.Query.{bits_of}
 use Rattle.circuit_theory.specs.Run.{ExtendsWith, Loads, IsEnabled}
 use Rattle.circuit_theory.specs.Sizes.{IsConeWeight, IsConeOver}
 use Rattle.sec_base.specs.declared.limits.TheConstants.{MAX_WEIGHT}
 use Rattle.flat_net.specs.View.{NetView, circuit_of}
 use Rattle.aig.specs.declared.node.Node.{Node}
-use Rattle.aig.specs.Graph.{IsGraph}
+use Rattle.aig.specs.declared.node.Node.TheVariants.{Input}
+use Rattle.aig.specs.Graph.{IsGraph, IsLitOf}
+use Rattle.aig.specs.Builds.{HasTreeLit}
 use Rattle.aig.specs.Values.{value}
 use Rattle.pair_decide.specs.declared.query.Query.{Query}
 use Rattle.pair_decide.specs.declared.query.Proof.{Proof}
@@ -31,9 +34,14 @@ pub record IsCase (c : Circuit ℕ) (u : ℕ) (bit : Bool) (places : List ℕ) (
   pub put : v u ≡ bit
   pub takes : (k p : ℕ) → slice_get places k ≡ Some p → v p ≡ a k
 
--- the literal is what the latch takes over, as a function of these places, where the latch itself is read as the bit
+-- the literal of a leaf: the bit for the latch u, and variable k for the k-th of the places
+abbrev pub IsLeafLit : ℕ → Bool → List ℕ → List Node → ℕ → ℕ → Type 0
+IsLeafLit u bit places g s x = ((s ≡ u) × (x ≡ (if bit then 1 else 0))) ⊎ ((k : ℕ) × (slice_get places k ≡ Some s) × IsLitOf g (Input k) x)
+
+-- The literal is that of the tree of what the latch takes over, as a function of these places, where the latch itself is read as the bit.
 pub record IsNextLit (n : NetView) (j : ℕ) (bit : Bool) (places : List ℕ) (g : List Node) (lit : ℕ) : Type 0 where
   pub within : lit < 2 * length g
+  pub tree : HasTreeLit (circuit_of n) g (IsLeafLit (out_of_latch n j) bit places g) (data_of_latch n j) lit
   pub is : (a v : ℕ → Bool) → IsCase (circuit_of n) (out_of_latch n j) bit places a v → v (data_of_latch n j) ≡ value g a lit
 
 -- The query of the latch: f0, f1, and f0 as the care, where variable k stands for the k-th of the places.
@@ -69,9 +77,10 @@ pub record IsEnabledAt (n : NetView) (j : ℕ) : Type 0 where
   pub enabled : IsEnabled (circuit_of n) (out_of_latch n j)
   pub loads_or_keeps : LoadsOrKeeps (circuit_of n) (out_of_latch n j) (data_of_latch n j)
 
--- it isn't, since there are values with which it falls
+-- it isn't, since there are values with which it falls: up to 16 of them the least, where the first value is the lowest bit of the number
 pub record IsNotUnate (n : NetView) (j : ℕ) (bits : List Bool) : Type 0 where
   pub falls : FallsAt n j bits
+  pub least : length bits ≤ 16 → (number : ℕ) × (bits ≡ bits_of number (length bits)) × ((m : ℕ) → m < number → FallsAt n j (bits_of m (length bits)) → ⊥)
   pub not_enabled : IsEnabled (circuit_of n) (out_of_latch n j) → ⊥
 
 -- the search for such values has met the limit

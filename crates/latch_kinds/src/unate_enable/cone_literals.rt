@@ -8,7 +8,7 @@ ghost use Rattle.indexmap.specs.IndexMap.{get};
 ghost use Rattle.flat_net.specs.View.{circuit_of};
 ghost use Rattle.aig.specs.Graph.{Grows};
 ghost use Rattle.flat_net.specs.Weights.{gate_weight, weight_at};
-ghost use Rattle.latch_kinds.specs.unate_enable.Building.{IsPut, IsKnown, AreWithin, HasValue, Learns, HasGrown, IsGateLit, AreClosed};
+ghost use Rattle.latch_kinds.specs.unate_enable.Building.{IsPut, IsKnown, AreWithin, HasTree, HasValue, Learns, HasGrown, IsGateLit, AreClosed};
 
 use aig::{Aig, Lit};
 use flat_net::{Driver, Net, Signal, gate_of};
@@ -16,7 +16,7 @@ use indexmap::IndexMap;
 use sec_base::NoMemory;
 use std::alloc::Global;
 
-/// The literal of a signal, where variable k stands for the k-th place and the latch is read as a bit. The signals are the signal
+/// The literal of a signal's tree, where variable k stands for the k-th place and the latch is read as a bit. The signals are the signal
 /// and what it is reached from.
 pub(crate) fn lit_with(
     alloc: Global,
@@ -35,6 +35,7 @@ pub(crate) fn lit_with(
     requires few { length places.now < 2 ^ 29 }
     requires room { length aig.old + length places.now + sum_by (weight_at net.now) signals.now < 2 ^ 30 }
     ensures within { IfOk result (λ x. x.0 < 2 * length aig.new) }
+    ensures tree { IfOk result (λ x. HasTree (circuit_of net.now) latch.0 bit places.now aig.new s.0 x.0) }
     ensures value { IfOk result (λ x. HasValue (circuit_of net.now) latch.0 bit places.now aig.new s.0 x.0) }
     ensures grown { OnOk result (HasGrown aig.old aig.new (length places.now + sum_by (weight_at net.now) signals.now) (length places.now)) }
 {
@@ -62,6 +63,7 @@ fn lit_over(
     requires few { length places.now < 2 ^ 29 }
     requires room { length aig.old + length places.now + sum_by (weight_at net.now) signals.now < 2 ^ 30 }
     ensures within { IfOk result (λ x. x.0 < 2 * length aig.new) }
+    ensures tree { IfOk result (λ x. HasTree (circuit_of net.now) latch.0 bit places.now aig.new s.0 x.0) }
     ensures value { IfOk result (λ x. HasValue (circuit_of net.now) latch.0 bit places.now aig.new s.0 x.0) }
     ensures grown { OnOk result (HasGrown aig.old aig.new (length places.now + sum_by (weight_at net.now) signals.now) (length places.now)) }
 {

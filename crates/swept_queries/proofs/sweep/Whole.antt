@@ -13,7 +13,7 @@ use Rattle.aig.proofs.Growth.{vars_of-append}
 use Rattle.aig.proofs.Literals.{parity}
 use Rattle.swept_queries.specs.node_agreement.Standing.{StandsFor, AreStandIns, plainly, literal_in}
 use Rattle.swept_queries.specs.node_agreement.Agreeing.{Agree}
-use Rattle.swept_queries.specs.sweep.Swept.{AreLiteralsFor, IsSwept}
+use Rattle.swept_queries.specs.sweep.Swept.{AreLiteralsFor, HasNoOtherInputs, IsSwept}
 use Rattle.swept_queries.specs.node_agreement.Leads.{HasFewInputs, AreLeads}
 use Rattle.swept_queries.proofs.node_agreement.Stood.{stands-even, stands-odd, stands-trans, AreStandIns-grows, AreStandIns-push}
 
@@ -124,5 +124,5 @@ module _ (g h : List Node) (roots leads lits map : List Lit) (are : AreLeads g r
       one-literal i j y z at there (are.narrow few i j x w (get_or leads i y) (get_or leads j z) one other agree (lead-at i y at) (lead-at j z there))
 
   -- the graph that was grown from all of the other, with these literals
-  pub is_swept : vars_of h ≡ vars_of (take (length g) g) → IsSwept g roots (record { aig = h; lits = lits })
-  is_swept vars = record { each = swept-each; within = swept-within; values = swept-values; equal = swept-equal; narrow = swept-narrow; vars = vars-whole g h vars }
+  pub is_swept : vars_of h ≡ vars_of (take (length g) g) → HasNoOtherInputs g h → IsSwept g roots (record { aig = h; lits = lits })
+  is_swept vars inputs = record { each = swept-each; within = swept-within; values = swept-values; equal = swept-equal; narrow = swept-narrow; vars = vars-whole g h vars; inputs = inputs }

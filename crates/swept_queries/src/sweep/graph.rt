@@ -17,7 +17,7 @@ pub struct Swept {
     pub lits: Lits,
 }
 
-/// A new graph of the same variables, in which nodes that are proved to agree are one, and a literal for each root. Where there are
+/// A new graph of the same variables, with inputs for those of the graph alone, in which nodes that are proved to agree are one, and a literal for each root. Where there are
 /// inputs for at most 16 variables, roots that agree get one literal. `words` has eight words for each variable, of its values under
 /// 512 assignments: nodes whose values don't differ there are tried. A search for a proof has at most a twentieth of these conflicts,
 /// and those that fail together at most all of them.

@@ -9,6 +9,7 @@ ghost use Rattle.aig.specs.declared.node.Lit.{Lit};
 ghost use Rattle.swept_queries.specs.declared.sweep.growth.Step.TheVariants as step;
 ghost use Rattle.swept_queries.specs.node_agreement.Standing.{StandsFor, AreStandIns, AreChosen, plainly, literal_in};
 ghost use Rattle.swept_queries.specs.sweep.Grown.{IsGrown};
+ghost use Rattle.swept_queries.specs.sweep.Swept.{HasNoOtherInputs};
 
 use crate::node_agreement::{Budget, Effort, Hints, Proved, prove, signed, zero};
 use aig::{Aig, Lit, NoMemory, Node};
@@ -204,6 +205,7 @@ fn put_node(graph: &mut Aig, old: &Aig, n: u32, map: &[Lit]) -> Result<Lit, NoMe
     ensures more { length graph.old ≤ length graph.new }
     ensures few { length graph.new ≤ length graph.old + 1 }
     ensures vars { OnOk result ((node : Node) → slice_get old.now n ≡ Some node → vars_of graph.new ≡ max (vars_of (node ∷ [])) (vars_of graph.old)) }
+    ensures inputs { OnOk result (HasNoOtherInputs old.now graph.old → HasNoOtherInputs old.now graph.new) }
 {
     let _vars = old.vars();
     match old.node(n) {

@@ -1,24 +1,26 @@
 -- The next latch is given its class.
-use Rattle.std.proofs.Common.{◌≡◌, ◌≢◌, ℕ, ◌<◌, ◌≤◌, Bool, List, [], ◌∷◌, ◌++◌, refl, sym, ap, subst, arith, inl, inr}
+use Rattle.std.proofs.Common.{◌≡◌, ◌≢◌, ℕ, ◌<◌, ◌≤◌, Bool, List, [], ◌∷◌, ◌++◌, Some, refl, sym, ap, subst, arith, inl, inr}
 use Rattle.std.specs.Prelude.{◌⊎◌}
 use Rattle.std.specs.List.{Contains}
 use Rattle.std.proofs.lemmas.List.Elements.{Contains-append_cases, Contains-append_left, Contains-append_right}
-use Rattle.circuit_theory.specs.Circuit.{Circuit, IsSingleDriven}
+use Rattle.circuit_theory.specs.Circuit.{Circuit, IsLatch, IsSingleDriven}
 use Rattle.circuit_theory.specs.Depth.{LatchesHaveDepths}
 use Rattle.circuit_theory.specs.Query.{Variable}
-use Rattle.circuit_theory.specs.Joined.{joined}
+use Rattle.circuit_theory.specs.EventFits.{side_by_side}
+use Rattle.circuit_theory.specs.Joined.{Either, joined}
 use Rattle.circuit_theory.specs.Run.{IsEnabled}
+use Rattle.circuit_theory.specs.Tree.{Tree}
 use Rattle.circuit_theory.proofs.Lists.{Contains-head, only}
 use Rattle.circuit_laws.proofs.JoinedParts.{joined_same, joined_single}
 use Rattle.circuit_theory.specs.Classes.{IsFounder}
 use Rattle.circuit_theory.specs.EventFrames.{IsClassTree, AreNodeVariables, IsSeparation, IsSeparationFromAlways}
 use Rattle.circuit_theory.specs.EventTotals.{IsMapSoFar}
-use Rattle.circuit_theory.specs.Frame.{EventSide}
+use Rattle.circuit_theory.specs.Frame.{EventSide, EventUnfolds}
 use Rattle.circuit_laws.proofs.event_laws.ClassSteps.{pairs_ahead}
 use Rattle.circuit_laws.proofs.event_laws.OneClassMap.{side, rank_of, Agrees, Before, place_of, depth_of}
 use Rattle.circuit_laws.specs.reset_laws.class_extension.Telling.{TellsApart, TellsFromAlways}
-use Rattle.circuit_laws.specs.reset_laws.class_extension.Laws.{VariablesStay, SeparationsStay, SeparationsBegin}
-use Rattle.circuit_laws.proofs.reset_laws.class_extension.Trees.{variables_to, founder_to, apart_to, always_to}
+use Rattle.circuit_laws.specs.reset_laws.class_extension.Laws.{IsNextGiven, VariablesStay, SeparationsStay, SeparationsBegin}
+use Rattle.circuit_laws.proofs.reset_laws.class_extension.Trees.{held_to, variables_to, founder_to, apart_to, always_to}
 
 -- a separation is what tells the founder of the higher class from the member
 parts_of : {P : Type 0} (s : EventSide P) (order : List P) (low high : ℕ) (u w : P) (variables : List (Variable (List ℕ))) (bits : List Bool) (l r : Bool) → IsSeparation s order low high u w variables bits l r → TellsApart s order low u w variables bits l r
@@ -109,6 +111,10 @@ module _ {P : Type 0} (c : Circuit P) (single : IsSingleDriven c) (same : (p q :
   pub variables_kept : (u w : P) (variables : List (Variable (List ℕ))) → Contains (taken ++ v ∷ []) u → Contains (taken ++ v ∷ []) w → AreNodeVariables (IsClassTree (S f) u w) variables → AreNodeVariables (IsClassTree (S g) u w) variables
   variables_kept u w variables hu hw are = variables_to c single same depths o (Rank v) f g agree u w variables (low_of u hu) (low_of w hw) are
 
+  -- what a latch takes over, with the latch at a bit
+  pub held_kept : (name : List ℕ) (u next : P) (bit : Bool) (tree : Tree (List ℕ)) → Contains (taken ++ v ∷ []) u → IsLatch c name u next → EventUnfolds (S f) (IsEnabled c) (Some (u, bit)) next [] tree → EventUnfolds (S g) (IsEnabled c) (Some (u, bit)) next [] tree
+  held_kept name u next bit tree h latch unfolds = held_to c single same depths o (Rank v) f g agree name u next bit [] tree latch (low_of u h) unfolds
+
   in_founder : (class : ℕ) (w : P) → IsFounder (S f) taken class w → Contains taken w
   in_founder class w is = subst (λ zs. Contains zs w) (sym is.split) (Contains-append_right is.before (w ∷ is.after) w (Contains-head w is.after))
 
@@ -154,6 +160,13 @@ module _ {P : Type 0} (c : Circuit P) (single : IsSingleDriven c) (same : (p q :
 pub variables_stay_in_nets : VariablesStay
 variables_stay_in_nets a b m n left right f g taken rest v next u w variables hu hw are =
     variables_kept (joined a b) (joined_single a b m n next.left_net next.right_net) joined_same next.depths (left ++ right) f g taken rest v next.map next.others u w variables hu hw are
+
+-- what a latch that was taken takes over, or the next one, unfolds to the same tree
+pub held_trees_stay : (a b : Circuit ℕ) (m n : ℕ) (left right : List ℕ) (f g : Either ℕ ℕ → ℕ) (taken rest : List (Either ℕ ℕ)) (v : Either ℕ ℕ) → IsNextGiven a b m n left right f g taken rest v →
+    (name : List ℕ) (u next : Either ℕ ℕ) (bit : Bool) (tree : Tree (List ℕ)) → Contains (taken ++ v ∷ []) u → IsLatch (joined a b) name u next →
+    EventUnfolds (side_by_side a b left right f) (IsEnabled (joined a b)) (Some (u, bit)) next [] tree → EventUnfolds (side_by_side a b left right g) (IsEnabled (joined a b)) (Some (u, bit)) next [] tree
+held_trees_stay a b m n left right f g taken rest v next_given name u next bit tree h latch unfolds =
+    held_kept (joined a b) (joined_single a b m n next_given.left_net next_given.right_net) joined_same next_given.depths (left ++ right) f g taken rest v next_given.map next_given.others name u next bit tree h latch unfolds
 
 pub separations_stay_in_nets : SeparationsStay
 separations_stay_in_nets a b m n left right f g taken rest v next variables bits = (

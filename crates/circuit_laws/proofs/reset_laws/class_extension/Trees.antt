@@ -51,7 +51,7 @@ module _ {P : Type 0} (c : Circuit P) (single : IsSingleDriven c) (same : (p q :
       all_to (EventUnfoldsAll.more {p = p} {ps = ps} one rest) low = EventUnfoldsAll.more (unfolds_to one (low p (Contains-head p ps))) (all_to rest (λ q m. low q (Contains-tail p q ps m)))
 
     -- what a latch of this rank or a lower one takes over
-    held_to : (name : List ℕ) (u next : P) (bit : Bool) (node : List ℕ) (tree : Tree (List ℕ)) → IsLatch c name u next → Rank u ≤ R → EventUnfolds (side c single same depths o f) (IsEnabled c) (Some (u, bit)) next node tree →
+    pub held_to : (name : List ℕ) (u next : P) (bit : Bool) (node : List ℕ) (tree : Tree (List ℕ)) → IsLatch c name u next → Rank u ≤ R → EventUnfolds (side c single same depths o f) (IsEnabled c) (Some (u, bit)) next node tree →
         EventUnfolds (side c single same depths o g) (IsEnabled c) (Some (u, bit)) next node tree
     held_to name u next bit node tree latch small rest = unfolds_to rest (λ v cone k. let down = falls u v (name, next, latch, cone, λ en. k) in omega (arith, down, small))
 

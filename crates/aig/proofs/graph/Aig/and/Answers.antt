@@ -6,9 +6,8 @@ use Rattle.aig.specs.declared.node.Node.{Node}
 use Rattle.aig.specs.Graph.{IsGraph, IsAbove, IsLitOf, Grows}
 use Rattle.aig.specs.Values.{value}
 use Rattle.aig.specs.Rules.{simple_and, IsAndOf}
-use Rattle.aig.proofs.Meaning.{value-grows}
 use Rattle.aig.proofs.CoverMeaning.{value-and}
-use Rattle.aig.proofs.Insert.{and_node-above, simple_and-none, simple_and-within, simple_and-is, and_node-is, value-and_grown, lit-within}
+use Rattle.aig.proofs.Insert.{and_node-above, simple_and-none, simple_and-within, simple_and-is, and_node-is, with_and-is, with_and-made, value-and_grown, lit-within}
 use Rattle.aig.proofs.graph.Aig.and.Goals as goal
 
 pub insert-requires-clause-above : goal.insert-requires-clause-above
@@ -49,5 +48,12 @@ returns-in-None-clause-value c =
 pub returns-in-None-clause-grows : goal.returns-in-None-clause-grows
 returns-in-None-clause-grows c = subst (λ (k : List Node). Grows k c.insert.new.nodes) c.self.view_is c.insert.ensures.grows
 
-pub returns-in-None-clause-older : goal.returns-in-None-clause-older
-returns-in-None-clause-older c = value-grows c.args.self.now c.insert.new.nodes (subst (λ (k : List Node). Grows k c.insert.new.nodes) c.self.view_is c.insert.ensures.grows)
+pub returns-in-Some-clause-made : goal.returns-in-Some-clause-made
+returns-in-Some-clause-made c = with_and-is c.args.self.now c.args.l.0 c.args.r.0 c.in-Some.x.0 (sym c.in-Some.ensures)
+
+pub returns-in-None-clause-made : goal.returns-in-None-clause-made
+returns-in-None-clause-made c =
+    let none : simple_and c.args.l.0 c.args.r.0 ≡ None = sym c.simple_and.ensures ∙ ap (option_map (λ (x : Lit). x.0)) c.in-None.is in
+    let g : List Node = c.args.self.now in
+    let h : List Node = c.insert.new.nodes in
+    with_and-made c.insert.result g c.self.inside.nodes h c.and_node.result c.args.l.0 c.args.r.0 none c.self.view_is c.and_node.ensures c.insert.ensures.made

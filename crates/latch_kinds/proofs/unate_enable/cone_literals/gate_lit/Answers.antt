@@ -49,6 +49,6 @@ returns c =
     let weight : gate_weight n.covers (slice_get n.gates c.args.j) ≡ gate_weight n.covers (Some g) = ap (gate_weight n.covers) c.gate_of-gate.ensures in
     record {
       here = gate_lit_from n c.args.j (get nat_eq c.args.known.now) c.args.aig.now c.cover-2.new.self g c.in_ok-lits.lits.items c.in_ok-lit.lit.0 c.gate_of-gate.ensures c.as_slice.result.now c.as_slice.ensures c.in_ok-lits.ensures
-          c.cover.result.now is c.as_slice-2.result.now c.as_slice-2.ensures.value c.in_ok-lit.ensures.value c.in_ok-lit.ensures.within;
+          c.cover.result.now is c.as_slice-2.result.now c.as_slice-2.ensures.value c.in_ok-lit.ensures.here c.in_ok-lit.ensures.value c.in_ok-lit.ensures.within;
       grown = record { grows = c.cover-2.ensures.grows; nodes = omega (arith, c.cover-2.ensures.few, room, weight); vars = omega (arith, c.cover-2.ensures.vars) };
     }

@@ -37,6 +37,7 @@ returns c =
     let gates = c.in_ok-put_gates.ensures.learns c.args.latch.0 c.args.bit c.args.places.now in
     record {
       within = gates.within c.args.s.0 c.lit_of.result c.lit_of.ensures;
+      tree = gates.trees (variables.trees first.2) c.args.s.0 c.lit_of.result c.lit_of.ensures;
       value = gates.values (variables.values first.1) c.args.s.0 c.lit_of.result c.lit_of.ensures;
       grown = grown_then c.args.aig.now c.put_places.new.aig c.put_gates.new.aig _ _ _ c.in_ok-put_places.ensures.grown c.in_ok-put_gates.ensures.grown;
     }

@@ -15,4 +15,4 @@ lit_over-requires c = record {
 }
 
 pub returns : goal.returns
-returns c = record { within = c.lit_over.ensures.within; value = c.lit_over.ensures.value; grown = c.lit_over.ensures.grown }
+returns c = record { within = c.lit_over.ensures.within; tree = c.lit_over.ensures.tree; value = c.lit_over.ensures.value; grown = c.lit_over.ensures.grown }

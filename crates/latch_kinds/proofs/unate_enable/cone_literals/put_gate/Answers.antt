@@ -11,7 +11,7 @@ use Rattle.flat_net.specs.View.{circuit_of}
 use Rattle.flat_net.specs.Weights.{driver_weight}
 use Rattle.latch_kinds.specs.unate_enable.Building.{IsKnown, HasGrown}
 use Rattle.flat_net.proofs.Drivers.{driven_gate, gate_reads_to, no_gate_source}
-use Rattle.latch_kinds.proofs.unate_enable.Literals.{learns_none, learns_put, gate_value, grown_none}
+use Rattle.latch_kinds.proofs.unate_enable.Literals.{learns_none, learns_put, gate_tree, gate_value, grown_none}
 use Rattle.latch_kinds.proofs.unate_enable.cone_literals.put_gate.Goals as goal
 
 pub gate_lit-requires-clause-gate : goal.gate_lit-requires-clause-gate
@@ -34,6 +34,7 @@ returns-in_ok-put-in-Gate c =
       learns = λ u bit places.
           learns_put (circuit_of c.args.net.now) u bit places c.args.aig.now c.gate_lit.new.aig (get nat_eq c.args.known.now) (get nat_eq c.put.new.known) c.args.s.0 c.in_ok-lit-in-Gate.lit lit.grown.grows c.requires.lits c.in_ok-put-in-Gate.ensures
           lit.here.within
+          (gate_tree c.args.net.now c.keeps.ensures.sound u bit places (get nat_eq c.args.known.now) c.args.aig.now c.gate_lit.new.aig lit.grown.grows c.args.s.0 c.in-Gate.j c.in_ok-lit-in-Gate.lit.0 drives lit.here)
           (gate_value c.args.net.now c.keeps.ensures.sound u bit places (get nat_eq c.args.known.now) c.args.aig.now c.gate_lit.new.aig c.args.s.0 c.in-Gate.j c.in_ok-lit-in-Gate.lit.0 drives lit.here);
       known = (c.in_ok-lit-in-Gate.lit, c.in_ok-put-in-Gate.ensures.here);
       grown = subst (λ w. HasGrown c.args.aig.now c.gate_lit.new.aig w 0) (sym (ap (driver_weight c.args.net.now) drives)) lit.grown;

@@ -1,9 +1,10 @@
 -- One variable more.
-use Rattle.std.proofs.Common.{◌≡◌, ◌∙◌, length, nat_eq, get_or, sym, subst, arith}
+use Rattle.std.proofs.Common.{◌≡◌, ◌∙◌, inr, length, nat_eq, get_or, sym, subst, arith}
 use Rattle.std.proofs.lemmas.Option.{slice_get-get_or, slice_get_within}
 use Rattle.indexmap.specs.IndexMap.{get}
 use Rattle.circuit_theory.proofs.Lists.{at_of, All-from_each}
 use Rattle.latch_kinds.specs.unate_enable.Building.{IsKnown, HasGrown}
+use Rattle.aig.specs.Builds.{HasTreeLit}
 use Rattle.aig.proofs.Growth.{Grows-trans}
 use Rattle.latch_kinds.proofs.unate_enable.Literals.{learns_none, learns_put, learns_trans, grown_none, known_more, put_stays}
 use Rattle.latch_kinds.proofs.unate_enable.cone_literals.put_places.Goals as goal
@@ -27,6 +28,7 @@ loop-k-preserved c =
           learns_trans b u bit c.args.places.now c.args.aig.now c.loop-k.aig c.input.new.self (get nat_eq c.args.known.now) (get nat_eq c.loop-k.known) (get nat_eq c.put.new.known) (c.loop-k.invariant.learns b u bit)
           (learns_put b u bit c.args.places.now c.loop-k.aig c.input.new.self (get nat_eq c.loop-k.known) (get nat_eq c.put.new.known) (get_or c.args.places.now c.loop-k.k 0) c.in_ok-lit.lit c.input.ensures.grows (c.loop-k.invariant.learns b u bit).within
           c.in_ok-put.ensures c.in_ok-lit.ensures.within
+          (λ trees. HasTreeLit.at_leaf (get_or c.args.places.now c.loop-k.k 0) c.in_ok-lit.lit.0 (inr (c.loop-k.k, here, c.in_ok-lit.ensures.here)))
           (λ values a v case. case.takes c.loop-k.k (get_or c.args.places.now c.loop-k.k 0) here ∙ sym (c.in_ok-lit.ensures.value a)));
       known = λ k q below at.
           known_more c.args.places.now c.loop-k.k (get nat_eq c.loop-k.known) (get nat_eq c.put.new.known) p here c.loop-k.invariant.known

@@ -15,4 +15,4 @@ returns c =
     is_swept c.args.aig.now c.in_ok-growth.growth.graph c.args.roots.now c.in_ok-leads.leads.items c.from_vec.result c.in_ok-growth.growth.map.items
     (subst (λ (rs : List Lit). AreLeads c.args.aig.now rs c.in_ok-leads.leads.items) c.as_slice.ensures c.in_ok-leads.ensures)
     (lists_are c.as_slice-3.result.now c.in_ok-growth.growth.map.items c.as_slice-4.result.now c.in_ok-leads.leads.items c.in_ok-lits.lits.items c.from_vec.result c.as_slice-3.ensures.value c.as_slice-4.ensures.value c.from_vec.ensures c.in_ok-lits.ensures)
-    c.in_ok-growth.ensures.stand c.in_ok-growth.ensures.each c.in_ok-growth.ensures.vars
+    c.in_ok-growth.ensures.stand c.in_ok-growth.ensures.each c.in_ok-growth.ensures.vars c.in_ok-growth.ensures.inputs

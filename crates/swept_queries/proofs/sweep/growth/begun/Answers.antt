@@ -2,6 +2,7 @@ use Rattle.std.proofs.Common.{◌≡◌, ◌∙◌, List, [], ◌∷◌, ◌++�
 use Rattle.aig.specs.declared.node.Lit.{Lit}
 use Rattle.aig.specs.Graph.{IsGraph, vars_of}
 use Rattle.swept_queries.proofs.sweep.Whole.{begun-stand, begun-vars}
+use Rattle.swept_queries.proofs.sweep.Inputs.{inputs_none}
 use Rattle.swept_queries.proofs.sweep.growth.begun.Goals as goal
 
 pub returns : goal.returns
@@ -14,4 +15,5 @@ returns c =
       chosen = c.in_ok-note.ensures.chosen;
       few = omega (arith, ap length c.note.ensures.graph, ap length c.in_ok-graph.ensures);
       vars = ap vars_of c.note.ensures.graph ∙ ap vars_of c.in_ok-graph.ensures ∙ begun-vars c.args.old.now c.keeps.ensures.graph;
+      inputs = inputs_none c.args.old.now c.note.new.self.graph (c.note.ensures.graph ∙ c.in_ok-graph.ensures);
     }

@@ -4,6 +4,8 @@ use Rattle.aig.specs.declared.node.Node.TheVariants.{Input}
 use Rattle.aig.proofs.Insert.{vars_of-member}
 use Rattle.swept_queries.specs.node_agreement.Standing.{plainly}
 use Rattle.swept_queries.proofs.node_agreement.Stood.{stands-and, IfOk-both}
+use Rattle.aig.proofs.Meaning.{value-grows}
+use Rattle.swept_queries.proofs.sweep.Inputs.{inputs_input, inputs_and}
 use Rattle.swept_queries.proofs.sweep.growth.put_node.Goals as goal
 
 pub input-requires-clause-small : goal.input-requires-clause-small
@@ -23,3 +25,12 @@ returns-in-And-clause-stands c =
     stands-and plainly c.args.old.now c.args.graph.now c.and.new.self (2 * c.args.n) c.in-And.l.0 c.in-And.r.0 c.literal_for.result.0 c.literal_for-in-And.result.0 x.0 c.in-And.ensures.value
     (c.literal_for.ensures.stands c.args.old.now c.args.graph.now c.requires.map) (c.literal_for-in-And.ensures.stands c.args.old.now c.args.graph.now c.requires.map) within made)
     c.and.ensures.within c.and.ensures.value
+
+pub returns-in-And-clause-older : goal.returns-in-And-clause-older
+returns-in-And-clause-older c = value-grows c.args.graph.now c.and.new.self c.and.ensures.grows
+
+pub returns-in-Input-clause-inputs : goal.returns-in-Input-clause-inputs
+returns-in-Input-clause-inputs c = inputs_input c.args.old.now c.args.graph.now c.input.new.self c.input.result c.args.n c.in-Input.v c.in-Input.ensures.node c.input.ensures.made
+
+pub returns-in-And-clause-inputs : goal.returns-in-And-clause-inputs
+returns-in-And-clause-inputs c = inputs_and c.args.old.now c.args.graph.now c.and.new.self c.and.result c.literal_for.result.0 c.literal_for-in-And.result.0 c.and.ensures.made

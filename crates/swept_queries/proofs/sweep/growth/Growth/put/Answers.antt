@@ -2,6 +2,7 @@ use Rattle.std.proofs.Common.{◌≡◌, ◌*◌, ◌<◌, List, [], ◌∷◌, 
 use Rattle.aig.specs.declared.node.Lit.{Lit}
 use Rattle.aig.specs.declared.node.Node.{Node}
 use Rattle.swept_queries.specs.node_agreement.Standing.{AreChosen}
+use Rattle.swept_queries.specs.sweep.Swept.{HasNoOtherInputs}
 use Rattle.swept_queries.proofs.sweep.Whole.{stand-step, each-step, vars-step}
 use Rattle.swept_queries.proofs.sweep.growth.Growth.put.Goals as goal
 
@@ -20,4 +21,5 @@ returns c =
       chosen = c.in_ok-note.ensures.chosen;
       few = omega (arith, ap length c.note.ensures.graph, c.put_node.ensures.few, c.requires.grown.few);
       vars = vars-step c.args.old.now c.args.self.now.graph c.put_node.new.graph graph c.args.n c.requires.node c.requires.grown.vars c.in_ok-x.ensures.vars c.note.ensures.graph;
+      inputs = subst (HasNoOtherInputs c.args.old.now) (sym c.note.ensures.graph) (c.in_ok-x.ensures.inputs c.requires.grown.inputs);
     }
