@@ -1,4 +1,5 @@
 pub mod Fed
+pub mod Firsts
 pub mod Listed
 pub mod Places
 pub mod Puts

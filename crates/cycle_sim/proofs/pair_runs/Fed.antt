@@ -1,30 +1,45 @@
 -- Nets that are fed the rows of a stimulus.
-use Rattle.std.proofs.Common.{◌≡◌, ◌∙◌, ◌+◌, ◌^◌, ◌<◌, ◌≤◌, ℕ, Bool, List, [], ◌∷◌, ◌++◌, map, length, take, slice_get, Option, Some, None, refl, sym, ap, subst, arith}
+use Rattle.std.proofs.Common.{◌≡◌, ◌∙◌, ◌^◌, ◌<◌, ℕ, Bool, List, [], map, length, replicate, slice_get, Option, Some, None, refl, sym, ap, subst, arith}
 use Rattle.std.specs.List.{All}
-use Rattle.std.proofs.lemmas.List.{append-nil, take_all}
-use Rattle.std.proofs.lemmas.Option.{none-some, slice_get_within}
+use Rattle.std.proofs.lemmas.List.{append-nil, length-replicate}
+use Rattle.std.proofs.lemmas.Option.{none-some, same_Some, slice_get_within}
 use Rattle.circuit_theory.proofs.Lists.{length-map, All-from_each, at_of}
-use Rattle.flat_net.specs.declared.parts.Port.{Port}
 use Rattle.flat_net.specs.View.{NetView}
 use Rattle.flat_net.proofs.Nets.{some_at}
 use Rattle.flat_net.proofs.Places.{All-at}
-use Rattle.base_tables.proofs.TableLemmas.{take-push}
 use Rattle.cycle_sim.specs.View.{HasMarkedRun}
 use Rattle.cycle_sim.specs.declared.pair_runs.differences.Difference.{Difference}
 use Rattle.cycle_sim.specs.declared.pair_runs.differences.OutputPair.{OutputPair}
+use Rattle.cycle_sim.specs.declared.pair_runs.differences.Replayed.{Replayed}
+use Rattle.cycle_sim.specs.declared.pair_runs.differences.Settling.{Settling}
 use Rattle.cycle_sim.specs.declared.pair_runs.feed.Feed.{Feed}
-use Rattle.cycle_sim.specs.pair_runs.Feeding.{IsColumn, AreColumns, IsWithin, reordered}
+use Rattle.cycle_sim.specs.pair_runs.Feeding.{IsColumn, IsWithin, reordered}
 use Rattle.cycle_sim.specs.pair_runs.Feeds.{Fed, fed, zeros, IsFresh, CanStep, IsReady, PutsCycles, AreFound}
-use Rattle.cycle_sim.specs.pair_runs.Showing.{ArePlacesOf}
+use Rattle.cycle_sim.specs.pair_runs.Listing.{IsFirstIn}
+use Rattle.cycle_sim.specs.pair_runs.Showing.{ArePlacesOf, names_of}
+use Rattle.cycle_sim.proofs.Lists.{replicate_at}
+use Rattle.cycle_sim.proofs.pair_runs.Firsts.{none_first}
 use Rattle.cycle_sim.proofs.pair_runs.ShownPairs.{IsFedBy, IsAt}
 
 -- before the first row
-pub at_first : (pairs : List OutputPair) (rows more : List (List Bool)) (x y : Feed) (old : List Difference) → IsReady x rows → IsReady y more → IsAt (fed x) (fed y) pairs [] x y old old
-at_first pairs rows more x y old ready_x ready_y = record {
+pub at_first : (pairs : List OutputPair) (rows more : List (List Bool)) (x y : Feed) (old : List Difference) (firsts : List (Option ℕ)) → IsReady x rows → IsReady y more → firsts ≡ replicate (length pairs) None → IsAt (fed x) (fed y) pairs [] x y old old firsts
+at_first pairs rows more x y old firsts ready_x ready_y none = record {
   left_is = record { same = refl; space = ready_x.space; run = ready_x.run };
   right_is = record { same = refl; space = ready_y.space; run = ready_y.run };
-  puts = record { cycles = []; each = refl; found_is = sym (append-nil old); shown = λ left right from_left from_right t shown at. absurd (none-some shown at) };
+  puts = record {
+    cycles = [];
+    each = refl;
+    found_is = sym (append-nil old);
+    shown = λ left right from_left from_right t shown at. absurd (none-some shown at);
+    size = size;
+    firsts_are = λ j first at.
+        let w = slice_get_within firsts j first at in
+        subst (IsFirstIn [] j) (same_Some None first (sym (replicate_at (length pairs) j None (omega (arith, w, size))) ∙ (ap (λ (fs : List (Option ℕ)). slice_get fs j) (sym none) ∙ at))) (none_first j);
+  };
 }
+  where
+    size : length firsts ≡ length pairs
+    size = ap length none ∙ length-replicate (length pairs) None
 
 -- the next row can be fed
 pub can_step : (first x : Feed) (rows done : List (List Bool)) (i : ℕ) (row : List Bool) → IsReady first rows → IsFedBy (fed first) done x → length done ≡ i → slice_get rows i ≡ Some row → length rows < 2 ^ 32 → CanStep x row
@@ -63,17 +78,22 @@ ready n enabled header rows f wide fresh = record {
         let port = some_at n.inputs at.0 (let w = slice_get_within f.columns.items at.0 column at.1 in omega (arith, w, e)) in
         named row size port.0.name column (fresh.columns.named at.0 port.0 column port.1 at.1)
 
--- the differences of both nets
-pub are_found : (m k : NetView) (left_bits right_bits : List Bool) (header : List (List ℕ)) (rows : List (List Bool)) (pairs : List OutputPair) (x y : Feed) (found : List Difference) → IsFresh m left_bits header x → IsFresh k right_bits header y →
-    PutsCycles (fed x) (fed y) pairs rows [] found → AreFound m left_bits k right_bits pairs header rows found
-are_found m k left_bits right_bits header rows pairs x y found fresh_x fresh_y puts = record {
+-- the differences of both nets, and since when the pairs are settled
+pub are_found : (m k : NetView) (left_bits right_bits : List Bool) (header : List (List ℕ)) (rows : List (List Bool)) (pairs : List OutputPair) (x y : Feed) (found : Replayed) → IsFresh m left_bits header x → IsFresh k right_bits header y →
+    PutsCycles (fed x) (fed y) pairs rows [] found.differences (map (λ (s : Settling). s.first) found.settlings) → map (λ (s : Settling). s.pair) found.settlings ≡ names_of pairs → AreFound m left_bits k right_bits pairs header rows found
+are_found m k left_bits right_bits header rows pairs x y found fresh_x fresh_y puts named = record {
   left_columns = x.columns.items;
   right_columns = y.columns.items;
   left_are = fresh_x.columns;
   right_are = fresh_y.columns;
-  puts = subst (λ f. PutsCycles f (record { net = k; bits = right_bits; columns = y.columns.items }) pairs rows [] found) left_is (subst (λ g. PutsCycles (fed x) g pairs rows [] found) right_is puts);
+  puts = subst (λ f. PutsCycles f (record { net = k; bits = right_bits; columns = y.columns.items }) pairs rows [] found.differences firsts) left_is
+      (subst (λ g. PutsCycles (fed x) g pairs rows [] found.differences firsts) right_is puts);
+  named = named;
 }
   where
+    firsts : List (Option ℕ)
+    firsts = map (λ (s : Settling). s.first) found.settlings
+
     left_is : fed x ≡ record { net = m; bits = left_bits; columns = x.columns.items }
     left_is = λ i. record { net = fresh_x.net i; bits = fresh_x.bits i; columns = x.columns.items }
 

@@ -1,25 +1,25 @@
 -- What is shown of the pairs in each cycle is right in every run that both nets have gone through.
-use Rattle.std.proofs.Common.{◌≡◌, ◌∙◌, ◌+◌, ◌-◌, ◌<◌, ℕ, Bool, List, [], ◌∷◌, ◌++◌, map, length, take, slice_get, Some, inl, inr, ◌⊎◌, refl, sym, ap, subst, arith, append_assoc, length-append}
+use Rattle.std.proofs.Common.{◌≡◌, ◌∙◌, ◌+◌, ◌-◌, ◌<◌, ℕ, Bool, List, [], ◌∷◌, ◌++◌, map, length, slice_get, Option, Some, inl, inr, ◌⊎◌, sym, ap, subst, arith, append_assoc, length-append}
 use Rattle.std.specs.Prelude.{IfSome}
 use Rattle.std.proofs.lemmas.List.{map-append}
 use Rattle.circuit_theory.proofs.Lists.{length-map}
-use Rattle.std.proofs.lemmas.Option.{slice_get_within, slice_get-get_or}
+use Rattle.std.proofs.lemmas.Option.{slice_get_within, slice_get-get_or, same_Some}
 use Rattle.circuit_theory.specs.Replay.{Difference as PlacedDifference}
 use Rattle.flat_net.specs.View.{NetView}
 use Rattle.flat_net.proofs.Nets.{some_at}
 use Rattle.cycle_sim.specs.Runs.{IsRunFrom}
-use Rattle.cycle_sim.specs.View.{MarkedView, HasMarkedRun, IsLatest, IsLatestMark, IsMark}
+use Rattle.cycle_sim.specs.View.{HasMarkedRun, IsLatest, IsLatestMark, IsMark}
 use Rattle.cycle_sim.proofs.Runs.{shorter}
-use Rattle.witness_report.specs.declared.witness.PairName.{PairName}
 use Rattle.cycle_sim.specs.declared.pair_runs.differences.Difference.{Difference}
 use Rattle.cycle_sim.specs.declared.pair_runs.differences.OutputPair.{OutputPair}
 use Rattle.cycle_sim.specs.declared.pair_runs.feed.Feed.{Feed}
 use Rattle.cycle_sim.specs.declared.pair_runs.shown.Shown.{Shown}
 use Rattle.cycle_sim.specs.pair_runs.Outputs.{no_port, output_at}
 use Rattle.cycle_sim.specs.pair_runs.Feeding.{reordered}
-use Rattle.cycle_sim.specs.pair_runs.Feeds.{Fed, fed, zeros, Steps, IsRunOf, IsShownAt, AreShownAt, PutsCycles}
-use Rattle.cycle_sim.specs.pair_runs.Listing.{differences_in, differences_from}
+use Rattle.cycle_sim.specs.pair_runs.Feeds.{Fed, fed, zeros, Steps, IsRunOf, AreShownAt, PutsCycles}
+use Rattle.cycle_sim.specs.pair_runs.Listing.{differences_in, differences_from, first_with, IsFirstIn}
 use Rattle.cycle_sim.specs.pair_runs.Showing.{IsShown, ArePlacesOf, PutsShown, called, names_of}
+use Rattle.cycle_sim.proofs.pair_runs.Firsts.{first_more}
 use Rattle.cycle_sim.proofs.pair_runs.Listed.{from_more}
 use Rattle.cycle_sim.proofs.pair_runs.Places.{pushed_at}
 
@@ -33,11 +33,11 @@ pub record IsFedBy (f : Fed) (done : List (List Bool)) (x : Feed) : Type 0 where
   pub space : length x.bits.items ≡ length x.columns.items
   pub run : HasMarkedRun x.sim (zeros f.net) (map (reordered f.columns) done)
 
--- both have been fed the rows, and the differences stand behind the others
-pub record IsAt (f g : Fed) (pairs : List OutputPair) (done : List (List Bool)) (x y : Feed) (old new : List Difference) : Type 0 where
+-- both have been fed the rows, the differences stand behind the others, and it is noted which pairs are settled in both
+pub record IsAt (f g : Fed) (pairs : List OutputPair) (done : List (List Bool)) (x y : Feed) (old new : List Difference) (firsts : List (Option ℕ)) : Type 0 where
   pub left_is : IsFedBy f done x
   pub right_is : IsFedBy g done y
-  pub puts : PutsCycles f g pairs done old new
+  pub puts : PutsCycles f g pairs done old new firsts
 
 -- one row more
 fed_more : (f : Fed) (done : List (List Bool)) (row : List Bool) (x y : Feed) → IsFedBy f done x → Steps x row y → IsFedBy f (done ++ row ∷ []) y
@@ -103,9 +103,9 @@ run_before f done row run from =
     (subst (λ (rows : List (List Bool)). IsRunFrom f.net (zeros f.net) rows run) (map-append (reordered f.columns) done (row ∷ [])) from)
 
 -- one row more is fed to both
-pub at_more : (f g : Fed) (pairs : List OutputPair) (done : List (List Bool)) (row : List Bool) (x y v w : Feed) (old mid new : List Difference) → ArePlacesOf f.net g.net pairs → IsAt f g pairs done x y old mid → Steps x row v → Steps y row w →
-    PutsShown v.sim w.sim pairs x.sim.sim.cycles mid new → IsAt f g pairs (done ++ row ∷ []) v w old new
-at_more f g pairs done row x y v w old mid new places at step_x step_y last = record {
+pub at_more : (f g : Fed) (pairs : List OutputPair) (done : List (List Bool)) (row : List Bool) (x y v w : Feed) (old mid new : List Difference) (firsts noted : List (Option ℕ)) → ArePlacesOf f.net g.net pairs → IsAt f g pairs done x y old mid firsts → Steps x row v → Steps y row w →
+    PutsShown v.sim w.sim pairs x.sim.sim.cycles mid new firsts noted → IsAt f g pairs (done ++ row ∷ []) v w old new noted
+at_more f g pairs done row x y v w old mid new firsts noted places at step_x step_y last = record {
   left_is = by_v;
   right_is = by_w;
   puts = record {
@@ -118,6 +118,17 @@ at_more f g pairs done row x y v w old mid new places at step_x step_y last = re
         ∙ ap (λ ds. old ++ ds) (ap (λ k. map call (differences_from 0 cycles) ++ map call (differences_in k 0 last.shown)) place
         ∙ (sym (map-append call (differences_from 0 cycles) (differences_in (0 + length cycles) 0 last.shown)) ∙ ap (map call) (sym (from_more 0 cycles last.shown))))));
     shown = λ left right from_left from_right t shown there. go left right from_left from_right t shown (pushed_at cycles last.shown t shown there);
+    size = last.size ∙ at.puts.size;
+    firsts_are = λ j first there.
+        let w = slice_get_within noted j first there in
+        let e = last.size in
+        let s = at.puts.size in
+        let each = last.each in
+        let before = some_at firsts j (omega (arith, w, e)) in
+        let pair = some_at last.shown j (omega (arith, w, e, s, each)) in
+        let here : length cycles ≡ x.sim.sim.cycles = let p = place in omega (arith, p) in
+        subst (IsFirstIn (cycles ++ last.shown ∷ []) j) (same_Some (first_with before.0 (length cycles) pair.0) first (ap (λ k. Some (first_with before.0 k pair.0)) here ∙ (sym (last.noted_are j pair.0 before.0 pair.1 before.1) ∙ there)))
+        (first_more cycles last.shown j pair.0 pair.1 before.0 (at.puts.firsts_are j before.0 before.1));
   };
 }
   where

@@ -7,9 +7,11 @@ use Rattle.cycle_sim.specs.View.{HasMarkedRun, IsMark}
 use Rattle.cycle_sim.specs.declared.pair_runs.differences.Difference.{Difference}
 use Rattle.cycle_sim.specs.declared.pair_runs.feed.Feed.{Feed}
 use Rattle.cycle_sim.specs.declared.pair_runs.differences.OutputPair.{OutputPair}
+use Rattle.cycle_sim.specs.declared.pair_runs.differences.Replayed.{Replayed}
+use Rattle.cycle_sim.specs.declared.pair_runs.differences.Settling.{Settling}
 use Rattle.cycle_sim.specs.declared.pair_runs.shown.Shown.{Shown}
 use Rattle.cycle_sim.specs.pair_runs.Feeding.{AreColumns, IsWithin, reordered}
-use Rattle.cycle_sim.specs.pair_runs.Listing.{differences_from}
+use Rattle.cycle_sim.specs.pair_runs.Listing.{differences_from, IsFirstIn}
 use Rattle.cycle_sim.specs.pair_runs.Outputs.{output_at}
 use Rattle.cycle_sim.specs.pair_runs.Showing.{called, names_of}
 
@@ -73,17 +75,21 @@ pub record AreShownAt (f g : Fed) (pairs : List OutputPair) (left right : ℕ �
   pub each : length shown ≡ length pairs
   pub right_is : (j : ℕ) (p : OutputPair) (s : Shown) → slice_get pairs j ≡ Some p → slice_get shown j ≡ Some s → IsShownAt f g left right t p s
 
--- The differences of all cycles over the rows stand behind the others.
-pub record PutsCycles (f g : Fed) (pairs : List OutputPair) (rows : List (List Bool)) (old new : List Difference) : Type 0 where
+-- The differences of all cycles over the rows stand behind the others, and of each pair the first cycle is noted in which it is settled
+-- in both circuits.
+pub record PutsCycles (f g : Fed) (pairs : List OutputPair) (rows : List (List Bool)) (old new : List Difference) (firsts : List (Option ℕ)) : Type 0 where
   pub cycles : List (List Shown)
   pub each : length cycles ≡ length rows
   pub found_is : new ≡ old ++ map (called (names_of pairs)) (differences_from 0 cycles)
   pub shown : (left right : ℕ → ℕ → Bool) → IsRunOf f rows left → IsRunOf g rows right → (t : ℕ) (shown : List Shown) → slice_get cycles t ≡ Some shown → AreShownAt f g pairs left right t shown
+  pub size : length firsts ≡ length pairs
+  pub firsts_are : (j : ℕ) (first : Option ℕ) → slice_get firsts j ≡ Some first → IsFirstIn cycles j first
 
--- The differences of both nets, with 0 in each latch, over the rows under the header.
-pub record AreFound (m : NetView) (left_bits : List Bool) (k : NetView) (right_bits : List Bool) (pairs : List OutputPair) (header : List (List ℕ)) (rows : List (List Bool)) (found : List Difference) : Type 0 where
+-- The differences of both nets, with 0 in each latch, over the rows under the header, and since when each pair is settled in both.
+pub record AreFound (m : NetView) (left_bits : List Bool) (k : NetView) (right_bits : List Bool) (pairs : List OutputPair) (header : List (List ℕ)) (rows : List (List Bool)) (found : Replayed) : Type 0 where
   pub left_columns : List (Option ℕ)
   pub right_columns : List (Option ℕ)
   pub left_are : AreColumns m header left_columns
   pub right_are : AreColumns k header right_columns
-  pub puts : PutsCycles (record { net = m; bits = left_bits; columns = left_columns }) (record { net = k; bits = right_bits; columns = right_columns }) pairs rows [] found
+  pub puts : PutsCycles (record { net = m; bits = left_bits; columns = left_columns }) (record { net = k; bits = right_bits; columns = right_columns }) pairs rows [] found.differences (map (λ (s : Settling). s.first) found.settlings)
+  pub named : map (λ (s : Settling). s.pair) found.settlings ≡ names_of pairs

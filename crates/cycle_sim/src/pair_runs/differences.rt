@@ -1,4 +1,4 @@
-//! Pairs that differ.
+//! Pairs that differ, and pairs that settle.
 
 use sec_base::Seq;
 use witness_report::PairName;
@@ -25,3 +25,33 @@ pub struct Difference {
 
 /// Differences, in order.
 pub type Differences = Seq<Difference>;
+
+/// A pair of signals, and since when it is settled in both circuits.
+#[derive(Drop)]
+pub struct Settling {
+    pub pair: PairName,
+    /// The first cycle in which the pair is settled in both, from 0; none where it is so in no cycle.
+    pub first: Option<u32>,
+}
+
+/// Each pair, in order, and since when it is settled in both circuits.
+pub type Settlings = Seq<Settling>;
+
+/// What two circuits show on a stimulus.
+pub struct Replayed {
+    /// All differences, by cycle and then by pair: the outputs in the first circuit's order, then what the latches that are cut open
+    /// take over, in the first circuit's order of latches.
+    pub differences: Differences,
+    /// Each pair, in the same order, and since when it is settled in both circuits.
+    pub settlings: Settlings,
+}
+
+/// It is let go by one call: an owner isn't taken apart field by field at each way out.
+impl Drop for Replayed {
+    fn drop(self) {
+        let Replayed {
+            differences: _,
+            settlings: _,
+        } = self;
+    }
+}

@@ -2,4 +2,4 @@
 
 mod report;
 
-pub use report::replay_report;
+pub use report::{replay_report, settle_report, settled_count, settled_replay_report};

@@ -1,7 +1,7 @@
-//! What a cycle shows of the pairs, and the differences in it.
+//! What a cycle shows of the pairs: the differences in it, and which of them are settled in both circuits.
 
 ghost use Rattle.std.specs.Prelude.{◌≡◌, ◌+◌, ◌<◌, ◌&&◌, [], ◌∷◌, ◌++◌, length, map, slice_get, if◌then◌else◌, IfOk, OnOk};
-ghost use Rattle.cycle_sim.specs.pair_runs.Listing.{differ, is_difference};
+ghost use Rattle.cycle_sim.specs.pair_runs.Listing.{differ, is_settled, is_difference, first_with};
 ghost use Rattle.cycle_sim.specs.pair_runs.Showing.{as_pair, IsShown, ArePlacesOf, PutsShown};
 
 use crate::MarkedSim;
@@ -34,14 +34,32 @@ fn read_pair(left: &MarkedSim<'_>, right: &MarkedSim<'_>, pair: &OutputPair) -> 
     }
 }
 
+/// Whether the pair is settled in both circuits.
+fn is_settled(shown: Shown) -> bool
+    ensures { result ≡ is_settled shown }
+{
+    shown.left_mark && shown.right_mark
+}
+
 /// Whether the pair is settled in both circuits and differs.
 fn is_difference(shown: Shown) -> bool
     ensures { result ≡ is_difference shown }
 {
-    (shown.left_mark && shown.right_mark) && shown.left != shown.right
+    is_settled(shown) && shown.left != shown.right
 }
 
-fn copy_name(name: &PairName) -> Result<PairName, NoMemory>
+/// The first cycle in which the pair is settled in both circuits, by the first of the cycles before this one, where there is one, and
+/// by what this one shows.
+fn first_with(first: Option<u32>, cycle: u32, shown: Shown) -> Option<u32>
+    ensures { result ≡ first_with first cycle shown }
+{
+    match first {
+        Some(before) => Some(before),
+        None => { if is_settled(shown) { Some(cycle) } else { None } }
+    }
+}
+
+pub(crate) fn copy_name(name: &PairName) -> Result<PairName, NoMemory>
     ensures { IfOk result (λ made. made ≡ name.now) }
 {
     match name {
@@ -70,21 +88,26 @@ fn put_pair(
     })
 }
 
-/// Puts the differences of the latest cycle, which has this number, behind those found.
+/// Puts the differences of the latest cycle, which has this number, behind those found, and notes of each pair whether it is settled in
+/// both circuits, where it wasn't before.
 pub(crate) fn put_shown(
     left: &MarkedSim<'_>,
     right: &MarkedSim<'_>,
     pairs: &[OutputPair],
     cycle: u32,
     found: &mut Differences,
+    firsts: &mut [Option<u32>],
 ) -> Result<(), NoMemory>
     requires places { ArePlacesOf left.now.sim.net right.now.sim.net pairs.now }
     requires left_begun { 0 < left.now.sim.cycles }
     requires right_begun { 0 < right.now.sim.cycles }
-    ensures { OnOk result (PutsShown left.now right.now pairs.now cycle found.old found.new) }
+    requires firsts { length firsts.old ≡ length pairs.now }
+    ensures { OnOk result (PutsShown left.now right.now pairs.now cycle found.old found.new firsts.old firsts.new) }
 {
-    for pair in pairs {
-        put_pair(cycle, &pair.name, read_pair(left, right, pair), found)?;
+    for (j, pair) in pairs.iter().enumerate() {
+        let shown = read_pair(left, right, pair);
+        put_pair(cycle, &pair.name, shown, found)?;
+        firsts[j] = first_with(firsts[j], cycle, shown);
     }
     Ok(())
 }

@@ -1,4 +1,4 @@
-use Rattle.std.proofs.Common.{ℕ, Option, arith}
+use Rattle.std.proofs.Common.{arith}
 use Rattle.std.proofs.lemmas.Option.{slice_get_within}
 use Rattle.cycle_sim.proofs.Lists.{map_is}
 use Rattle.cycle_sim.specs.pair_runs.Feeding.{bit_of}
