@@ -119,10 +119,9 @@ def check(clauses_text, text):
 def refute(variables, live, text):
     greatest = len(live)
     for place, line in lines(text):
-        words = tokens(line)
-        if not words or words[0].startswith(b"c"):
+        if not line or line.startswith(b"c"):
             continue
-        found = parts(words, variables)
+        found = parts(tokens(line), variables)
         if found is None:
             raise Fault(place, "BadLine")
         name, deletes, literals, rest = found

@@ -6,7 +6,7 @@ use Rattle.std.specs.List.{All, flat_map, list_all, before_first, after_first}
 use Rattle.std.proofs.lemmas.Bool.{ne_eqb}
 use Rattle.std.proofs.lemmas.List.Elements.{All-nil, All-cons, All-head, All-tail, All-append}
 use Rattle.proof_check.specs.Literals.{Literal}
-use Rattle.sec_base.specs.text_numbers.Lines.{tokens_of, is_passed_over, is_empty}
+use Rattle.sec_base.specs.text_numbers.Lines.{tokens_of, begins_with, is_empty}
 use Rattle.sec_base.specs.text_numbers.Numbers.{with_first, numbers_of, positive, is_zero}
 use Rattle.sec_base.specs.declared.text_numbers.numbers.TheConstants.{MAX_SIZE}
 use Rattle.sec_base.specs.declared.text_numbers.numbers.Number.{Number}
@@ -17,7 +17,7 @@ use Rattle.lrat_core.proofs.dimacs_text.dimacs_writer.Numerals.{at_most, some_di
 use Rattle.lrat_core.specs.Lines.{Addition, Adds}
 use Rattle.lrat_core.specs.declared.hints.Hint.{Hint}
 use Rattle.lrat_core.specs.declared.hints.Hint.TheVariants.{Clause, Negative}
-use Rattle.lrat_core.specs.lrat_text.Spellings.{Nothing, Malformed, Spells, hint_of, is_ended, is_addition, addition_of, deletion_of, has_d, without_second, in_numbers, spelling_by, spelling_of}
+use Rattle.lrat_core.specs.lrat_text.Spellings.{Nothing, Malformed, Spells, hint_of, is_ended, is_addition, addition_of, deletion_of, has_d, without_second, in_numbers, spelling_by, is_comment, spelling_of}
 use Rattle.lrat_core.specs.certificate_writer.Texts.{number_piece, hint_piece, addition_text}
 use Rattle.lrat_core.specs.certificate_writer.Hinting.{IsWithin}
 use Rattle.lrat_core.proofs.certificate_writer.Ranges.{IsNumbered}
@@ -163,6 +163,11 @@ module _ (v : ℕ) (small : v ≤ 2 ^ 30) where
       go true = other (decimal l.variable) (some_digits l.variable wide) (λ e. let r = digit l.variable wide 0 (some_digits l.variable wide) in let z : ⊥ = omega (arith, r, e) in z)
       go false = refl
 
+  -- a line that begins with a digit isn't passed over
+  shown : (digits rest : List ℕ) → 0 < length digits → begins_with 99 digits ≡ false → is_comment ((digits ++ 32 ∷ []) ++ rest) ≡ false
+  shown [] rest some e = absurd (omega (arith, some))
+  shown (x ∷ digits) rest some e = e
+
   module _ (a : Addition) (id_small : a.id ≤ MAX_SIZE) (within : IsWithin v a.literals) (numbered : All (IsNumbered MAX_SIZE) a.hints) where
     line_tokens : tokens_of (addition_line a) ≡ decimal a.id ∷ map literal_text a.literals ++ (zero_text ∷ map hint_text a.hints ++ zero_text ∷ [])
     line_tokens =
@@ -209,8 +214,9 @@ module _ (v : ℕ) (small : v ≤ 2 ^ 30) where
 
     pub addition_spelled : spelling_of v (addition_line a) ≡ Spells (Adds a)
     addition_spelled =
-        ap (λ ts. cond (is_passed_over ts) Nothing (spelling_by v ts)) line_tokens
-        ∙ (ap (λ b. cond b Nothing (spelling_by v (decimal a.id ∷ map literal_text a.literals ++ (zero_text ∷ map hint_text a.hints ++ zero_text ∷ [])))) (no_comment a.id id_small)
+        ap (λ ts. cond (is_comment (addition_line a)) Nothing (spelling_by v ts)) line_tokens
+        ∙ (ap (λ b. cond b Nothing (spelling_by v (decimal a.id ∷ map literal_text a.literals ++ (zero_text ∷ map hint_text a.hints ++ zero_text ∷ []))))
+        (shown (decimal a.id) (literals_line a.literals a.hints) (some_digits a.id id_small) (no_comment a.id id_small))
         ∙ (ap (λ b. cond b (in_numbers deletion_of (numbers_of (without_second (decimal a.id ∷ map literal_text a.literals ++ (zero_text ∷ map hint_text a.hints ++ zero_text ∷ []))))) (in_numbers (addition_of v) (numbers_of (decimal a.id ∷ map literal_text a.literals ++ (zero_text ∷ map hint_text a.hints ++ zero_text ∷ [])))))
         (no_d a.literals (map hint_text a.hints ++ zero_text ∷ []) (decimal a.id) within)
         ∙ (ap (in_numbers (addition_of v)) line_numbers ∙ read_back)))

@@ -3,7 +3,7 @@ use Rattle.std.proofs.Common.{◌≡◌, ℕ, Bool, true, false, cond, List, [],
 use Rattle.std.specs.Prelude.{◌==◌}
 use Rattle.std.proofs.Math.Dec.{eqb-suc-zero}
 use Rattle.proof_check.specs.Literals.{Literal}
-use Rattle.sec_base.specs.text_numbers.Lines.{tokens_of, is_passed_over}
+use Rattle.sec_base.specs.text_numbers.Lines.{tokens_of}
 use Rattle.sec_base.specs.declared.text_numbers.numbers.Number.{Number}
 use Rattle.lrat_core.specs.Lines.{adds, Deletes}
 use Rattle.lrat_core.specs.Answers.{IsTaken}
@@ -12,15 +12,15 @@ use Rattle.lrat_core.specs.declared.hints.Hint.{Hint}
 use Rattle.lrat_core.specs.declared.lrat_text.line.Buffers.{Buffers}
 use Rattle.lrat_core.specs.declared.lrat_text.line.Form.{Form}
 use Rattle.lrat_core.specs.declared.lrat_text.line.Form.TheVariants as form
-use Rattle.lrat_core.specs.lrat_text.Spellings.{Spelling, Nothing, Malformed, Spells, deletion_of, spelling_by, spelling_of}
+use Rattle.lrat_core.specs.lrat_text.Spellings.{Spelling, Nothing, Malformed, Spells, deletion_of, spelling_by, is_comment, spelling_of}
 use Rattle.lrat_core.specs.lrat_text.Parts.{AreWords, IsDeletion, IsForm, IsStep}
 use Rattle.lrat_core.specs.declared.lrat_text.words.Words.{Words}
 use Rattle.lrat_core.specs.declared.lrat_text.words.Words.TheVariants as words
 
-shown : (limit : ℕ) (line : List ℕ) (b : Bool) → b ≡ is_passed_over (tokens_of line) → b ≡ false → spelling_of limit line ≡ spelling_by limit (tokens_of line)
+shown : (limit : ℕ) (line : List ℕ) (b : Bool) → b ≡ is_comment line → b ≡ false → spelling_of limit line ≡ spelling_by limit (tokens_of line)
 shown limit line b e f = ap (λ t. cond t Nothing (spelling_by limit (tokens_of line))) (sym e ∙ f)
 
-pub malformed_there : (limit : ℕ) (line : List ℕ) (b : Bool) (w : Words) (numbers : List Number) → b ≡ is_passed_over (tokens_of line) → b ≡ false → AreWords (tokens_of line) w numbers → w ≡ words.Malformed →
+pub malformed_there : (limit : ℕ) (line : List ℕ) (b : Bool) (w : Words) (numbers : List Number) → b ≡ is_comment line → b ≡ false → AreWords (tokens_of line) w numbers → w ≡ words.Malformed →
     spelling_of limit line ≡ Malformed
 malformed_there limit line b w numbers e f are is = shown limit line b e f ∙ subst (λ (x : Words). AreWords (tokens_of line) x numbers) is are limit
 
@@ -32,12 +32,12 @@ found_false : (limit : ℕ) (line : List ℕ) (slice : List Number) (found : Boo
 found_false limit line slice true ids h e = absurd (let z : true ≡ false = e in cc)
 found_false limit line slice false ids h e = h
 
-pub deletion_there : (limit : ℕ) (line : List ℕ) (b : Bool) (w : Words) (numbers slice : List Number) (found : Bool) (ids : List ℕ) → b ≡ is_passed_over (tokens_of line) → b ≡ false → AreWords (tokens_of line) w numbers →
+pub deletion_there : (limit : ℕ) (line : List ℕ) (b : Bool) (w : Words) (numbers slice : List Number) (found : Bool) (ids : List ℕ) → b ≡ is_comment line → b ≡ false → AreWords (tokens_of line) w numbers →
     w ≡ words.Deletion → slice ≡ numbers → IsDeletion (deletion_of slice) found ids → found ≡ true → spelling_of limit line ≡ Spells (Deletes ids)
 deletion_there limit line b w numbers slice found ids e f are is same d t =
     shown limit line b e f ∙ (subst (λ (x : Words). AreWords (tokens_of line) x numbers) is are limit ∙ (ap deletion_of (sym same) ∙ found_true limit line slice found ids d t))
 
-pub no_deletion_there : (limit : ℕ) (line : List ℕ) (b : Bool) (w : Words) (numbers slice : List Number) (found : Bool) (ids : List ℕ) → b ≡ is_passed_over (tokens_of line) → b ≡ false → AreWords (tokens_of line) w numbers →
+pub no_deletion_there : (limit : ℕ) (line : List ℕ) (b : Bool) (w : Words) (numbers slice : List Number) (found : Bool) (ids : List ℕ) → b ≡ is_comment line → b ≡ false → AreWords (tokens_of line) w numbers →
     w ≡ words.Deletion → slice ≡ numbers → IsDeletion (deletion_of slice) found ids → found ≡ false → spelling_of limit line ≡ Malformed
 no_deletion_there limit line b w numbers slice found ids e f are is same d t =
     shown limit line b e f ∙ (subst (λ (x : Words). AreWords (tokens_of line) x numbers) is are limit ∙ (ap deletion_of (sym same) ∙ found_false limit line slice found ids d t))

@@ -1,7 +1,7 @@
 -- What a line of an LRAT text spells.
-use Rattle.std.specs.Prelude.{◌≡◌, ℕ, ◌&&◌, Bool, true, false, if◌then◌else◌, List, [], ◌∷◌, map, Option, Some, None, codes, bytes_eq, refl}
+use Rattle.std.specs.Prelude.{◌≡◌, ℕ, ◌&&◌, ◌==◌, Bool, true, false, if◌then◌else◌, List, [], ◌∷◌, map, Option, Some, None, codes, bytes_eq, refl}
 use Rattle.std.specs.List.{list_all, before_first, after_first}
-use Rattle.sec_base.specs.text_numbers.Lines.{is_empty, tokens_of, is_passed_over}
+use Rattle.sec_base.specs.text_numbers.Lines.{is_empty, tokens_of}
 use Rattle.sec_base.specs.text_numbers.Numbers.{numbers_of, is_zero, has_zero}
 use Rattle.sec_base.specs.declared.text_numbers.numbers.Number.{Number}
 use Rattle.lrat_core.specs.dimacs_text.Literals.{is_literal, literal_of}
@@ -61,9 +61,14 @@ in_numbers spelling (Some numbers) = spelling numbers
 abbrev pub spelling_by : ℕ → List (List ℕ) → Spelling
 spelling_by limit tokens = if has_d tokens then in_numbers deletion_of (numbers_of (without_second tokens)) else in_numbers (addition_of limit) (numbers_of tokens)
 
+-- an empty line, or one that begins with `c`; blanks before it are bytes like others
+abbrev pub is_comment : List ℕ → Bool
+is_comment [] = true
+is_comment (first ∷ line) = first == 99
+
 -- what a line spells, where literals have variables up to the limit
 abbrev pub spelling_of : ℕ → List ℕ → Spelling
-spelling_of limit line = if is_passed_over (tokens_of line) then Nothing else spelling_by limit (tokens_of line)
+spelling_of limit line = if is_comment line then Nothing else spelling_by limit (tokens_of line)
 
 addition_example : spelling_of 2 (codes "7 1 -2 0 3 -4 0") ≡
     Spells (adds 7 (record { variable = 1; positive = true } ∷ record { variable = 2; positive = false } ∷ []) (Clause 3 ∷ Negative 4 ∷ []))
@@ -84,3 +89,10 @@ limit_example = refl
 
 comment_example : spelling_of 2 (codes "c 7") ≡ Nothing
 comment_example = refl
+
+-- a comment that a blank stands before, and blanks alone
+blank_example : spelling_of 2 (codes " c 7") ≡ Malformed
+blank_example = refl
+
+blanks_example : spelling_of 2 (codes "  ") ≡ Malformed
+blanks_example = refl

@@ -1,7 +1,7 @@
 //! A line of an LRAT text.
 
-ghost use Rattle.std.specs.Prelude.{◌≤◌, ◌^◌, IfOk};
-ghost use Rattle.lrat_core.specs.lrat_text.Spellings.{spelling_of};
+ghost use Rattle.std.specs.Prelude.{◌≡◌, ◌≤◌, ◌^◌, IfOk};
+ghost use Rattle.lrat_core.specs.lrat_text.Spellings.{is_comment, spelling_of};
 ghost use Rattle.lrat_core.specs.lrat_text.Parts.{IsForm};
 
 use crate::Hint;
@@ -9,8 +9,18 @@ use crate::lrat_text::addition::{read_addition, read_deletion};
 use crate::lrat_text::words::{Words, read_words};
 use proof_check::Literal;
 use sec_base::NoMemory;
-use sec_base::text_numbers::{Number, is_passed_over};
+use sec_base::text_numbers::Number;
 use std::alloc::Global;
+
+/// Whether a line is passed over: it is empty, or begins with `c`.
+fn is_comment(line: &[u8]) -> bool
+    ensures { result ≡ is_comment line.now }
+{
+    match line {
+        [] => true,
+        [first, ..] => *first == b'c',
+    }
+}
 
 /// What a line is.
 #[derive(Clone, Copy)]
@@ -61,7 +71,7 @@ impl Buffers {
         requires { limit ≤ 2 ^ 30 }
         ensures { IfOk result (λ form. IsForm (spelling_of limit line.now) form self.new) }
     {
-        if is_passed_over(line) {
+        if is_comment(line) {
             return Ok(Form::Nothing);
         }
         match read_words(line, &mut self.numbers)? {
