@@ -92,17 +92,19 @@ own_on A a b w j x kept within own on =
     let nb = sound_is_net b.net kept.right_sound in
     let parts = sides_are_parts_in_nets (circuit_of a.net) (circuit_of b.net) (length a.net.drivers) (length b.net.drivers) na nb in
     let at = latch_there a.net j within in (
-    (sides_have_variables_in_nets (circuit_of a.net) (circuit_of b.net) (length a.net.drivers) (length b.net.drivers) a.order b.order (class_map a b) na nb (numbered a kept.left) (latch_at a.net j).out.0 (variables_of w x.vars)).0
-    (own_variables a w j (latch_at a.net j) x kept.left_sound kept.left at ((parts.0 (latch_at a.net j).out.0).1 on) (own (latch_at a.net j) at)),
-    left_lit a b w kept j (latch_at a.net j) x.value.0 at (own (latch_at a.net j) at).value)
+      (sides_have_variables_in_nets (circuit_of a.net) (circuit_of b.net) (length a.net.drivers) (length b.net.drivers) a.order b.order (class_map a b) na nb (numbered a kept.left) (latch_at a.net j).out.0 (variables_of w x.vars)).0
+          (own_variables a w j (latch_at a.net j) x kept.left_sound kept.left at ((parts.0 (latch_at a.net j).out.0).1 on) (own (latch_at a.net j) at)),
+      left_lit a b w kept j (latch_at a.net j) x.value.0 at (own (latch_at a.net j) at).value,
+    )
 own_on B a b w j x kept within own on =
     let na = sound_is_net a.net kept.left_sound in
     let nb = sound_is_net b.net kept.right_sound in
     let parts = sides_are_parts_in_nets (circuit_of a.net) (circuit_of b.net) (length a.net.drivers) (length b.net.drivers) na nb in
     let at = latch_there b.net j within in (
-    (sides_have_variables_in_nets (circuit_of a.net) (circuit_of b.net) (length a.net.drivers) (length b.net.drivers) a.order b.order (class_map a b) na nb (numbered a kept.left) (latch_at b.net j).out.0 (variables_of w x.vars)).1
-    (own_variables b w j (latch_at b.net j) x kept.right_sound kept.right at ((parts.1 (latch_at b.net j).out.0).1 on) (own (latch_at b.net j) at)),
-    right_lit a b w kept j (latch_at b.net j) x.value.0 at (own (latch_at b.net j) at).value)
+      (sides_have_variables_in_nets (circuit_of a.net) (circuit_of b.net) (length a.net.drivers) (length b.net.drivers) a.order b.order (class_map a b) na nb (numbered a kept.left) (latch_at b.net j).out.0 (variables_of w x.vars)).1
+          (own_variables b w j (latch_at b.net j) x kept.right_sound kept.right at ((parts.1 (latch_at b.net j).out.0).1 on) (own (latch_at b.net j) at)),
+      right_lit a b w kept j (latch_at b.net j) x.value.0 at (own (latch_at b.net j) at).value,
+    )
 
 pub side_of_two : (side : Side) (m : ClassMap) (j : ℕ) (x : Enable) → IsEnableOn side m j x → EnableSide side m.left m.right m.events j x
 side_of_two A m j x own = own

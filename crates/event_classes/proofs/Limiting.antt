@@ -159,16 +159,17 @@ module _ (m n : ClassMap) (tag : Tag) (x : Enable) (conflicts : ℕ) (kept : Are
           (
             t.0,
             t.1,
-            ((
-              is.at,
-              k.query,
-              subst (λ (y : Lit). AsksEnables s is.at (places_in m t.0) (places_in m tag) y.0 k.query.right.0 k.query.care.0) (sym k.left) (subst (λ (y : Lit). AsksEnables s is.at (places_in m t.0) (places_in m tag) is.enable.value.0 y.0 k.query.care.0) (sym k.right) asks),
-              record { events = is.kept; variables = subst (λ (vs : List ℕ). AreNodeVariables (IsClassTree s (places_in m t.0) (places_in m tag)) (variables_of is.at vs)) (sym k.vars) merged; limit = k.decided },
-            ),
-            two_enables s is.at is.kept (places_in m t.0) (places_in m tag) is.enable.value.0 x.value.0
-            (lit_grows s m.events is.at (places_in m t.0) is.enable.value.0 kept.events is.since (made.lits at member c t.0 is.enable at_c t.1 is.is))
-            (lit_grows s m.events is.at (places_in m tag) x.value.0 kept.events is.since (own (next_enabled m.left m.right (taken_of m) rest (places_in m tag) made.stand.so_far)).1)
-            (λ e. k.decided.wide.apart (inl (ap (λ (y : Lit). y.0) k.left ∙ e ∙ sym (ap (λ (y : Lit). y.0) k.right)))),
+            (
+              (
+                is.at,
+                k.query,
+                subst (λ (y : Lit). AsksEnables s is.at (places_in m t.0) (places_in m tag) y.0 k.query.right.0 k.query.care.0) (sym k.left) (subst (λ (y : Lit). AsksEnables s is.at (places_in m t.0) (places_in m tag) is.enable.value.0 y.0 k.query.care.0) (sym k.right) asks),
+                record { events = is.kept; variables = subst (λ (vs : List ℕ). AreNodeVariables (IsClassTree s (places_in m t.0) (places_in m tag)) (variables_of is.at vs)) (sym k.vars) merged; limit = k.decided },
+              ),
+              two_enables s is.at is.kept (places_in m t.0) (places_in m tag) is.enable.value.0 x.value.0
+                  (lit_grows s m.events is.at (places_in m t.0) is.enable.value.0 kept.events is.since (made.lits at member c t.0 is.enable at_c t.1 is.is))
+                  (lit_grows s m.events is.at (places_in m tag) x.value.0 kept.events is.since (own (next_enabled m.left m.right (taken_of m) rest (places_in m tag) made.stand.so_far)).1)
+                  (λ e. k.decided.wide.apart (inl (ap (λ (y : Lit). y.0) k.left ∙ e ∙ sym (ap (λ (y : Lit). y.0) k.right)))),
             ),
           ),
         )

@@ -45,5 +45,4 @@ pub fn limits_are()
     ensures unfoldings { MAX_WEIGHT ≡ 2_000_000 }
     ensures queries { (MAX_CONFLICTS ≡ 200_000) × (DEFAULT_CONFLICTS ≡ 20_000) × (MAX_TABLE_VARIABLES ≡ 16) }
     ensures events { (MAX_EVENT_NODES ≡ 10_000) × (MAX_EVENT_CLASSES ≡ 500) × (MAX_ENABLED_LATCHES ≡ 30_000) }
-{
-}
+{}
