@@ -1,10 +1,9 @@
 //! Signals as event functions.
 
-ghost use Rattle.std.specs.Prelude.{◌≡◌, ◌<◌, ◌≤◌, length, Err, IfOk, OnOk};
+ghost use Rattle.std.specs.Prelude.{◌≡◌, ◌<◌, length, IfOk, OnOk};
 ghost use Rattle.circuit_theory.specs.declared.Side.TheVariants.{A, B};
 ghost use Rattle.circuit_theory.specs.Joined.{Left, Right};
 ghost use Rattle.event_nodes.specs.Nodes.{GrowsEvents};
-ghost use Rattle.event_nodes.specs.declared.error.EventUnfoldError.TheVariants as unfold_error;
 ghost use Rattle.event_form.specs.event_agreement.event_pairs.Functions.{IsEventFunction};
 ghost use Rattle.event_form.specs.event_agreement.pair_events.Counted.{GoOnCounting, IsRefusedBy};
 ghost use Rattle.event_form.specs.event_agreement.pair_events.View.{IsWithinLimits, circuit_at, side_of_both, signal_at};
@@ -16,9 +15,8 @@ use std::alloc::Global;
 impl Events {
     /// A signal of one circuit as an event function at the root. `TooManyEvents` comes exactly where the unfoldings of both circuits, those
     /// of the enables and of earlier calls among them, reach more than 10,000 event nodes with this one; `TooLarge` where they don't, and
-    /// those of this circuit weigh more than 2,000,000 with it. Whatever was counted, the graph has 10,000 event nodes besides the root where
-    /// there are too many. After a refusal the circuits and their classes are as they were. `NoMemory` comes also where the event graph would
-    /// get 2^30 nodes or one call would visit 67,108,864 places.
+    /// those of this circuit weigh more than 2,000,000 with it. After a refusal the circuits and their classes are as they were. `NoMemory`
+    /// comes also where the event graph would get 2^30 nodes or one call would visit 67,108,864 places.
     pub fn unfold(
         &mut self,
         alloc: Global,
@@ -32,7 +30,6 @@ impl Events {
         ensures grows { OnOk result (GrowsEvents self.old.events self.new.events) }
         ensures counted { OnOk result (GoOnCounting side s.0 self.old self.new) }
         ensures refused { IsRefusedBy side s.0 self.old result }
-        ensures many { result ≡ Err unfold_error.TooManyEvents → 10000 ≤ length self.new.events.children }
         ensures same { self.new ≡ record self.old { events = self.new.events; left_count = self.new.left_count; right_count = self.new.right_count } }
     {
         match side {
@@ -50,7 +47,6 @@ impl Events {
         ensures grows { OnOk result (GrowsEvents self.old.events self.new.events) }
         ensures counted { OnOk result (GoOnCounting A s.0 self.old self.new) }
         ensures refused { IsRefusedBy A s.0 self.old result }
-        ensures many { result ≡ Err unfold_error.TooManyEvents → 10000 ≤ length self.new.events.children }
         ensures same { self.new ≡ record self.old { events = self.new.events; left_count = self.new.left_count } }
     {
         self.keeps();
@@ -68,7 +64,6 @@ impl Events {
         ensures grows { OnOk result (GrowsEvents self.old.events self.new.events) }
         ensures counted { OnOk result (GoOnCounting B s.0 self.old self.new) }
         ensures refused { IsRefusedBy B s.0 self.old result }
-        ensures many { result ≡ Err unfold_error.TooManyEvents → 10000 ≤ length self.new.events.children }
         ensures same { self.new ≡ record self.old { events = self.new.events; right_count = self.new.right_count } }
     {
         self.keeps();

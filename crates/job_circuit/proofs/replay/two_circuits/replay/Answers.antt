@@ -5,7 +5,7 @@ use Rattle.flat_net.specs.View.{NetView}
 use Rattle.job_circuit.specs.declared.replay.differences.Replayed.{Replayed}
 use Rattle.job_circuit.specs.declared.replay.replay_header.error.ReplayError.{ReplayError}
 use Rattle.job_circuit.specs.declared.replay.replay_header.error.ReplayError.TheVariants as refused
-use Rattle.job_circuit.specs.replay.Replay.{Replays, HasFitting}
+use Rattle.job_circuit.specs.replay.Replay.{Replays}
 use Rattle.job_circuit.proofs.replay.two_circuits.replay.Goals as goal
 
 -- want of memory
@@ -13,13 +13,6 @@ memory_wanted : (mode : Mode) (a b : NetView) (names : List (List ℕ)) (rows : 
 memory_wanted mode a b names rows (Ok replayed) h = absurd h
 memory_wanted mode a b names rows (Err e) h = subst (λ (x : ReplayError). Replays mode a b names rows (Err x)) (sym h) tt
 
-memory_fits : (a b : NetView) (names : List (List ℕ)) (r : Result Replayed ReplayError) → IsErrAnd r (λ e. e ≡ refused.NoMemory) → HasFitting a b names r
-memory_fits a b names (Ok replayed) h = absurd h
-memory_fits a b names (Err e) h = subst (λ (x : ReplayError). HasFitting a b names (Err x)) (sym h) tt
-
-pub returns-in_err-differences-clause-fits : goal.returns-in_err-differences-clause-fits
-returns-in_err-differences-clause-fits c = memory_fits c.args.a.now c.args.b.now c.args.stimulus.now.names c.from_residual-in_err-differences.result c.from_residual-in_err-differences.ensures.1
-
-pub returns-in_err-differences-clause-replays : goal.returns-in_err-differences-clause-replays
-returns-in_err-differences-clause-replays c mode marks_a marks_b =
+pub returns-in_err-differences : goal.returns-in_err-differences
+returns-in_err-differences c mode marks_a marks_b =
     memory_wanted mode c.args.a.now c.args.b.now c.args.stimulus.now.names c.args.stimulus.now.rows c.from_residual-in_err-differences.result c.from_residual-in_err-differences.ensures.1
