@@ -9,6 +9,7 @@ use Rattle.sec_base.specs.declared.settings.Settings.{Settings}
 use Rattle.obligations.specs.declared.outcome.verdict.Outcome.{Outcome}
 use Rattle.obligations.specs.declared.outcome.verdict.PairResult.{PairResult}
 use Rattle.sec_setup.specs.declared.setup.Setup.{Setup}
+use Rattle.sec_setup.specs.Cycles.{IsAcyclic}
 use Rattle.sec_setup.specs.Matching.{InterfacesMatch}
 use Rattle.sec_setup.specs.ports.Pairs.{NamedPair, named_pairs}
 use Rattle.sec_setup.specs.Setup.{IsSetupOf}
@@ -36,7 +37,8 @@ module _ (a b : NetView) (s : Setup) (is : IsSetupOf a b s) (none : s.exposed â‰
   too_large_from conflicts A large = left_too_large a b s is none large
   too_large_from conflicts B large = right_too_large a b s is none large.0 large.1
 
-  module _ (settings : Settings) (f : ResetFindings) (found : AreFound s settings.conflicts f) (sa : IsSound a) (sb : IsSound b) (cb : IsComparable b) (matches : InterfacesMatch a b) where
+  module _ (settings : Settings) (f : ResetFindings) (found : AreFound s settings.conflicts f) (sa : IsSound a) (sb : IsSound b) (cb : IsComparable b) (matches : InterfacesMatch a b)
+      (acyclic : IsAcyclic a Ã— IsAcyclic b) where
     abbrev numbers : Numbered
     numbers = numbered_by a b s.orders.left s.orders.right found.bases.left found.bases.right
 
@@ -85,6 +87,8 @@ module _ (a b : NetView) (s : Setup) (is : IsSetupOf a b s) (none : s.exposed â‰
       left_sound = sa;
       right_sound = sb;
       matches = matches;
+      left_acyclic = acyclic.0;
+      right_acyclic = acyclic.1;
       fits = outcome_fits;
       left_light = left_light a b s is none found.left_light;
       right_light = right_light a b s is none found.right_light;

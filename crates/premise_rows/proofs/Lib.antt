@@ -3,3 +3,4 @@ pub mod FileNets
 pub mod Examples
 pub mod NoLimit
 pub mod Certificates
+pub mod Faulty

@@ -15,7 +15,7 @@ pub mod one_text_runs;
 
 ghost use Rattle.premise_rows.specs.AndFile.{FileIsComparable};
 ghost use Rattle.premise_rows.specs.Premises.{AndsAreComparable, RetimedAreComparable, HierarchyIsComparable, CyclicAreComparable, TextsAreAccepted};
-ghost use Rattle.premise_rows.specs.RuledOut.{AndsMeetNoLimit};
+ghost use Rattle.premise_rows.specs.RuledOut.{AndsMeetNoLimit, FaultyHasNoVerdict};
 ghost use Rattle.premise_rows.specs.Certificates.{CertificatesMeetPremises};
 
 /// Two `and`s, by other rows, can be compared.
@@ -51,6 +51,11 @@ pub fn texts_are_accepted()
 /// No limit is told of two `and`s.
 pub fn ands_meet_no_limit()
     ensures { AndsMeetNoLimit }
+{}
+
+/// No verdict is found of a faulty text, whatever is told of the other.
+pub fn faulty_has_no_verdict()
+    ensures { FaultyHasNoVerdict }
 {}
 
 /// Two `and`s, and a circuit with the same retimed, have certificates of their output.

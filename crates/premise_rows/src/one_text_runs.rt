@@ -2,20 +2,18 @@
 
 pub mod one_text;
 
-ghost use Rattle.std.specs.Prelude.{◌≢◌, IfOk, map, string_bytes};
+ghost use Rattle.std.specs.Prelude.{◌≡◌, ◌≢◌, IfOk, map, string_bytes};
 ghost use Rattle.std.specs.List.{All};
 ghost use Rattle.command_line.specs.Jobs.{job_of};
 ghost use Rattle.premise_rows.specs.one_text_runs.one_text.check_texts.Texts.{AreComparable};
-ghost use Rattle.job_base.specs.declared.finding.Finding.{Finding};
-ghost use Rattle.job_base.specs.Lines.{finding_text};
 ghost use Rattle.sec_run.specs.Job.{paths_in};
-ghost use Rattle.sec_run.specs.Answer.{IsFinding};
+ghost use Rattle.sec_run.specs.Answer.{IsCutOff};
 ghost use Rattle.sec_run.specs.Promises.{IsComplete};
 ghost use Rattle.premise_rows.specs.one_text_runs.one_text.Itself.{OfCheck, OfOneText, IsEqualAnswer};
 
 use circuit_theory::Mode;
 use command_line::Task;
-use sec_base::{FilePath, MemShelf, NoMemory, Seq, Shelf, Sink};
+use sec_base::{FilePath, MemShelf, MemSink, NoMemory, Seq, Shelf, Sink};
 use sec_run::{Status, StatusName, run, run_job};
 use std::alloc::Global;
 
@@ -44,7 +42,7 @@ pub fn run_again<S: Shelf, W: Sink>(
 ) -> Status
     ensures complete { result.name ≢ StatusName.ReadFault → result.name ≢ StatusName.WriteFault → IsComplete (S.held shelf.old) (job_of (map (λ w. string_bytes w) words.now)) result.name }
     ensures served { All (S.serves shelf.old) (paths_in (job_of (map (λ w. string_bytes w) words.now))) → result.name ≢ StatusName.ReadFault }
-    ensures accepted { ((f : Finding) → IsFinding (S.held shelf.old) (job_of (map (λ w. string_bytes w) words.now)) f → W.accepts again.old (finding_text f)) → result.name ≢ StatusName.WriteFault }
+    ensures accepted { result.name ≡ StatusName.WriteFault → IsCutOff (W.accepts again.old) (W.taken again.old) (W.taken again.new) (S.held shelf.old) (job_of (map (λ w. string_bytes w) words.now)) result.proofs }
 {
     run(alloc, words, shelf, out);
     run(alloc, words, shelf, again)
@@ -67,4 +65,13 @@ pub fn tell_again<W: Sink>(
     shelf.put(alloc, "a", text)?;
     run_job(alloc, &task, &mut shelf, out);
     Ok(run_job(alloc, &task, &mut shelf, again))
+}
+
+/// Tells a sink in memory with room for 14 bytes that no words are no job: those are the bytes of the report, and no write fails.
+pub fn tell_no_job(alloc: Global) -> Result<Status, NoMemory>
+    ensures { IfOk result (λ status. status.name ≢ StatusName.WriteFault) }
+{
+    let mut shelf = MemShelf::new(alloc, Seq::new(alloc));
+    let mut out = MemSink::new(alloc, 14, None, 0)?;
+    Ok(run(alloc, &[], &mut shelf, &mut out))
 }

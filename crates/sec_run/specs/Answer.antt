@@ -43,5 +43,13 @@ EndsAs before now held job proofs status.NoMemory = (now ≡ before) × (proofs 
 EndsAs before now held job proofs status.WriteFault = (f : Finding) × IsFinding held job f × (proofs ≡ proofs_of f) × TakesFront before now (finding_text f)
 EndsAs before now held job proofs name = (f : Finding) × IsFinding held job f × (proofs ≡ proofs_of f) × (status_of f ≡ name) × Takes before now (finding_text f)
 
+-- What is right of the job was found, its report isn't accepted, and a front of it is taken.
+pub record IsCutOff (accepts : List ℕ → Type 0) (before now : Option (List ℕ)) (held : Held) (job : Option Task) (proofs : List Proof) : Type 0 where
+  pub finding : Finding
+  pub found : IsFinding held job finding
+  pub proofs_are : proofs ≡ proofs_of finding
+  pub front : TakesFront before now (finding_text finding)
+  pub refused : accepts (finding_text finding) → ⊥
+
 abbrev pub IsTaken : Option (List ℕ) → Option (List ℕ) → Held → Option Task → Status → Type 0
 IsTaken before now held job s = EndsAs before now held job s.proofs s.name

@@ -4,11 +4,10 @@ ghost use Rattle.std.specs.Prelude.{◌≡◌, ◌≢◌, ◌≤◌, [], ℕ, Li
 ghost use Rattle.std.specs.List.{All};
 ghost use Rattle.sec_base.specs.base_shelves.Outside.{Rose, SameHeld, NoneFell};
 ghost use Rattle.command_line.specs.Jobs.{job_of};
-ghost use Rattle.job_base.specs.Lines.{finding_text};
 ghost use Rattle.job_base.specs.Reading.{ReadFailedAfter};
 ghost use Rattle.command_line.specs.Allowed.{IsAllowed};
 ghost use Rattle.sec_run.specs.Job.{paths_of, paths_in, GoesOn, GoesOnIn};
-ghost use Rattle.sec_run.specs.Answer.{IsFinding, IsTaken};
+ghost use Rattle.sec_run.specs.Answer.{IsCutOff, IsTaken};
 ghost use Rattle.sec_run.specs.Ends.{Found};
 ghost use Rattle.sec_run.specs.Promises.{Means, IsComplete};
 
@@ -158,7 +157,7 @@ pub fn run_job<S: Shelf, W: Sink>(alloc: Global, task: &Task, shelf: &mut S, out
     // Where no read and no write fails, what can be done is done.
     ensures complete { result.name ≢ StatusName.ReadFault → result.name ≢ StatusName.WriteFault → IsComplete (S.held shelf.old) (Some task.now) result.name }
     ensures served { All (S.serves shelf.old) (paths_of task.now) → result.name ≢ StatusName.ReadFault }
-    ensures accepted { ((f : Finding) → IsFinding (S.held shelf.old) (Some task.now) f → W.accepts out.old (finding_text f)) → result.name ≢ StatusName.WriteFault }
+    ensures accepted { result.name ≡ StatusName.WriteFault → IsCutOff (W.accepts out.old) (W.taken out.old) (W.taken out.new) (S.held shelf.old) (Some task.now) result.proofs }
     // Nothing that is held changes, what is served stays so, a job without paths leaves the shelf alone, and no count of faults falls.
     ensures keeps { SameHeld (S.held shelf.old) (S.held shelf.new) × ((other : List ℕ) → S.serves shelf.old other → S.serves shelf.new other) × (paths_of task.now ≡ [] → shelf.new ≡ shelf.old) }
     ensures later { NoneFell (S.faults shelf.old) (S.faults shelf.new) × (W.faults out.old ≤ W.faults out.new) }
@@ -181,7 +180,7 @@ pub fn run<S: Shelf, W: Sink>(alloc: Global, words: &[String], shelf: &mut S, ou
     // Where no read and no write fails, what can be done is done.
     ensures complete { result.name ≢ StatusName.ReadFault → result.name ≢ StatusName.WriteFault → IsComplete (S.held shelf.old) (job_of (map (λ w. string_bytes w) words.now)) result.name }
     ensures served { All (S.serves shelf.old) (paths_in (job_of (map (λ w. string_bytes w) words.now))) → result.name ≢ StatusName.ReadFault }
-    ensures accepted { ((f : Finding) → IsFinding (S.held shelf.old) (job_of (map (λ w. string_bytes w) words.now)) f → W.accepts out.old (finding_text f)) → result.name ≢ StatusName.WriteFault }
+    ensures accepted { result.name ≡ StatusName.WriteFault → IsCutOff (W.accepts out.old) (W.taken out.old) (W.taken out.new) (S.held shelf.old) (job_of (map (λ w. string_bytes w) words.now)) result.proofs }
     // Nothing that is held changes, what is served stays so, and no count of faults falls.
     ensures keeps { SameHeld (S.held shelf.old) (S.held shelf.new) × ((other : List ℕ) → S.serves shelf.old other → S.serves shelf.new other) }
     ensures later { NoneFell (S.faults shelf.old) (S.faults shelf.new) × (W.faults out.old ≤ W.faults out.new) }

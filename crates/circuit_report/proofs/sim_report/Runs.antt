@@ -80,8 +80,10 @@ module _ (n : NetView) (names : List (List ℕ)) (rows : List (List Bool)) (colu
 
   -- the lines behind the outputs' names are the report
   pub report_is : (mode : Mode) (enabled : List Bool) → MarksEnabled mode n enabled → (power : Option (List ℕ)) (reset : Bool) (head text : List ℕ) → head ≡ codes "outputs" ++ names_text (map (λ (p : Port). p.name) n.outputs) ++ 10 ∷ [] →
-      PutsCycles n enabled (power_of n power reset) (map (reordered columns) rows) head text → IsSimReport mode n names rows power reset text
-  report_is mode enabled marks power reset head text begins put = record {
+      PutsCycles n enabled (power_of n power reset) (map (reordered columns) rows) head text → (run : ℕ → ℕ → Bool) × IsSimulated n names rows (power_of n power reset) run → IsSimReport mode n names rows power reset text
+  report_is mode enabled marks power reset head text begins put runs = record {
+    run = runs.0;
+    runs = runs.1;
     cycles = put.cycles;
     each = put.each ∙ length-map rows (reordered columns);
     text_is = put.text_is ∙ ap (λ (x : List ℕ). x ++ cycle_lines 0 put.cycles) begins;

@@ -43,8 +43,10 @@ pub record IsShown (n : NetView) (enabled : ℕ → Type 0) (t : ℕ) (run : ℕ
   pub marks : (i : ℕ) (port : Port) (mark : Bool) → slice_get n.outputs i ≡ Some port → slice_get shown.marks i ≡ Some mark → (mark ≡ true) ↔ Marked (circuit_of n) enabled run t port.signal.0
 
 -- The text is the report of the net's run over the stimulus from the power word, with `reset` from the initial values before it, with the
--- marks of the mode.
+-- marks of the mode. There is such a run.
 pub record IsSimReport (mode : Mode) (n : NetView) (names : List (List ℕ)) (rows : List (List Bool)) (power : Option (List ℕ)) (reset : Bool) (text : List ℕ) : Type 0 where
+  pub run : ℕ → ℕ → Bool
+  pub runs : IsSimulated n names rows (power_of n power reset) run
   pub cycles : List Shown
   pub each : length cycles ≡ length rows
   pub text_is : text ≡ sim_text (map (λ (p : Port). p.name) n.outputs) cycles

@@ -71,6 +71,7 @@ fn fitting_report(
     requires fits { first_misfit net.now stimulus.now.names (option_map (λ word. word.now) power) ≡ None }
     ensures { (mode : Mode) → MarksEnabled mode net.now enabled.now → IfOk result (λ text. IsSimReport mode net.now stimulus.now.names stimulus.now.rows (option_map (λ word. word.now) power.entry) reset text) }
 {
+    net.keeps();
     let mut text = Vec::new(alloc);
     put_head(&mut text, net)?;
     let columns = columns_of(alloc, net, names)?;

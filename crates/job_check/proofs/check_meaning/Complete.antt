@@ -20,11 +20,11 @@ use Rattle.job_check.specs.check_meaning.check_found.job_base.Written.{verdict_s
 use Rattle.sec_setup.specs.cut_points.Common.{common_names}
 use Rattle.sec_setup.specs.Cycles.{AreBroken}
 use Rattle.job_base.specs.sec_files.Loading.{IsAccepted, Loads, IsTooLong, HasFault, HasDesignFault, HasRecordFault}
-use Rattle.job_base.specs.sec_files.job_files.Reading.{Held}
+use Rattle.job_base.specs.sec_files.job_files.Reading.{Held, IsLoaded}
 use Rattle.job_base.proofs.sec_files.job_files.Accepted.{is_short, has_no_fault, is_sound, has_good_records}
 use Rattle.job_base.proofs.sec_files.job_files.Reading.{some_and, if_told}
 use Rattle.job_check.specs.check_meaning.check_found.Check.{Check}
-use Rattle.job_check.specs.check_meaning.check_found.Found.{OfTexts, OfThree, OfGiven, OfNets, OfThreeNets, IsAnsweredBy, IsAnsweredUnder, IsRefusal, IsFoundOf}
+use Rattle.job_check.specs.check_meaning.check_found.Found.{OfAssumed, IsAnsweredGiven, IsAnsweredAssuming, IsAnsweredBy, IsAnsweredByTwo, IsAnsweredByThree, IsAnsweredUnder, IsRefusal, IsFoundOf}
 use Rattle.job_check.specs.check_meaning.Answer.{AreComparableIn, AreComparableUnder, CanAnswerWith, IsAnswer, IsCheckComplete}
 use Rattle.job_check.specs.check_meaning.check_texts.Texts.{AreComparable}
 use Rattle.job_check.specs.check_meaning.event_texts.Texts.{AreEventComparable}
@@ -62,41 +62,36 @@ module _ (held : Held) (check : Check) (told : AreTold held check check.assumed)
   of_left : (P : List ℕ → Type 0) → IfSome (held check.left) P → P told.left
   of_left P h = if_told (held check.left) P told.left told.left_is h
 
-  of_texts : (P : List ℕ → List ℕ → Type 0) → OfTexts held check P → P told.left told.right
-  of_texts P h = if_told (held check.right) (λ y. P told.left y) told.right told.right_is (if_told (held check.left) (λ x. IfSome (held check.right) (λ y. P x y)) told.left told.left_is h)
+  of_right : (P : List ℕ → Type 0) → IsLoaded (held check.left) × IfSome (held check.right) P → P told.right
+  of_right P h = if_told (held check.right) P told.right told.right_is h.1
 
   -- the third text has no fault
-  abbrev OfThird : Option (List ℕ) → (List ℕ → Type 0) → Type 0
-  OfThird assumed P = OfThree held check assumed (λ x y z. (a : NetView) × (b : NetView) × Loads x a × Loads y b × P z)
-
-  of_third : (P : List ℕ → Type 0) → ((z : List ℕ) → IsAccepted z → P z → ⊥) → OfThird check.assumed P → ⊥
+  of_third : (P : List ℕ → Type 0) → ((z : List ℕ) → IsAccepted z → P z → ⊥) → OfAssumed held check check.assumed P → ⊥
   of_third P apart h = by check.assumed told.third h
     where
-      by : (assumed : Option (List ℕ)) → IsThirdTold held assumed → OfThird assumed P → ⊥
+      by : (assumed : Option (List ℕ)) → IsThirdTold held assumed → OfAssumed held check assumed P → ⊥
       by None third k = k
-      by (Some path) third k =
-          apart third.0 third.2 (if_told (held path) (λ z. (a : NetView) × (b : NetView) × Loads told.left a × Loads told.right b × P z) third.0 third.1
-          (of_texts (λ x y. IfSome (held path) (λ z. (a : NetView) × (b : NetView) × Loads x a × Loads y b × P z)) k)).4
+      by (Some path) third k = apart third.0 third.2 (if_told (held path) P third.0 third.1 k.2)
 
   module _ (answered : AreAnswered held check) where
     no_refusal : (r : Refusal) → IsRefusal held check r → ⊥
     no_refusal (refusal.TooLong file.A) h = is_short told.left told.left_accepted (of_left IsTooLong h)
-    no_refusal (refusal.TooLong file.B) h = is_short told.right told.right_accepted (of_texts _ h).2
+    no_refusal (refusal.TooLong file.B) h = is_short told.right told.right_accepted (of_right IsTooLong h)
     no_refusal (refusal.TooLong file.C) h = of_third IsTooLong is_short h
     no_refusal (refusal.TooLong file.S) h = h
     no_refusal (refusal.Text file.A line (line_fault.Circuit kind)) h = has_no_fault told.left told.left_accepted line kind (of_left (λ x. HasFault x line kind) h)
-    no_refusal (refusal.Text file.B line (line_fault.Circuit kind)) h = has_no_fault told.right told.right_accepted line kind (of_texts _ h).2
+    no_refusal (refusal.Text file.B line (line_fault.Circuit kind)) h = has_no_fault told.right told.right_accepted line kind (of_right (λ y. HasFault y line kind) h)
     no_refusal (refusal.Text file.C line (line_fault.Circuit kind)) h = of_third (λ z. HasFault z line kind) (λ z accepted. has_no_fault z accepted line kind) h
     no_refusal (refusal.Text file.S line (line_fault.Circuit kind)) h = h
     no_refusal (refusal.Text f line line_fault.BadHeader) h = h
     no_refusal (refusal.Text f line line_fault.BadRow) h = h
     no_refusal (refusal.Text f line (line_fault.Clauses kind)) h = h
     no_refusal (refusal.Design file.A fault) h = is_sound told.left told.left_accepted fault (of_left (λ x. HasDesignFault x fault) h)
-    no_refusal (refusal.Design file.B fault) h = is_sound told.right told.right_accepted fault (of_texts _ h).2
+    no_refusal (refusal.Design file.B fault) h = is_sound told.right told.right_accepted fault (of_right (λ y. HasDesignFault y fault) h)
     no_refusal (refusal.Design file.C fault) h = of_third (λ z. HasDesignFault z fault) (λ z accepted. is_sound z accepted fault) h
     no_refusal (refusal.Design file.S fault) h = h
     no_refusal (refusal.Record file.A place kind) h = has_good_records told.left told.left_accepted place kind (of_left (λ x. HasRecordFault x place kind) h)
-    no_refusal (refusal.Record file.B place kind) h = has_good_records told.right told.right_accepted place kind (of_texts _ h).2
+    no_refusal (refusal.Record file.B place kind) h = has_good_records told.right told.right_accepted place kind (of_right (λ y. HasRecordFault y place kind) h)
     no_refusal (refusal.Record file.C place kind) h = of_third (λ z. HasRecordFault z place kind) (λ z accepted. has_good_records z accepted place kind) h
     no_refusal (refusal.Record file.S place kind) h = h
     no_refusal (refusal.Interface name) h = answered.never (compare_error.Interface name) (λ e. cc) h
@@ -205,17 +200,22 @@ both_told held check P h =
     (left.0, right.0, left.1, right.1, right.2)
 
 module _ (held : Held) (check : Check) (f : Finding) (found : IsFoundOf held check f) where
-  abbrev TwoAnswer : CompareError → List ℕ → List ℕ → Type 0
-  TwoAnswer e = OfNets (λ a b. ComparedIn check.settings.mode a b check.settings (Err e))
-
-  abbrev ThreeAnswer : CompareError → List ℕ → List ℕ → List ℕ → Type 0
-  ThreeAnswer e = OfThreeNets (λ a b c. ComparedUnderIn check.settings.mode a b c check.settings (Err e))
-
   abbrev Answers : Option (List ℕ) → CompareError → Type 0
-  Answers assumed e = OfGiven held check assumed (TwoAnswer e) (ThreeAnswer e)
+  Answers assumed e = IsAnsweredGiven held check assumed (Err e)
 
   abbrev AnswersUnder : Option (List ℕ) → CompareError → Type 0
-  AnswersUnder assumed e = OfThree held check assumed (ThreeAnswer e)
+  AnswersUnder assumed e = IsAnsweredAssuming held check assumed (Err e)
+
+  -- texts that can be compared have no refusal
+  apart_two : (x y : List ℕ) → held check.left ≡ Some x → held check.right ≡ Some y → AreComparableIn check.settings.mode x y check.settings → (e : CompareError) → (e ≡ compare_error.NoMemory → ⊥) → IsAnsweredByTwo held check (Err e) → ⊥
+  apart_two x y left_is right_is comparable e apart n =
+      never_two check.settings.mode x y check.settings comparable n.a n.b (if_told (held check.left) (λ t. Loads t n.a) x left_is n.left_loads) (if_told (held check.right) (λ t. Loads t n.b) y right_is n.right_loads) e apart n.said
+
+  apart_three : (x y z path : List ℕ) → held check.left ≡ Some x → held check.right ≡ Some y → held path ≡ Some z → AreComparableUnder check.settings.mode x y z check.settings → (e : CompareError) → (e ≡ compare_error.NoMemory → ⊥) →
+      IsAnsweredByThree held check path (Err e) → ⊥
+  apart_three x y z path left_is right_is third_is comparable e apart n =
+      never_assuming x y z check.settings n.a n.b n.c (if_told (held check.left) (λ t. Loads t n.a) x left_is n.left_loads) (if_told (held check.right) (λ t. Loads t n.b) y right_is n.right_loads)
+      (if_told (held path) (λ t. Loads t n.c) z third_is n.assumed_loads) check.settings.mode comparable e apart n.said
 
   answered : (told : AreTold held check check.assumed) (assumed : Option (List ℕ)) → check.assumed ≡ assumed → ((e : CompareError) → (e ≡ compare_error.NoMemory → ⊥) → Answers assumed e → ⊥) →
       ((e : CompareError) → (e ≡ compare_error.NoMemory → ⊥) → AnswersUnder assumed e → ⊥) → IsAnswer (status_of f)
@@ -230,7 +230,7 @@ module _ (held : Held) (check : Check) (f : Finding) (found : IsFoundOf held che
       let accepted = both_accepted check.settings.mode t.0 t.1 check.settings t.4 in
       let told : AreTold held check check.assumed = record { left = t.0; right = t.1; left_is = t.2; right_is = t.3; left_accepted = accepted.0; right_accepted = accepted.1; third = subst (IsThirdTold held) (sym is) tt } in
       answered told None is
-      (λ e apart h. (let n = of_texts held check told (TwoAnswer e) h in never_two check.settings.mode t.0 t.1 check.settings t.4 n.0 n.1 n.2 n.3 e apart n.4))
+      (λ e apart h. apart_two t.0 t.1 t.2 t.3 t.4 e apart h)
       (λ e apart h. h)
   by_assumed (Some path) is can =
       let t = both_told held check (λ x y. IsSomeAnd (held path) (λ z. AreComparableUnder check.settings.mode x y z check.settings)) can in
@@ -239,9 +239,7 @@ module _ (held : Held) (check : Check) (f : Finding) (found : IsFoundOf held che
       let told : AreTold held check check.assumed =
       record { left = t.0; right = t.1; left_is = t.2; right_is = t.3; left_accepted = accepted.0; right_accepted = accepted.1; third = subst (IsThirdTold held) (sym is) (z.0, z.1, z.2.accepted) } in
       let under : (e : CompareError) → (e ≡ compare_error.NoMemory → ⊥) → AnswersUnder (Some path) e → ⊥ =
-      λ e apart h.
-      (let n = if_told (held path) (λ w. ThreeAnswer e t.0 t.1 w) z.0 z.1 (of_texts held check told (λ x y. IfSome (held path) (λ w. ThreeAnswer e x y w)) h) in
-      never_assuming t.0 t.1 z.0 check.settings n.0 n.1 n.2 n.3 n.4 n.5 check.settings.mode z.2 e apart n.6) in
+      λ e apart h. apart_three t.0 t.1 z.0 path t.2 t.3 z.1 z.2 e apart h in
       answered told (Some path) is under under
 
 -- a comparison that can be made is answered, by what is found of it

@@ -29,19 +29,25 @@ use Rattle.job_base.specs.sec_files.Loading.{Loads}
 use Rattle.job_check.specs.check_meaning.event_texts_under.Answers.{EqualUnderIn, DifferentUnderIn, NotShownUnderIn, LimitUnderIn}
 use Rattle.job_check.proofs.check_meaning.event_texts_under.Answers.{equal_under_in, different_under_in, not_shown_under_in, limit_under_in}
 use Rattle.job_base.specs.sec_files.job_files.Reading.{Held}
+use Rattle.job_base.proofs.sec_files.job_files.Reading.{is_loaded}
 use Rattle.job_check.specs.check_meaning.check_found.Check.{Check}
 use Rattle.job_check.specs.check_meaning.Answer.{CheckMeans, InForm}
 use Rattle.job_check.specs.check_meaning.event_texts.Texts.{EventTextsAgree, EventTextsDiffer, EventTextsNotShown, EventTextsUndecided}
 use Rattle.job_check.proofs.check_meaning.event_texts.EventTexts.{events_agree, events_always, events_differ, events_not_shown, events_undecided}
 use Rattle.job_check.specs.check_meaning.check_texts.Texts.{TextsAgree, TextsDiffer, TextsNotShown, TextsUndecided}
 use Rattle.job_check.specs.check_meaning.check_texts.Resets.{ResetsAgree, ResetsDiffer, ResetsUndecided}
-use Rattle.job_check.specs.check_meaning.check_found.Found.{OfGiven, OfNets, OfThreeNets, IsAnsweredBy, IsFoundOf}
+use Rattle.job_check.specs.check_meaning.check_found.Found.{OfGiven, IsAnsweredGiven, IsAnsweredBy, IsFoundOf}
 use Rattle.job_check.proofs.check_meaning.check_texts.ResetTexts.{resets_agree, resets_differ, resets_not_always, resets_are_shown, resets_undecided}
 use Rattle.job_check.proofs.check_meaning.check_texts.Texts.{texts_agree, texts_always, texts_differ, texts_not_shown, texts_undecided}
 
 if_some : {X : Type 0} {F G : X → Type 0} (o : Option X) → ((x : X) → F x → G x) → IfSome o F → IfSome o G
 if_some None f h = tt
 if_some (Some x) f h = f x h
+
+-- what two texts load as, and what then holds of both
+of_two : (o o' : Option (List ℕ)) (a b : NetView) (P : List ℕ → List ℕ → Type 0) → ((x y : List ℕ) → Loads x a → Loads y b → P x y) → IfSome o (λ x. Loads x a) → IfSome o' (λ y. Loads y b) →
+    IfSome o (λ x. IfSome o' (λ y. P x y))
+of_two o o' a b P f l r = if_some o (λ x here. if_some o' (λ y there. f x y here there) r) l
 
 -- what follows in each form follows in the one that is asked for
 in_form : {X Y Z : Type 0} (mode : Mode) (a b : NetView) (s : Settings) (o : Outcome) → (IsCompared a b s o → X) → (IsComparedFromReset a b s o → Y) → (IsComparedInEvents a b s o → Z) → ComparedIn mode a b s (Ok o) → InForm mode s.reset X Y Z
@@ -55,10 +61,18 @@ module _ (held : Held) (check : Check) (P : List ℕ → List ℕ → Type 0) (Q
   over_nets : IsAnsweredBy held check r → OfGiven held check check.assumed P Q
   over_nets h = by check.assumed h
     where
-      by : (assumed : Option (List ℕ)) → OfGiven held check assumed (OfNets (λ a b. ComparedIn check.settings.mode a b check.settings r)) (OfThreeNets (λ a b c. ComparedUnderIn check.settings.mode a b c check.settings r)) → OfGiven held check assumed P Q
-      by None k = if_some (held check.left) (λ x here. if_some (held check.right) (λ y n. two x y n.0 n.1 n.2 n.3 n.4) here) k
-      by (Some path) k =
-          if_some (held check.left) (λ x here. if_some (held check.right) (λ y there. if_some (held path) (λ z n. three x y z n.0 n.1 n.2 n.3 n.4 n.5 n.6) there) here) k
+      by : (assumed : Option (List ℕ)) → IsAnsweredGiven held check assumed r → OfGiven held check assumed P Q
+      by None n = record {
+        left_loads = is_loaded (held check.left) n.a n.left_loads;
+        right_loads = is_loaded (held check.right) n.b n.right_loads;
+        said = of_two (held check.left) (held check.right) n.a n.b P (λ x y l m. two x y n.a n.b l m n.said) n.left_loads n.right_loads;
+      }
+      by (Some path) n = record {
+        left_loads = is_loaded (held check.left) n.a n.left_loads;
+        right_loads = is_loaded (held check.right) n.b n.right_loads;
+        assumed_loads = is_loaded (held path) n.c n.assumed_loads;
+        said = of_two (held check.left) (held check.right) n.a n.b (λ x y. IfSome (held path) (λ z. Q x y z)) (λ x y l m. if_some (held path) (λ z k. three x y z n.a n.b n.c l m k n.said) n.assumed_loads) n.left_loads n.right_loads;
+      }
 
 equal_verdict : (v : Verdict) → verdict_status v ≡ status.Equal → v ≡ verdict.Equal
 equal_verdict verdict.Equal e = refl

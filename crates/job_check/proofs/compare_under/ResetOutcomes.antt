@@ -1,5 +1,5 @@
 -- The same from the initial values. No latch is cut open.
-use Rattle.std.proofs.Common.{Bool, true, ◌≡◌, ℕ, ◌+◌, List, [], length, refl, ap, subst, inr, Some, Err}
+use Rattle.std.proofs.Common.{Bool, true, false, ◌≡◌, ℕ, ◌+◌, List, [], length, refl, ap, subst, inr, Some, Err}
 use Rattle.circuit_theory.specs.declared.Side.{Side}
 use Rattle.circuit_theory.specs.declared.Side.TheVariants.{A, B}
 use Rattle.flat_net.specs.Comparable.{IsComparable}
@@ -11,6 +11,7 @@ use Rattle.obligations.specs.declared.outcome.verdict.Outcome.{Outcome}
 use Rattle.obligations.specs.declared.outcome.verdict.PairResult.{PairResult}
 use Rattle.sec_setup.specs.declared.setup.Setup.{Setup}
 use Rattle.sec_setup.specs.Choosing.{IsChosen}
+use Rattle.sec_setup.specs.Cycles.{IsAcyclic}
 use Rattle.sec_setup.specs.Matching.{InterfacesMatch}
 use Rattle.sec_setup.specs.ports.Pairs.{NamedPair, named_pairs}
 use Rattle.sec_setup.specs.Setup.{IsSetupOf}
@@ -33,7 +34,7 @@ use Rattle.plain_check.specs.under_base.under_fits.ResetOutcome.{numbers_of, Res
 use Rattle.plain_check.specs.asked_under.plain_asked_under.under_meaning.under_reset_meaning.Laws.{AreNets}
 use Rattle.plain_check.proofs.asked_under.plain_asked_under.under_meaning.under_reset_meaning.Meaning.{equal_resets_say_under, different_resets_show_under}
 use Rattle.plain_check.specs.declared.under_base.compare_base.error.CompareError.TheVariants as refused
-use Rattle.plain_check.proofs.under_base.compare_base.Forms.{in_reset}
+use Rattle.plain_check.proofs.under_base.compare_base.Forms.{in_reset, unbroken}
 use Rattle.plain_check.proofs.under_base.compare_base.UncutSetups.{left_light, right_light, left_too_large, right_too_large, of_circuits, based, left_numbers, right_numbers}
 use Rattle.plain_check.specs.under_base.Compared.{IsComparedFromResetUnder, ComparedUnder}
 use Rattle.plain_check.specs.under_base.Met.{shared_by, IsMet}
@@ -91,7 +92,7 @@ module _ (a b c : NetView) (settings : Settings) (e : Exposure) (s : Setup) (p :
   is_refused_from sa resets found_error.NoMemory large = tt
 
   -- what is found is the outcome of the comparison
-  module _ (sa : IsSound a) (sb : IsSound b) (cb : IsComparable b) (name : List ℕ) (named : name ≡ premise.assumed.shape.output.name) (f : ResetFindings) (found : AreFoundUnder s p settings.conflicts f) where
+  module _ (uncut : settings.expose ≡ false) (sa : IsSound a) (sb : IsSound b) (cb : IsComparable b) (name : List ℕ) (named : name ≡ premise.assumed.shape.output.name) (f : ResetFindings) (found : AreFoundUnder s p settings.conflicts f) where
     abbrev numbers : Numbered
     numbers = numbers_of a b s.orders.left s.orders.right found.bases.left found.bases.right
 
@@ -135,6 +136,9 @@ module _ (a b c : NetView) (settings : Settings) (e : Exposure) (s : Setup) (p :
     nets : AreNets a b
     nets = record { left = sa; right = sb; right_distinct = cb.distinct }
 
+    acyclic : IsAcyclic a × IsAcyclic b
+    acyclic = unbroken a b settings.expose uncut chosen.broken
+
     pub outcome_is_compared_from_under : IsComparedFromResetUnder a b c settings outcome_from
     unfolding outcome_fits
     outcome_is_compared_from_under = record {
@@ -142,6 +146,8 @@ module _ (a b c : NetView) (settings : Settings) (e : Exposure) (s : Setup) (p :
       right_sound = sb;
       met = met;
       assumed = ap Some named;
+      left_acyclic = acyclic.0;
+      right_acyclic = acyclic.1;
       fits = outcome_fits;
       left_light = left_light a b s is none found.left_light;
       right_light = right_light a b s is none found.right_light;

@@ -11,6 +11,7 @@ use Rattle.obligations.specs.declared.outcome.verdict.Verdict.TheVariants as ver
 use Rattle.obligations.specs.declared.outcome.verdict.Why.TheVariants as why
 use Rattle.obligations.specs.declared.outcome.verdict.Outcome.{Outcome}
 use Rattle.obligations.specs.declared.outcome.verdict.ResetWitness.{ResetWitness}
+use Rattle.sec_setup.specs.Cycles.{IsAcyclic}
 use Rattle.sec_setup.specs.Matching.{InterfacesMatch}
 use Rattle.outcome_fits.specs.Pairs.{named_pairs}
 use Rattle.outcome_fits.specs.Fitting.{IsLight}
@@ -44,12 +45,14 @@ pub record IsComparedUnder (a b c : NetView) (settings : Settings) (o : Outcome)
   pub different : (w : Witness) → o.verdict ≡ verdict.Different w → MakesDiffer (circuit_of a) (circuit_of b) w × RowsMeet (assumed_by met.assumed) w.stimulus.rows w.cycle
   pub not_shown : (w : Witness) → o.verdict ≡ verdict.NotShown (why.Cut w) → MakesCutsDiffer o.exposed (circuit_of a) (circuit_of b) w × RowsMeet (assumed_by met.assumed) w.stimulus.rows w.cycle
 
--- The same where runs begin with the latches' initial values.
+-- The same where runs begin with the latches' initial values. No latch of either circuit lies on a cycle, also where no output reads it.
 pub record IsComparedFromResetUnder (a b c : NetView) (settings : Settings) (o : Outcome) : Type 0 where
   pub left_sound : IsSound a
   pub right_sound : IsSound b
   pub met : IsMet a b c
   pub assumed : o.assumed ≡ Some met.assumed.shape.output.name
+  pub left_acyclic : IsAcyclic a
+  pub right_acyclic : IsAcyclic b
   pub fits : ResetOutcomeFitsUnder (assumed_by met.assumed) met.row a b settings.conflicts o
   pub left_light : IsLeftLight a b
   pub right_light : IsRightLight a b

@@ -103,7 +103,7 @@ module _ {P : Type 0} (c : Circuit P) (p : P) (t : ℕ) where
   one_more : (j : ℕ) → suc j ≤ t → suc (t - suc j) ≡ t - j
   one_more j h = omega (arith, h)
 
-  shifted : {q : P} {j : ℕ} → ResetVisits c p t q j → (j ≤ t) × Visits c p 0 q (t - j)
+  pub shifted : {q : P} {j : ℕ} → ResetVisits c p t q j → (j ≤ t) × Visits c p 0 q (t - j)
   shifted ResetVisits.itself = (omega arith, subst (Visits c p 0 p) (let e : 0 ≡ t - t = omega arith in e) Visits.itself)
   shifted (ResetVisits.reads v read) = let h = shifted v in (h.0, Visits.reads h.1 read)
   shifted {q} {j} (ResetVisits.back v latch) = let h = shifted v in (omega (arith, h.0), subst (Visits c p 0 q) (one_more j h.0) (Visits.back h.1 latch))

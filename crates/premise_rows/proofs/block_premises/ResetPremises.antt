@@ -72,7 +72,7 @@ module _ (s t : Small) (a b : NetView) (left : IsSmall s a) (right : IsSmall t b
   right_output x h = let o = pair_of x h in Contains-map (λ (n : Named ℕ). n.place) (circuit_of b).outputs (record { name = o.name; place = x.right }) o.right_output
 
   -- no pair is deeper than both weigh
-  depth_below : (x : NamedPair ℕ ℕ) → Contains (named_pairs [] (circuit_of a) (circuit_of b)) x → (depth : ℕ) → IsPairDepth (circuit_of a) (circuit_of b) x.left x.right depth → depth ≤ s.weight + t.weight
+  pub depth_below : (x : NamedPair ℕ ℕ) → Contains (named_pairs [] (circuit_of a) (circuit_of b)) x → (depth : ℕ) → IsPairDepth (circuit_of a) (circuit_of b) x.left x.right depth → depth ≤ s.weight + t.weight
   depth_below x h depth deep =
       let l = depth_low (circuit_of a) (outputs_in (circuit_of a)) s.weight left_light x.left (left_output x h) deep.left deep.left_is in
       let r = depth_low (circuit_of b) (outputs_in (circuit_of b)) t.weight right_light x.right (right_output x h) deep.right deep.right_is in

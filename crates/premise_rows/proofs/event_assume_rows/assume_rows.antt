@@ -3,3 +3,4 @@ pub mod Shape
 pub mod Weights
 pub mod Meeting
 pub mod Examples
+pub mod FromReset

@@ -254,8 +254,10 @@ module _ (a b : NetView) (to back : ℕ → ℕ) (r : AreRenumbered (circuit_of 
           subst (λ (p : ℕ). (mark ≡ true) ↔ IsSettled Plain (circuit_of b) run t p) place ((λ e. there.0 (same.0 e)), (λ m. same.1 (there.1 m))));
     }
 
-    report_there : (text : List ℕ) → IsSimReport Plain a names rows power reset text → IsSimReport Plain b names rows power reset text
-    report_there text x = record {
+    report_there : (text : List ℕ) → (run : ℕ → ℕ → Bool) × IsSimulated b names rows (power_of b power reset) run → IsSimReport Plain a names rows power reset text → IsSimReport Plain b names rows power reset text
+    report_there text own x = record {
+      run = own.0;
+      runs = own.1;
       cycles = x.cycles;
       each = x.each;
       text_is = x.text_is ∙ ap (λ (ns : List (List ℕ)). sim_text ns x.cycles)
@@ -269,4 +271,5 @@ graph_reports_are_one text a b la lb left right x y = let one = one_text_net tex
 pub sim_reports_are_one : SimReportsAreOne
 sim_reports_are_one text a b la lb stimulus names rows s power fits reset left right x y =
     let one = one_text_net text a b la lb in
-    one_report b (text_sound text b lb) names rows s.form.names_are.distinct s.form.rows_are power reset fits Plain left right (report_there a b one.to one.back one.circuits (text_sound text a la) (text_sound text b lb) names rows power reset left x) y
+    one_report b (text_sound text b lb) names rows s.form.names_are.distinct s.form.rows_are power reset fits Plain left right (report_there a b one.to one.back one.circuits (text_sound text a la) (text_sound text b lb) names rows power reset left
+    (simulation_exists b (text_sound text b lb) names rows s.form.names_are.distinct s.form.rows_are power reset fits) x) y

@@ -21,16 +21,16 @@ use Rattle.sec_jobs.specs.job_cert.Found.{OfNets, IsCertFound}
 use Rattle.sec_jobs.specs.job_cert.Answer.{TellsText, CertMeans}
 
 -- a text that refutes the clauses shows that none meets them
-refuted : (cnf : Cnf) (text : List ℕ) → Refutes cnf text → Unsatisfiable cnf.clauses
-refuted cnf text h = accepted_sound (formula_for cnf) text h.accepted.0 h.accepted.1
+refuted : (conflicts : ℕ) (cnf : Cnf) (text : List ℕ) → Refutes conflicts cnf text → Unsatisfiable cnf.clauses
+refuted conflicts cnf text h = accepted_sound (formula_for cnf) text h.accepted.0 h.accepted.1
 
 -- what a certificate tells
 module _ (a b : NetView) (request : Request) where
-  tells_text : (text : List ℕ) → IsCertificate a b request (finding.Done text) → TellsText request.refuted a b request.pair text
+  tells_text : (text : List ℕ) → IsCertificate a b request (finding.Done text) → TellsText request request.refuted a b text
   tells_text text h = go request.refuted h.made
     where
-      go : (t : Bool) → IsMadeBy t request.conflicts h.cnf (finding.Done text) → TellsText t a b request.pair text
-      go true m = record { cnf = h.cnf; clauses = h.clauses; refutes = m; equal = h.clauses.tell.equal (refuted h.cnf text m) }
+      go : (t : Bool) → IsMadeBy t request.conflicts h.cnf (finding.Done text) → TellsText request t a b text
+      go true m = record { cnf = h.cnf; clauses = h.clauses; refutes = m; equal = h.clauses.tell.equal (refuted request.conflicts h.cnf text m) }
       go false m = record { cnf = h.cnf; clauses = h.clauses; spells = m }
 
   told_met : (cnf : Cnf) (t : Bool) → request.refuted ≡ t → IsMadeBy t request.conflicts cnf (finding.Unrefuted unrefuted.Satisfiable) → (request.refuted ≡ true) × CanBeMet cnf.clauses
@@ -44,7 +44,7 @@ module _ (a b : NetView) (request : Request) where
 
 module _ (request : Request) (left right before now : Option (List ℕ)) where
   done_taken : (f : Finding) → IsCertFound request left right f → status_of f ≡ status.Done → Takes before now (finding_text f) →
-      (text : List ℕ) × Takes before now text × OfNets left right (λ a b. TellsText request.refuted a b request.pair text)
+      (text : List ℕ) × Takes before now text × OfNets left right (λ a b. TellsText request request.refuted a b text)
   done_taken finding.Words h e taken = absurd h
   done_taken (finding.Refused r) h e taken = absurd (cc)
   done_taken (finding.Cyclic side names) h e taken = absurd (cc)

@@ -27,11 +27,11 @@ pub record TellsClauses (a b : NetView) (pair text : List ℕ) : Type 0 where
   pub clauses : ArePairClauses a b pair cnf
   pub spells : SpellsClauses cnf text
 
--- the text refutes these clauses, and the functions of the pair are equal
-pub record TellsEqual (a b : NetView) (pair text : List ℕ) : Type 0 where
+-- the text refutes these clauses with no more chains than conflicts are allowed, and the functions of the pair are equal
+pub record TellsEqual (a b : NetView) (pair : List ℕ) (conflicts : ℕ) (text : List ℕ) : Type 0 where
   pub cnf : Cnf
   pub clauses : ArePairClauses a b pair cnf
-  pub refutes : Refutes cnf text
+  pub refutes : Refutes conflicts cnf text
   pub equal : HaveEqualFunctions (circuit_of a) (circuit_of b) clauses.left clauses.right clauses.left_place clauses.right_place
 
 -- the functions of the pair differ
@@ -49,15 +49,15 @@ pub record KeepsLimit (a b : NetView) (pair : List ℕ) (conflicts : ℕ) (proof
   pub log : IsFruitless proof.cnf.clauses conflicts proof.log
 
 -- what the finished text is, where the clauses are to be refuted and where not
-abbrev pub TellsText : Bool → NetView → NetView → List ℕ → List ℕ → Type 0
-TellsText true a b pair text = TellsEqual a b pair text
-TellsText false a b pair text = TellsClauses a b pair text
+abbrev pub TellsText : Request → Bool → NetView → NetView → List ℕ → Type 0
+TellsText request true a b text = TellsEqual a b request.pair request.conflicts text
+TellsText request false a b text = TellsClauses a b request.pair text
 
 -- What the status says of the nets that the two texts load as, with the proofs and what was written before and is now.
 abbrev pub CertMeans : Request → Option (List ℕ) → Option (List ℕ) → Option (List ℕ) → Option (List ℕ) → List Proof → StatusName → Type 0
 CertMeans request left right before now proofs status.Equal = ⊥
 CertMeans request left right before now proofs status.NotShown = ⊥
-CertMeans request left right before now proofs status.Done = (text : List ℕ) × Takes before now text × OfNets left right (λ a b. TellsText request.refuted a b request.pair text)
+CertMeans request left right before now proofs status.Done = (text : List ℕ) × Takes before now text × OfNets left right (λ a b. TellsText request request.refuted a b text)
 CertMeans request left right before now proofs status.Different = (request.refuted ≡ true) × Takes before now satisfiable_text × OfNets left right (λ a b. PairDiffers a b request.pair)
 CertMeans request left right before now proofs status.Limit =
     (request.refuted ≡ true) × Takes before now (unsettled_text request.conflicts) × OfNets left right (λ a b. KeepsLimit a b request.pair request.conflicts proofs)

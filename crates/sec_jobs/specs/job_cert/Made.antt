@@ -1,5 +1,5 @@
 -- What a certificate of two nets is.
-use Rattle.std.specs.Prelude.{◌≡◌, ℕ, Bool, true, false, List, Result, Ok, Err}
+use Rattle.std.specs.Prelude.{◌≡◌, ℕ, ◌≤◌, Bool, true, false, List, length, Result, Ok, Err}
 use Rattle.flat_net.specs.View.{NetView}
 use Rattle.proof_check.specs.declared.derivation.Chain.{Chain}
 use Rattle.pair_decide.specs.declared.cnf_encode.cnf.Cnf.{Cnf}
@@ -21,15 +21,16 @@ pub record Request : Type 0 where
 abbrev pub wanted_of : Wanted → Request
 wanted_of w = record { pair = w.pair.now; refuted = w.refuted; conflicts = w.conflicts }
 
--- the text refutes the clauses: it is that of a log, and accepted over them
-pub record Refutes (cnf : Cnf) (text : List ℕ) : Type 0 where
+-- the text refutes the clauses: it is that of a log of no more chains than conflicts are allowed, and accepted over them
+pub record Refutes (conflicts : ℕ) (cnf : Cnf) (text : List ℕ) : Type 0 where
   pub log : List Chain
+  pub few : length log ≤ conflicts
   pub lines : IsTextOf cnf.clauses log text
   pub accepted : IsAcceptedOver cnf text
 
 -- what a search of the clauses finds: the text of a refutation, that they can be met, or that the limit is met
 abbrev pub IsSearched : ℕ → Cnf → Finding → Type 0
-IsSearched conflicts cnf (finding.Done text) = Refutes cnf text
+IsSearched conflicts cnf (finding.Done text) = Refutes conflicts cnf text
 IsSearched conflicts cnf (finding.Unrefuted unrefuted.Satisfiable) = CanBeMet cnf.clauses
 IsSearched conflicts cnf (finding.Unrefuted (unrefuted.Limit limit proof)) = (limit ≡ conflicts) × (proof.cnf ≡ cnf) × IsFruitless cnf.clauses conflicts proof.log
 IsSearched conflicts cnf other = ⊥

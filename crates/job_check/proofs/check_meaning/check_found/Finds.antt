@@ -25,19 +25,8 @@ use Rattle.job_base.specs.sec_files.job_files.Reading.{IsLoaded, Held, ReadFaile
 use Rattle.job_base.proofs.sec_files.job_files.Loading.{load_ends, later_fails}
 use Rattle.job_base.proofs.sec_files.job_files.Reading.{first_failed, second_failed, is_loaded}
 use Rattle.job_check.specs.check_meaning.check_found.Check.{Check, all_paths}
-use Rattle.job_check.specs.check_meaning.check_found.Found.{OfFile, IsAnsweredBy, IsAnsweredUnder, IsFoundOf}
+use Rattle.job_check.specs.check_meaning.check_found.Found.{OfFile, IsAnsweredBy, IsAnsweredByTwo, IsAnsweredByThree, IsAnsweredUnder, IsFoundOf}
 use Rattle.job_check.specs.check_meaning.check_found.Ends.{compare_end, EndsBeside, EndsBoth, FoundOf}
-
--- what holds of something held, where it is told
-both_told : {X Y : Type 0} (o : Option X) (o' : Option Y) (F : X → Type 0) (G : Y → Type 0) (H : X → Y → Type 0) →
-    ((x : X) (y : Y) → F x → G y → H x y) → IfSome o F → IfSome o' G → IfSome o (λ x. IfSome o' (λ y. H x y))
-both_told None o' F G H f p q = tt
-both_told (Some x) None F G H f p q = tt
-both_told (Some x) (Some y) F G H f p q = f x y p q
-
-if_told : {X : Type 0} (o : Option X) (F G : X → Type 0) → ((x : X) → F x → G x) → IfSome o F → IfSome o G
-if_told None F G f h = tt
-if_told (Some x) F G f h = f x h
 
 -- a comparison ends with no read fault
 pub no_fault_compared : (settings : Settings) (r : Result Outcome CompareError) → IsErrOf (compare_end settings r) stop.ReadFault → ⊥
@@ -105,7 +94,7 @@ module _ (held : Held) (before now : List ℕ → ℕ) (left right : List ℕ) (
   -- A's is, as this net
   module _ (a : NetView) (a_loads : IfSome (held left) (λ x. Loads x a)) where
     of_right : (assumed : Option (List ℕ)) (P : List ℕ → Type 0) → IfSome (held right) P → OfFile held (check_with assumed) file.B P
-    of_right assumed P h = both_told (held left) (held right) (λ x. Loads x a) P (λ x y. (n : NetView) × Loads x n × P y) (λ x y l p. (a, l, p)) a_loads h
+    of_right assumed P h = (is_loaded (held left) a a_loads, h)
 
     -- B's isn't
     right_ends : (assumed : Option (List ℕ)) (error : LoadError) → LoadFails (held right) (Rose (before right) (now right)) error → Found assumed (load_end file.B error)
@@ -115,12 +104,8 @@ module _ (held : Held) (before now : List ℕ → ℕ) (left right : List ℕ) (
 
     -- B's is, as this net
     module _ (b : NetView) (b_loads : IfSome (held right) (λ y. Loads y b)) where
-      of_both : (P : List ℕ → List ℕ → Type 0) → ((x y : List ℕ) → Loads x a → Loads y b → P x y) → IfSome (held left) (λ x. IfSome (held right) (λ y. P x y))
-      of_both P f = both_told (held left) (held right) (λ x. Loads x a) (λ y. Loads y b) P f a_loads b_loads
-
       of_third : (path : List ℕ) (P : List ℕ → Type 0) → IfSome (held path) P → OfFile held (check_with (Some path)) file.C P
-      of_third path P h =
-          of_both (λ x y. IfSome (held path) (λ z. (m : NetView) × (k : NetView) × Loads x m × Loads y k × P z)) (λ x y l r. if_told (held path) P (λ z. (m : NetView) × (k : NetView) × Loads x m × Loads y k × P z) (λ z p. (a, b, l, r, p)) h)
+      of_third path P h = (is_loaded (held left) a a_loads, is_loaded (held right) b b_loads, h)
 
       -- the assumption's isn't
       third_ends : (path : List ℕ) (error : LoadError) → LoadFails (held path) (Rose (before path) (now path)) error → Found (Some path) (load_end file.C error)
@@ -129,8 +114,8 @@ module _ (held : Held) (before now : List ℕ → ℕ) (left right : List ℕ) (
           (λ fault. of_third path (λ z. HasDesignFault z fault)) (λ place kind. of_third path (λ z. HasRecordFault z place kind)) (third_failed path (is_loaded (held left) a a_loads) (is_loaded (held right) b b_loads)) error h
 
       -- both nets are compared
-      answered_two : (r : Result Outcome CompareError) → ComparedIn settings.mode a b settings r → IsAnsweredBy held (check_with None) r
-      answered_two r c = of_both (λ x y. (m : NetView) × (k : NetView) × Loads x m × Loads y k × ComparedIn settings.mode m k settings r) (λ x y l m. (a, b, l, m, c))
+      answered_two : (r : Result Outcome CompareError) → ComparedIn settings.mode a b settings r → IsAnsweredByTwo held (check_with None) r
+      answered_two r c = record { a = a; b = b; left_loads = a_loads; right_loads = b_loads; said = c }
 
       two_end : (r : Result Outcome CompareError) → ComparedIn settings.mode a b settings r → Found None (compare_end settings r)
       two_end (Ok o) c = (refl, answered_two (Ok o) c)
@@ -145,10 +130,8 @@ module _ (held : Held) (before now : List ℕ → ℕ) (left right : List ℕ) (
 
       -- or under the assumption, whose net this is
       module _ (path : List ℕ) (c : NetView) (c_loads : IfSome (held path) (λ z. Loads z c)) where
-        answered_under : (r : Result Outcome CompareError) → ComparedUnderIn settings.mode a b c settings r → IsAnsweredUnder held (check_with (Some path)) r
-        answered_under r k =
-            let P : List ℕ → List ℕ → List ℕ → Type 0 = λ x y z. (m : NetView) × (k : NetView) × (n : NetView) × Loads x m × Loads y k × Loads z n × ComparedUnderIn settings.mode m k n settings r in
-            of_both (λ x y. IfSome (held path) (λ z. P x y z)) (λ x y l m. if_told (held path) (λ z. Loads z c) (λ z. P x y z) (λ z n. (a, b, c, l, m, n, k)) c_loads)
+        answered_under : (r : Result Outcome CompareError) → ComparedUnderIn settings.mode a b c settings r → IsAnsweredByThree held (check_with (Some path)) path r
+        answered_under r k = record { a = a; b = b; c = c; left_loads = a_loads; right_loads = b_loads; assumed_loads = c_loads; said = k }
 
         three_end : (r : Result Outcome CompareError) → ComparedUnderIn settings.mode a b c settings r → Found (Some path) (compare_end settings r)
         three_end (Ok o) k = (refl, answered_under (Ok o) k)

@@ -83,6 +83,10 @@ module _ (before now : Option (List ℕ)) (settings : Settings) (o : Outcome) (t
     right = circuit_of_text y b.clock;
     left_spelled = spelled_circuit x a left;
     right_spelled = spelled_circuit y b right;
+    left_net = a;
+    right_net = b;
+    left_loads = left;
+    right_loads = right;
     outcome = o;
     witness = w;
     is_verdict = e;

@@ -211,6 +211,7 @@ module _ (before now : Option (List ℕ)) (settings : Settings) (o : Outcome) (t
           place_at = f.first.pair_at;
           result_at = here;
           limit = f.first.answered;
+          verdict_is = e ∙ ap verdict.Limit (n.2 ∙ ap limit_at.Pair (f.named ∙ sym fits.name_is));
           kept = g.1;
           undecided = g.2;
         })))

@@ -217,6 +217,7 @@ module _ (x y z : List ℕ) (a b c : NetView) (left : Loads x a) (right : Loads 
           place_at = f.first.pair_at;
           result_at = here;
           limit = f.first.answered;
+          verdict_is = e ∙ ap verdict.Limit (n.2 ∙ ap limit_at.Pair (f.named ∙ sym fits.name_is));
           kept = g.1;
           undecided = g.2;
         })))

@@ -1,4 +1,5 @@
--- What is true of the files of a comparison where it finds what it does.
+-- What is true of the files of a comparison where it finds what it does. A text is given where it is told, and each that is told counts,
+-- also where another isn't.
 use Rattle.std.specs.Prelude.{◌≡◌, ℕ, List, Option, Some, None, Result, Ok, Err, IfSome}
 use Rattle.flat_net.specs.View.{NetView}
 use Rattle.pair_decide.specs.declared.query.SameBy.{SameBy}
@@ -15,44 +16,82 @@ use Rattle.event_setup.specs.event_meaning.event_meaning_under.CompareError.TheV
 use Rattle.event_setup.specs.event_meaning.event_names.event_fits.Compared.{ComparedIn}
 use Rattle.event_setup.specs.event_meaning.event_meaning_under.Answered.{ComparedUnderIn}
 use Rattle.job_base.specs.sec_files.Loading.{Loads, IsTooLong, HasFault, HasDesignFault, HasRecordFault}
-use Rattle.job_base.specs.sec_files.job_files.Reading.{Held}
+use Rattle.job_base.specs.sec_files.job_files.Reading.{Held, IsLoaded}
 use Rattle.job_check.specs.check_meaning.check_found.Check.{Check}
 
--- what is said of the two texts that are compared, where both are told
-abbrev pub OfTexts : Held → Check → (List ℕ → List ℕ → Type 0) → Type 0
-OfTexts held check P = IfSome (held check.left) (λ x. IfSome (held check.right) (λ y. P x y))
+-- both texts load, and this is said of them
+pub record OfTexts (left right : Option (List ℕ)) (P : List ℕ → List ℕ → Type 0) : Type 0 where
+  pub left_loads : IsLoaded left
+  pub right_loads : IsLoaded right
+  pub said : IfSome left (λ x. IfSome right (λ y. P x y))
 
--- what is said of these and of that of the assumption, where there is one
-abbrev pub OfThree : Held → Check → Option (List ℕ) → (List ℕ → List ℕ → List ℕ → Type 0) → Type 0
-OfThree held check None P = ⊥
-OfThree held check (Some path) P = OfTexts held check (λ x y. IfSome (held path) (λ z. P x y z))
+-- so of three
+pub record OfThreeTexts (left right assumed : Option (List ℕ)) (P : List ℕ → List ℕ → List ℕ → Type 0) : Type 0 where
+  pub left_loads : IsLoaded left
+  pub right_loads : IsLoaded right
+  pub assumed_loads : IsLoaded assumed
+  pub said : IfSome left (λ x. IfSome right (λ y. IfSome assumed (λ z. P x y z)))
 
 -- what is said of two texts without an assumption, and of three with one
 abbrev pub OfGiven : Held → Check → Option (List ℕ) → (List ℕ → List ℕ → Type 0) → (List ℕ → List ℕ → List ℕ → Type 0) → Type 0
-OfGiven held check None P Q = OfTexts held check P
-OfGiven held check (Some path) P Q = OfTexts held check (λ x y. IfSome (held path) (λ z. Q x y z))
+OfGiven held check None P Q = OfTexts (held check.left) (held check.right) P
+OfGiven held check (Some path) P Q = OfThreeTexts (held check.left) (held check.right) (held path) Q
 
--- what is said of the nets that two texts load as, and of those of three
-abbrev pub OfNets : (NetView → NetView → Type 0) → List ℕ → List ℕ → Type 0
-OfNets P x y = (a : NetView) × (b : NetView) × Loads x a × Loads y b × P a b
+-- what is said of the nets that two texts load as
+pub record OfNets (left right : Option (List ℕ)) (P : NetView → NetView → Type 0) : Type 0 where
+  pub a : NetView
+  pub b : NetView
+  pub left_loads : IfSome left (λ x. Loads x a)
+  pub right_loads : IfSome right (λ y. Loads y b)
+  pub said : P a b
 
-abbrev pub OfThreeNets : (NetView → NetView → NetView → Type 0) → List ℕ → List ℕ → List ℕ → Type 0
-OfThreeNets P x y z = (a : NetView) × (b : NetView) × (c : NetView) × Loads x a × Loads y b × Loads z c × P a b c
+-- and of those of three
+pub record OfThreeNets (left right assumed : Option (List ℕ)) (P : NetView → NetView → NetView → Type 0) : Type 0 where
+  pub a : NetView
+  pub b : NetView
+  pub c : NetView
+  pub left_loads : IfSome left (λ x. Loads x a)
+  pub right_loads : IfSome right (λ y. Loads y b)
+  pub assumed_loads : IfSome assumed (λ z. Loads z c)
+  pub said : P a b c
 
--- What is said of the text of a file; B is looked at only where A loads, and the assumption only where both load. There is no stimulus.
+-- what is said of the assumption's text, which is looked at only where both circuits load
+abbrev pub OfAssumed : Held → Check → Option (List ℕ) → (List ℕ → Type 0) → Type 0
+OfAssumed held check None P = ⊥
+OfAssumed held check (Some path) P = IsLoaded (held check.left) × IsLoaded (held check.right) × IfSome (held path) P
+
+-- What is said of the text of a file; B is looked at only where A loads. There is no stimulus.
 abbrev pub OfFile : Held → Check → File → (List ℕ → Type 0) → Type 0
 OfFile held check file.A P = IfSome (held check.left) P
-OfFile held check file.B P = OfTexts held check (λ x y. (net : NetView) × Loads x net × P y)
-OfFile held check file.C P = OfThree held check check.assumed (λ x y z. (a : NetView) × (b : NetView) × Loads x a × Loads y b × P z)
+OfFile held check file.B P = IsLoaded (held check.left) × IfSome (held check.right) P
+OfFile held check file.C P = OfAssumed held check check.assumed P
 OfFile held check file.S P = ⊥
 
--- the comparison of the nets that the texts load as answers so
+-- the comparison of two nets answers so
+abbrev pub IsAnsweredByTwo : Held → Check → Result Outcome CompareError → Type 0
+IsAnsweredByTwo held check r = OfNets (held check.left) (held check.right) (λ a b. ComparedIn check.settings.mode a b check.settings r)
+
+-- that of three
+abbrev pub IsAnsweredByThree : Held → Check → List ℕ → Result Outcome CompareError → Type 0
+IsAnsweredByThree held check path r = OfThreeNets (held check.left) (held check.right) (held path) (λ a b c. ComparedUnderIn check.settings.mode a b c check.settings r)
+
+-- the comparison of the nets that the texts load as answers so, without an assumption and with one
+abbrev pub IsAnsweredGiven : Held → Check → Option (List ℕ) → Result Outcome CompareError → Type 0
+IsAnsweredGiven held check None r = IsAnsweredByTwo held check r
+IsAnsweredGiven held check (Some path) r = IsAnsweredByThree held check path r
+
+-- it answers so, and there is an assumption
+abbrev pub IsAnsweredAssuming : Held → Check → Option (List ℕ) → Result Outcome CompareError → Type 0
+IsAnsweredAssuming held check None r = ⊥
+IsAnsweredAssuming held check (Some path) r = IsAnsweredByThree held check path r
+
+-- the comparison that is asked for answers so
 abbrev pub IsAnsweredBy : Held → Check → Result Outcome CompareError → Type 0
-IsAnsweredBy held check r = OfGiven held check check.assumed (OfNets (λ a b. ComparedIn check.settings.mode a b check.settings r)) (OfThreeNets (λ a b c. ComparedUnderIn check.settings.mode a b c check.settings r))
+IsAnsweredBy held check r = IsAnsweredGiven held check check.assumed r
 
 -- it answers so under an assumption
 abbrev pub IsAnsweredUnder : Held → Check → Result Outcome CompareError → Type 0
-IsAnsweredUnder held check r = OfThree held check check.assumed (OfThreeNets (λ a b c. ComparedUnderIn check.settings.mode a b c check.settings r))
+IsAnsweredUnder held check r = IsAnsweredAssuming held check check.assumed r
 
 -- why a comparison is refused; the first cause in the order of the work
 abbrev pub IsRefusal : Held → Check → Refusal → Type 0

@@ -41,8 +41,8 @@ pub record ResetsAgree (x y : List ℕ) (settings : Settings) (before now : Opti
   pub says : AgreeFromReset left right
   pub nets_say : AgreeFromReset (circuit_of left_net) (circuit_of right_net)
 
--- The sequence and the power-ups that are printed behind what was written before make the circuits that the two texts spell differ: in
--- runs from their initial values, and in no earlier cycle.
+-- Both texts load. The sequence and the power-ups that are printed behind what was written before make the circuits that they spell
+-- differ: in runs from their initial values, and in no earlier cycle.
 pub record ResetsDiffer (x y : List ℕ) (settings : Settings) (before now : Option (List ℕ)) : Type 0 where
   pub left_clock : Option (List ℕ)
   pub right_clock : Option (List ℕ)
@@ -50,6 +50,10 @@ pub record ResetsDiffer (x y : List ℕ) (settings : Settings) (before now : Opt
   pub right : Circuit Place
   pub left_spelled : SpellsCircuit x left_clock left
   pub right_spelled : SpellsCircuit y right_clock right
+  pub left_net : NetView
+  pub right_net : NetView
+  pub left_loads : Loads x left_net
+  pub right_loads : Loads y right_net
   pub outcome : Outcome
   pub witness : ResetWitness
   pub is_verdict : outcome.verdict ≡ verdict.DifferentFrom witness

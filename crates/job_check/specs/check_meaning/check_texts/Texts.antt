@@ -48,8 +48,8 @@ pub record TextsAgree (x y : List ℕ) (settings : Settings) (before now : Optio
   pub says : SaysEqual Plain outcome left right
   pub nets_say : SaysEqual Plain outcome (circuit_of left_net) (circuit_of right_net)
 
--- The circuits that the two texts spell differ in all runs over the sequence that is printed behind what was written before. No latch
--- is cut open.
+-- Both texts load, and the circuits that they spell differ in all runs over the sequence that is printed behind what was written before.
+-- No latch is cut open.
 pub record TextsDiffer (x y : List ℕ) (settings : Settings) (before now : Option (List ℕ)) : Type 0 where
   pub left_clock : Option (List ℕ)
   pub right_clock : Option (List ℕ)
@@ -57,6 +57,10 @@ pub record TextsDiffer (x y : List ℕ) (settings : Settings) (before now : Opti
   pub right : Circuit Place
   pub left_spelled : SpellsCircuit x left_clock left
   pub right_spelled : SpellsCircuit y right_clock right
+  pub left_net : NetView
+  pub right_net : NetView
+  pub left_loads : Loads x left_net
+  pub right_loads : Loads y right_net
   pub outcome : Outcome
   pub witness : Witness
   pub is_verdict : outcome.verdict ≡ verdict.Different witness

@@ -11,6 +11,7 @@ use Rattle.witness_report.specs.declared.witness.Witness.{Witness}
 use Rattle.flat_net.specs.View.{NetView, circuit_of}
 use Rattle.pair_decide.specs.declared.query.Proof.{Proof}
 use Rattle.obligations.specs.declared.outcome.verdict.LimitAt.{LimitAt}
+use Rattle.obligations.specs.declared.outcome.verdict.LimitAt.TheVariants as limit_at
 use Rattle.obligations.specs.declared.outcome.verdict.Outcome.{Outcome}
 use Rattle.obligations.specs.declared.outcome.verdict.PairResult.{PairResult}
 use Rattle.obligations.specs.declared.outcome.verdict.Unshown.{Unshown}
@@ -108,6 +109,7 @@ pub record IsPairUndecidedUnder (c : Assumption) (weight : ℕ) (meeting : ℕ �
   pub place_at : slice_get compared.compared.pairs.now index ≡ Some place
   pub result_at : slice_get o.pairs index ≡ Some result
   pub limit : result.answer ≡ answer.Limit
+  pub verdict_is : o.verdict ≡ verdict.Limit (limit_at.Pair result.name)
   pub kept : result.proof ≡ Some proof
   pub undecided : IsUndecidedUnder c (both_of compared.left compared.right) settings.conflicts (Left place.left.0) (Right place.right.0) proof
 

@@ -4,7 +4,7 @@ use Rattle.obligations.specs.declared.outcome.verdict.Outcome.{Outcome}
 use Rattle.plain_asked.specs.declared.findings.Findings.{Findings}
 use Rattle.sec_setup.proofs.Uncut.{uncut}
 use Rattle.plain_check.specs.under_base.compare_base.Compared.{Compared}
-use Rattle.plain_check.proofs.under_base.compare_base.Forms.{in_reset}
+use Rattle.plain_check.proofs.under_base.compare_base.Forms.{in_reset, unbroken}
 use Rattle.plain_check.proofs.ResetSetups.{too_large_from, outcome_is_compared_from}
 use Rattle.plain_check.proofs.comparison.compare_from.Goals as goal
 
@@ -25,7 +25,8 @@ returns-in-Ok c =
     (subst (λ (f : Findings). Compared n.left.now n.right.now c.args.settings.now
     (Ok (record { inputs = s.inputs; left_latches = length n.left.now.latches; right_latches = length n.right.now.latches; assumed = None; exposed = s.exposed; classes = 0; pairs = f.pairs; through = f.through; verdict = f.verdict }))) (sym c.findings_of.ensures)
     (in_reset _ c.args.settings.now.reset c.requires.reset
-    (outcome_is_compared_from n.left.now n.right.now s c.in_ok-setup.ensures.setup none c.args.settings.now c.in-Ok.findings c.in-Ok.ensures c.keeps.ensures.sound c.keeps-2.ensures.sound c.requires.right c.requires.matches)))
+    (outcome_is_compared_from n.left.now n.right.now s c.in_ok-setup.ensures.setup none c.args.settings.now c.in-Ok.findings c.in-Ok.ensures c.keeps.ensures.sound c.keeps-2.ensures.sound c.requires.right c.requires.matches
+    (unbroken n.left.now n.right.now c.args.settings.now.expose c.requires.uncut c.requires.chosen.broken))))
 
 pub returns-in-Err-TooLarge : goal.returns-in-Err-TooLarge
 returns-in-Err-TooLarge c =

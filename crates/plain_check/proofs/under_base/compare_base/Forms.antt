@@ -1,5 +1,7 @@
 -- What is said by the form of a comparison.
 use Rattle.std.proofs.Common.{◌≡◌, Bool, true, false}
+use Rattle.flat_net.specs.View.{NetView}
+use Rattle.sec_setup.specs.Cycles.{IsAcyclic, AreBroken}
 use Rattle.plain_check.specs.under_base.compare_base.Compared.{ByReset}
 
 pub in_always : {X : Type 0} (Y : Type 0) (reset : Bool) → reset ≡ false → X → ByReset reset X Y
@@ -14,3 +16,8 @@ in_reset X true e y = y
 pub by_reset : {X Y V W : Type 0} (reset : Bool) → (X → V) → (Y → W) → ByReset reset X Y → ByReset reset V W
 by_reset false f g h = f h
 by_reset true f g h = g h
+
+-- where no latch is to be cut open, no latch lies on a cycle
+pub unbroken : (a b : NetView) (expose : Bool) → expose ≡ false → AreBroken a b expose → IsAcyclic a × IsAcyclic b
+unbroken a b false e h = h
+unbroken a b true e h = absurd (cc)

@@ -39,12 +39,14 @@ pub record IsCompared (a b : NetView) (settings : Settings) (o : Outcome) : Type
   pub different : (w : Witness) → o.verdict ≡ verdict.Different w → SaysDifferent Plain w (circuit_of a) (circuit_of b)
   pub not_shown : (w : Witness) → o.verdict ≡ verdict.NotShown (why.Cut w) → SaysNotShown Plain o.exposed w (circuit_of a) (circuit_of b)
 
--- The same where runs begin with the latches' initial values: equal says that any two such runs with equal inputs have equal outputs in
--- every cycle.
+-- The same where runs begin with the latches' initial values. No latch of either circuit lies on a cycle, also where no output reads it.
+-- Equal says that any two such runs with equal inputs have equal outputs in every cycle.
 pub record IsComparedFromReset (a b : NetView) (settings : Settings) (o : Outcome) : Type 0 where
   pub left_sound : IsSound a
   pub right_sound : IsSound b
   pub matches : InterfacesMatch a b
+  pub left_acyclic : IsAcyclic a
+  pub right_acyclic : IsAcyclic b
   pub fits : ResetOutcomeFits a b settings.conflicts o
   pub left_light : IsLeftLight a b
   pub right_light : IsRightLight a b

@@ -12,10 +12,11 @@ use Rattle.job_check.specs.check_meaning.Compared.{ComparedIn}
 use Rattle.job_base.specs.declared.finding.Finding.{Finding}
 use Rattle.job_base.specs.declared.finding.Finding.TheVariants as finding
 use Rattle.job_base.specs.declared.status.StatusName.{StatusName}
+use Rattle.job_base.specs.sec_files.Loading.{Loads}
 use Rattle.job_base.specs.sec_files.job_files.Reading.{Held}
 use Rattle.job_check.specs.check_meaning.Answer.{CanAnswer, CanAnswerWith, IsAnswer}
 use Rattle.job_check.specs.check_meaning.check_texts.Texts.{AreComparable}
-use Rattle.job_check.specs.check_meaning.check_found.Found.{IsAnsweredBy, IsFoundOf, OfNets}
+use Rattle.job_check.specs.check_meaning.check_found.Found.{IsAnsweredBy, IsFoundOf}
 use Rattle.job_base.specs.Written.{status_of, verdict_status}
 use Rattle.job_check.specs.check_meaning.check_found.Check.{Check}
 use Rattle.premise_rows.specs.one_text_runs.one_text.Itself.{OfOneText, IsAlways, IsEqualAnswer}
@@ -66,9 +67,8 @@ module _ (held : Held) (a b : List ℕ) (settings : Settings) where
     checked : settings.reset ≡ false → (o : Outcome) → IsAnsweredBy held check (Ok o) → o.verdict ≡ verdict.Equal
     checked always o found =
         let x = is_held held check h in
-        let n = if_held (held b) (λ right. OfNets (λ m k. ComparedIn settings.mode m k settings (Ok o)) x.text right) x.text x.right_is
-        (if_held (held a) (λ left. IfSome (held b) (λ right. OfNets (λ m k. ComparedIn settings.mode m k settings (Ok o)) left right)) x.text x.left_is found) in
-        one_text_is_equal x.text n.0 n.1 n.2 n.3 settings o (from_always _ settings.reset always (subst (λ (m : Mode). ComparedIn m n.0 n.1 settings (Ok o)) plain n.4))
+        one_text_is_equal x.text found.a found.b (if_held (held a) (λ t. Loads t found.a) x.text x.left_is found.left_loads) (if_held (held b) (λ t. Loads t found.b) x.text x.right_is found.right_loads) settings o
+        (from_always _ settings.reset always (subst (λ (m : Mode). ComparedIn m found.a found.b settings (Ok o)) plain found.said))
 
     found_equal : settings.reset ≡ false → (f : Finding) → IsFoundOf held check f → IsAnswer (status_of f) → IsEqualAnswer (status_of f)
     found_equal always finding.Words found is = absurd found

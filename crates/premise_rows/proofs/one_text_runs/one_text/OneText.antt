@@ -60,7 +60,7 @@ use Rattle.sec_setup.proofs.SameEquations.{same_tree}
 use Rattle.job_base.specs.sec_files.Formats.{Format, Blif, Aiger, format_of, IsNetIn}
 use Rattle.job_base.specs.sec_files.Loading.{Loads}
 use Rattle.job_base.proofs.sec_files.Texts.{text_sound, text_comparable, one_text_net}
-use Rattle.premise_rows.specs.one_text_runs.one_text.OneText.{OneTextIsEqual, CanBeUnfolded, UnfoldedIsComparable}
+use Rattle.premise_rows.specs.one_text_runs.one_text.OneText.{OneTreeIsEqual, OneTextIsEqual, CanBeUnfolded, UnfoldedIsComparable}
 
 -- the main input that the clock comes from is no input of a net
 unclocked : (models : List BlifModel) (net : NetView) → IsFlatOf models net → (name : List ℕ) → Contains (ports_of net).inputs name → not (design.is_clock net.clock name) ≡ true
@@ -246,7 +246,9 @@ only_equal a b left right cut conflicts p q one answer.Limit None fits = absurd 
 only_equal a b left right cut conflicts p q one answer.Limit (Some proof) fits =
     absurd (fits.two_trees (one fits.left_depth fits.right_depth fits.left_tree fits.right_tree fits.left_unfolds fits.right_unfolds))
 
-module _ (text : List ℕ) (a b : NetView) (la : Loads text a) (lb : Loads text b) (settings : Settings) (o : Outcome) (compared : IsCompared a b settings o) where
+-- where each pair has one tree, the verdict is equal
+module _ (a b : NetView) (settings : Settings) (o : Outcome) (compared : IsCompared a b settings o)
+    (one : (x : NamedPair ℕ ℕ) → Contains (named_pairs o.exposed (circuit_of a) (circuit_of b)) x → HaveOneTree (circuit_of compared.fits.left_cut) (circuit_of compared.fits.right_cut) compared.fits.left compared.fits.right x.left x.right) where
   abbrev fits : OutcomeFits a b settings.expose settings.conflicts o
   fits = compared.fits
 
@@ -259,8 +261,7 @@ module _ (text : List ℕ) (a b : NetView) (la : Loads text a) (lb : Loads text 
       let at = at_of o.pairs r h in
       let x = zip_left (PairFits (circuit_of fits.left_cut) (circuit_of fits.right_cut) fits.left fits.right (is_cut o.exposed) settings.conflicts) pairs o.pairs fits.pairs at.0 r at.1 in
       only_equal (circuit_of fits.left_cut) (circuit_of fits.right_cut) fits.left fits.right (is_cut o.exposed) settings.conflicts x.0.left x.0.right
-      (one_tree_each text a b la lb (one_text_net text a b la lb) settings.expose settings.conflicts o fits x.0 (of_at pairs at.0 x.0 x.1))
-      r.answer r.proof x.2.answer_is
+      (one x.0 (of_at pairs at.0 x.0 x.1)) r.answer r.proof x.2.answer_is
 
   -- so a result with another answer isn't there
   no_other : (index : ℕ) (r : PairResult) (x : PairAnswer) → slice_get o.pairs index ≡ Some r → r.answer ≡ x → (x ≡ answer.Equal → ⊥) → ⊥
@@ -280,8 +281,12 @@ module _ (text : List ℕ) (a b : NetView) (la : Loads text a) (lb : Loads text 
   is_equal : o.verdict ≡ verdict.Equal
   is_equal = only_verdict o.verdict fits.verdict_is
 
+pub one_tree_is_equal : OneTreeIsEqual
+one_tree_is_equal a b settings o compared one = is_equal a b settings o compared one
+
 pub one_text_is_equal : OneTextIsEqual
-one_text_is_equal text a b la lb settings o compared = is_equal text a b la lb settings o compared
+one_text_is_equal text a b la lb settings o compared =
+    is_equal a b settings o compared (λ x listed. one_tree_each text a b la lb (one_text_net text a b la lb) settings.expose settings.conflicts o compared.fits x listed)
 
 -- a text can be compared with itself
 missing_none : (names others : List (List ℕ)) → ((name : List ℕ) → Contains names name → is_among others name ≡ true) → first_missing names others ≡ None

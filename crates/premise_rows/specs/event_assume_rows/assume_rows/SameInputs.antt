@@ -9,6 +9,7 @@ use Rattle.job_check.specs.check_meaning.Answer.{AreComparableUnder}
 use Rattle.job_check.specs.check_meaning.design_rows.Designs.{one_model}
 use Rattle.job_check.specs.check_meaning.design_rows.Small.{Small, small_and}
 use Rattle.job_check.specs.check_meaning.design_rows.Texts.{on_and}
+use Rattle.premise_rows.specs.block_premises.ResetPremises.{late_from_zero, early_from_zero}
 
 -- an or by its two rows
 abbrev pub on_or : List ℕ
@@ -40,3 +41,7 @@ small_same = record { inputs = codes "a" ∷ codes "b" ∷ []; outputs = codes "
 -- where both inputs are equal the two can be compared over all power-ups, whether latches may be cut open or not
 abbrev pub AndMeetsOr : Type 0
 AndMeetsOr = (settings : Settings) → settings.reset ≡ false → AreComparableUnder Plain on_and on_or same settings
+
+-- and from the initial values so can an and with a latch behind it, and the same retimed
+abbrev pub RetimedMeetFromReset : Type 0
+RetimedMeetFromReset = (settings : Settings) → settings.reset ≡ true → settings.expose ≡ false → AreComparableUnder Plain late_from_zero early_from_zero same settings

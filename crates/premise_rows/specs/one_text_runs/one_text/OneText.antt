@@ -1,15 +1,25 @@
 -- What is answered where a text is compared with itself.
 use Rattle.std.specs.Prelude.{◌≡◌, ℕ, Bool, false, List, []}
+use Rattle.std.specs.List.{Contains}
 use Rattle.flat_net.specs.View.{NetView, circuit_of}
 use Rattle.sec_base.specs.declared.settings.Settings.{Settings}
 use Rattle.obligations.specs.declared.outcome.verdict.Verdict.TheVariants as verdict
 use Rattle.obligations.specs.declared.outcome.verdict.Outcome.{Outcome}
 use Rattle.sec_setup.specs.Cycles.{IsAcyclic}
+use Rattle.sec_setup.specs.ports.Pairs.{NamedPair, named_pairs}
+use Rattle.plain_check.specs.plain_form.Laws.{HaveOneTree}
 use Rattle.plain_check.specs.under_base.compare_base.Compared.{IsCompared}
 use Rattle.outcome_fits.specs.Fitting.{IsCutOver}
 use Rattle.job_base.specs.sec_files.Loading.{IsAccepted, Loads}
 use Rattle.job_check.specs.check_meaning.check_texts.Texts.{AreComparable}
 use Rattle.job_check.specs.check_meaning.design_rows.Texts.{on_and, late, early, hier, two, idle}
+
+-- Where both sides of each pair unfold to one tree, as after a retiming that keeps every gate, the verdict is equal, however few conflicts
+-- are allowed.
+abbrev pub OneTreeIsEqual : Type 0
+OneTreeIsEqual = (a b : NetView) (settings : Settings) (o : Outcome) (compared : IsCompared a b settings o) →
+    ((x : NamedPair ℕ ℕ) → Contains (named_pairs o.exposed (circuit_of a) (circuit_of b)) x → HaveOneTree (circuit_of compared.fits.left_cut) (circuit_of compared.fits.right_cut) compared.fits.left compared.fits.right x.left x.right) →
+    o.verdict ≡ verdict.Equal
 
 -- Two nets that one text loads as are equal wherever they are compared, however few conflicts are allowed.
 abbrev pub OneTextIsEqual : Type 0

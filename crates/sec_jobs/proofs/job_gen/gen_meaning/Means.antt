@@ -112,6 +112,8 @@ module _ (g : Generation) (o : Outcome) (report : List ℕ) (is : IsOutcomeOf g 
   takes : (before now : Option (List ℕ)) (v : Verdict) → Takes before now report → o.verdict ≡ v → TakesReport g before now v is.left is.right
   takes before now v taken e = record {
     twins = is.twins;
+    left_sound = is.compared.left_sound;
+    right_sound = is.compared.right_sound;
     printed = subst (Takes before now) (is.is_report ∙ ap (gen_text g is.left is.right) e) taken;
   }
 

@@ -227,12 +227,10 @@ module _ (a b : NetView) (own : Orders) (are_own : AreOwnNumbers a b own) (confl
     pub is_no_split : (left right : Tag) (proof : Proof) → made.verdict ≡ verdict.SplitLimit left right proof → ⊥
     is_no_split left right proof is = no_split over.graph.first _ (first_limit over.outputs) (first_shown over.outputs) made.verdict (sym over.verdict_is) left right proof is
 
-  pub split_undecided : IsSplitLimitOf a b own conflicts made → (proofs : List Proof) → proofs ≡ proofs_of made → SplitUndecided a b conflicts proofs
+  pub split_undecided : IsSplitLimitOf a b own conflicts made → (proofs : List Proof) → proofs ≡ proofs_of made → SplitUndecided a b conflicts proofs made
   split_undecided split proofs kept = record {
     own = own;
     are_own = are_own;
-    limit = split.limit;
-    undecided = split.is;
-    kept = subst (λ (ps : List Proof). Contains ps split.limit.proof)
-        (sym (kept ∙ ap (λ (v : InductVerdict). proofs_with v (filter_map (λ (p : InductPair). p.proof) made.pairs)) split.verdict_is)) (Contains-head split.limit.proof []);
+    split = split;
+    kept = kept ∙ ap (λ (v : InductVerdict). proofs_with v (filter_map (λ (p : InductPair). p.proof) made.pairs)) split.verdict_is;
   }

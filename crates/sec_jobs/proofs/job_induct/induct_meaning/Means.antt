@@ -9,6 +9,7 @@ use Rattle.job_base.specs.sec_files.Loading.{Loads, circuit_of_text}
 use Rattle.job_base.proofs.sec_files.Texts.{spelled_circuit}
 use Rattle.job_base.proofs.design_laws.text_circuits.Circuits.{text_design}
 use Rattle.job_base.proofs.design_laws.text_circuits.Resets.{resets_agree_up}
+use Rattle.job_base.proofs.sec_files.job_files.Reading.{is_loaded}
 use Rattle.job_base.specs.declared.finding.Judgement.{Judgement}
 use Rattle.job_base.specs.declared.finding.Judgement.TheVariants as judgement
 use Rattle.job_base.specs.declared.finding.Refusal.{Refusal}
@@ -48,9 +49,12 @@ not_shown_verdict (verdict.SplitLimit left right proof) e = absurd (cc)
 
 -- what is said of nets, of their texts
 of_texts : (left right : Option (List ℕ)) (a b : NetView) (P : List ℕ → List ℕ → Type 0) → IfSome left (λ x. Loads x a) → IfSome right (λ y. Loads y b) → ((x y : List ℕ) → Loads x a → Loads y b → P x y) → OfTexts left right P
-of_texts None right a b P l r f = tt
-of_texts (Some x) None a b P l r f = tt
-of_texts (Some x) (Some y) a b P l r f = f x y l r
+of_texts left right a b P l r f = record { left_loads = is_loaded left a l; right_loads = is_loaded right b r; said = both left right l r }
+  where
+    both : (o o' : Option (List ℕ)) → IfSome o (λ x. Loads x a) → IfSome o' (λ y. Loads y b) → IfSome o (λ x. IfSome o' (λ y. P x y))
+    both None o' here there = tt
+    both (Some x) None here there = tt
+    both (Some x) (Some y) here there = f x y here there
 
 module _ (conflicts : ℕ) (before now : Option (List ℕ)) (a b : NetView) (j : Judgement) (proofs : List Proof) (text : List ℕ) (h : IsJudged a b conflicts j proofs text) (taken : Takes before now text) (x y : List ℕ) (left : Loads x a)
     (right : Loads y b) where

@@ -4,6 +4,7 @@ use Rattle.std.specs.List.{Contains}
 use Rattle.circuit_theory.specs.declared.Mode.TheVariants.{Plain}
 use Rattle.circuit_theory.specs.Interface.{AreNumbersOf}
 use Rattle.sec_base.specs.base_shelves.Outside.{Takes}
+use Rattle.flat_net.specs.Sound.{IsSound}
 use Rattle.flat_net.specs.View.{NetView, circuit_of, ports_of}
 use Rattle.witness_report.specs.declared.witness.Witness.{Witness}
 use Rattle.pair_decide.specs.declared.query.Proof.{Proof}
@@ -21,9 +22,12 @@ use Rattle.sec_jobs.specs.declared.job_gen.gen_meaning.generation.Generation.{Ge
 use Rattle.sec_jobs.specs.job_gen.gen_meaning.Found.{AreTwins}
 use Rattle.sec_jobs.specs.job_gen.gen_meaning.Report.{gen_text}
 
--- the report of the pair of the number with this verdict is taken behind what was written before
+-- The report of the pair of the number with this verdict is taken behind what was written before. Both circuits of the pair are sound, so
+-- they have runs.
 pub record TakesReport (g : Generation) (before now : Option (List ℕ)) (v : Verdict) (left right : NetView) : Type 0 where
   pub twins : AreTwins g left right
+  pub left_sound : IsSound left
+  pub right_sound : IsSound right
   pub printed : Takes before now (gen_text g left right v)
 
 -- the circuits of the pair agree: in any two runs with equal inputs each output is equal in every cycle in which it is settled in both

@@ -1,5 +1,5 @@
 -- What the status says of two texts whose circuits are compared by blocks, and when they can be compared so.
-use Rattle.std.specs.Prelude.{◌≡◌, ◌≢◌, ◌⊎◌, ℕ, ◌+◌, ◌-◌, ◌<◌, ◌≤◌, Bool, List, length, slice_get, Option, Some, None, IfSome, IsSomeAnd, Contains}
+use Rattle.std.specs.Prelude.{◌≡◌, ◌≢◌, ◌⊎◌, ℕ, ◌+◌, ◌-◌, ◌<◌, ◌≤◌, Bool, List, [], ◌∷◌, length, slice_get, Option, Some, None, IfSome, IsSomeAnd, Contains}
 use Rattle.circuit_theory.specs.Circuit.{Circuit}
 use Rattle.circuit_theory.specs.Agree.{place_named}
 use Rattle.circuit_theory.specs.Interface.{first_mismatch, shared_inputs}
@@ -14,21 +14,22 @@ use Rattle.blif_read.specs.Design.{Place}
 use Rattle.pair_decide.specs.declared.query.Proof.{Proof}
 use Rattle.block_refine.specs.latch_blocks.Blocks.{block_at}
 use Rattle.block_refine.specs.latch_blocks.QueryLaws.{AreBlockValues}
-use Rattle.induct.specs.induct_report.block_refine.SplitLimit.{SplitLimit}
-use Rattle.induct.specs.induct_report.block_refine.Refining.{IsSplitLimit}
 use Rattle.induct.specs.block_outputs.Answers.{IsLimit}
 use Rattle.job_base.specs.sec_files.Loading.{IsAccepted, Loads, SpellsCircuit}
+use Rattle.job_base.specs.sec_files.job_files.Reading.{IsLoaded}
 use Rattle.job_base.specs.declared.status.StatusName.{StatusName}
 use Rattle.job_base.specs.declared.status.StatusName.TheVariants as status
 use Rattle.induct.specs.declared.induction.InductVerdict.TheVariants as verdict
 use Rattle.induct.specs.declared.induction.Induction.{Induction}
-use Rattle.induct.specs.Inductions.{AreOwnNumbers, IsOver, IsInduction}
+use Rattle.induct.specs.Inductions.{AreOwnNumbers, IsOver, IsSplitLimitOf, IsInduction}
 use Rattle.induct.specs.induct_report.Report.{induct_text}
 use Rattle.sec_jobs.specs.job_induct.induct_meaning.Judged.{AreLight}
 
--- what is said of the two texts, where both are told
-abbrev pub OfTexts : Option (List ℕ) → Option (List ℕ) → (List ℕ → List ℕ → Type 0) → Type 0
-OfTexts left right P = IfSome left (λ x. IfSome right (λ y. P x y))
+-- both texts load, and this is said of them; a text that is told counts also where the other isn't
+pub record OfTexts (left right : Option (List ℕ)) (P : List ℕ → List ℕ → Type 0) : Type 0 where
+  pub left_loads : IsLoaded left
+  pub right_loads : IsLoaded right
+  pub said : IfSome left (λ x. IfSome right (λ y. P x y))
 
 -- The report of these nets is taken behind what was written before.
 abbrev pub IsPrinted : NetView → NetView → ℕ → Induction → Option (List ℕ) → Option (List ℕ) → Type 0
@@ -124,14 +125,13 @@ pub record PairUndecided (a b : NetView) (conflicts : ℕ) (proofs : List Proof)
   pub kept : Contains proofs proof
   pub undecided : IsLimit over.n over.g conflicts (Left output.signal.0) (Right other) proof
 
--- The report names no latches. Two latches stand in one block of a partition that the coarsest inductive one refines, and the query of what
--- they take over met the limit, which the one proof shows in the same way.
-pub record SplitUndecided (a b : NetView) (conflicts : ℕ) (proofs : List Proof) : Type 0 where
+-- The report names no latches, and no outputs are compared. Two latches stand in one block of a partition that the coarsest inductive one
+-- refines, and the query of what they take over met the limit, which the one proof shows in the same way.
+pub record SplitUndecided (a b : NetView) (conflicts : ℕ) (proofs : List Proof) (made : Induction) : Type 0 where
   pub own : Orders
   pub are_own : AreOwnNumbers a b own
-  pub limit : SplitLimit
-  pub undecided : IsSplitLimit a b own conflicts limit
-  pub kept : Contains proofs limit.proof
+  pub split : IsSplitLimitOf a b own conflicts made
+  pub kept : proofs ≡ split.limit.proof ∷ []
 
 -- a query met the limit, of an output over the blocks or of two latches while blocks were split
 pub record BlocksUndecided (x y : List ℕ) (conflicts : ℕ) (proofs : List Proof) (before now : Option (List ℕ)) : Type 0 where
@@ -141,7 +141,7 @@ pub record BlocksUndecided (x y : List ℕ) (conflicts : ℕ) (proofs : List Pro
   pub right_loads : Loads y right_net
   pub made : Induction
   pub printed : IsPrinted left_net right_net conflicts made before now
-  pub undecided : PairUndecided left_net right_net conflicts proofs made ⊎ SplitUndecided left_net right_net conflicts proofs
+  pub undecided : PairUndecided left_net right_net conflicts proofs made ⊎ SplitUndecided left_net right_net conflicts proofs made
 
 -- What the status says of two texts whose circuits are compared by blocks, and of what is written.
 abbrev pub InductMeans : ℕ → Option (List ℕ) → Option (List ℕ) → Option (List ℕ) → Option (List ℕ) → List Proof → StatusName → Type 0

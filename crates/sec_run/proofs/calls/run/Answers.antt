@@ -4,11 +4,11 @@ use Rattle.command_line.specs.declared.task.Task.{Task}
 use Rattle.job_base.specs.declared.finding.Finding.TheVariants as finding
 use Rattle.job_base.specs.Reading.{ReadFailedAfter}
 use Rattle.job_base.proofs.Meaning.{no_read_fault}
-use Rattle.sec_run.specs.Answer.{IsTaken, IsFinding}
+use Rattle.sec_run.specs.Answer.{IsCutOff, IsTaken}
 use Rattle.sec_run.specs.Job.{paths_in, GoesOnIn}
 use Rattle.sec_run.specs.Promises.{Means, IsComplete}
 use Rattle.command_line.proofs.Allowed.{is_allowed}
-use Rattle.sec_run.proofs.Means.{written_ends}
+use Rattle.sec_run.proofs.Means.{cut_off, written_ends}
 use Rattle.sec_run.proofs.Promises.{means, memory_means, written_is_complete, memory_is_complete}
 use Rattle.sec_run.proofs.calls.run.Goals as goal
 
@@ -44,12 +44,17 @@ pub returns-in-Ok-clause-idle : goal.returns-in-Ok-clause-idle
 returns-in-Ok-clause-idle g c none = c.run_job.ensures.keeps.2 (subst (λ (job : Option Task). paths_in job ≡ []) c.in-Ok.ensures.job none)
 
 pub returns-in-Ok-clause-accepted : goal.returns-in-Ok-clause-accepted
-returns-in-Ok-clause-accepted g c h =
-    c.run_job.ensures.accepted (λ f found. h f (subst (λ (job : Option Task). IsFinding (g.S.Shelf.held c.args.shelf.now) job f) (sym c.in-Ok.ensures.job) found))
+returns-in-Ok-clause-accepted g c is =
+    subst (λ (job : Option Task). IsCutOff (g.W.Sink.accepts c.args.out.now) (g.W.Sink.taken c.args.out.now) (g.W.Sink.taken c.run_job.new.out) (g.S.Shelf.held c.args.shelf.now) job c.run_job.result.proofs) (sym c.in-Ok.ensures.job)
+    (c.run_job.ensures.accepted is)
 
 pub returns-in-Err-Refused-clause-accepted : goal.returns-in-Err-Refused-clause-accepted
-returns-in-Err-Refused-clause-accepted g c h =
-    c.finish.ensures.accepted (h finding.Words (subst (λ (job : Option Task). IsFinding (g.S.Shelf.held c.args.shelf.now) job finding.Words) (sym (c.in-Err-Refused.ensures.refused (ap Err c.in-Err-Refused.field-0-is))) refl))
+returns-in-Err-Refused-clause-accepted g c is =
+    let held = g.S.Shelf.held c.args.shelf.now in
+    let before = g.W.Sink.taken c.args.out.now in
+    let now = g.W.Sink.taken c.finish.new.out in
+    subst (λ (job : Option Task). IsCutOff (g.W.Sink.accepts c.args.out.now) before now held job c.finish.result.proofs) (sym (c.in-Err-Refused.ensures.refused (ap Err c.in-Err-Refused.field-0-is)))
+    (cut_off (g.W.Sink.accepts c.args.out.now) held None before now finding.Words c.finish.result.proofs c.finish.result.name refl c.finish.ensures.written is (λ h. c.finish.ensures.accepted h is))
 
 pub returns-in-Err-Refused-clause-taken : goal.returns-in-Err-Refused-clause-taken
 returns-in-Err-Refused-clause-taken g c =

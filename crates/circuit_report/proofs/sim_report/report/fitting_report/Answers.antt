@@ -7,6 +7,7 @@ use Rattle.circuit_report.specs.sim_report.Report.{IsSimReport}
 use Rattle.circuit_report.specs.sim_report.Checks.{start_bits}
 use Rattle.circuit_report.specs.sim_report.Cycles.{AreColumns, PutsCycles, reordered}
 use Rattle.circuit_report.proofs.sim_report.Runs.{columns_within, report_is}
+use Rattle.circuit_report.proofs.sim_report.Reports.{simulation_exists}
 use Rattle.circuit_report.proofs.sim_report.report.fitting_report.Goals as goal
 
 pub put_cycles-requires-clause-within : goal.put_cycles-requires-clause-within
@@ -28,4 +29,5 @@ returns c = λ mode enabled.
     let put = subst (λ (bits : List Bool). PutsCycles n c.args.enabled.now (start_bits n c.args.reset bits) (map (reordered columns) s.rows) c.put_head.new.text.items c.put_cycles.new.text.items) c.in_ok-bits.ensures
     (subst (λ (k : List ℕ). PutsCycles n c.args.enabled.now (start_bits n c.args.reset c.in_ok-bits.bits) (map (reordered k) s.rows) c.put_head.new.text.items c.put_cycles.new.text.items) c.as_slice.ensures.value
     (subst (λ (rows : List (List Bool)). PutsCycles n c.args.enabled.now (start_bits n c.args.reset c.in_ok-bits.bits) (map (reordered c.as_slice.result.now) rows) c.put_head.new.text.items c.put_cycles.new.text.items) c.as_slice-2.ensures c.in_ok-put_cycles.ensures)) in
-    subst (IsSimReport mode n s.names s.rows _ c.args.reset) (sym c.from_vec.ensures) (report_is n s.names s.rows columns are s.fit mode c.args.enabled.now enabled _ c.args.reset c.put_head.new.text.items c.put_cycles.new.text.items begins put)
+    subst (IsSimReport mode n s.names s.rows _ c.args.reset) (sym c.from_vec.ensures) (report_is n s.names s.rows columns are s.fit mode c.args.enabled.now enabled _ c.args.reset c.put_head.new.text.items c.put_cycles.new.text.items begins put
+    (simulation_exists n c.keeps.ensures.sound s.names s.rows s.distinct s.fit _ c.args.reset c.requires.fits))

@@ -41,7 +41,7 @@ returns-in-Ok c =
     (sym c.verdict_of-verdict.ensures)
     (inr (in_reset _ c.args.settings.now.reset c.requires.reset
     (outcome_is_compared_from_under x.nets.left.now x.nets.right.now x.assumed.now c.args.settings.now e s p c.requires.matched.matches c.requires.chosen c.in_ok-setup.ensures.setup c.in_ok-setup.ensures.exposed premise none
-    c.keeps.ensures.sound c.keeps-2.ensures.sound c.requires.matched.right c.in_ok-name.name (c.in_ok-name.ensures premise.assumed.shape.output premise.assumed.shape.outputs) f c.in-Ok.ensures))))
+    c.requires.uncut c.keeps.ensures.sound c.keeps-2.ensures.sound c.requires.matched.right c.in_ok-name.name (c.in_ok-name.ensures premise.assumed.shape.output premise.assumed.shape.outputs) f c.in-Ok.ensures))))
 
 pub returns-in-Err : goal.returns-in-Err
 returns-in-Err c =

@@ -13,7 +13,9 @@ returns-in-Model c =
     (assignment_of c.in-Model.field-0, is.1)
 
 pub returns-in_ok-text-in-Refuted : goal.returns-in_ok-text-in-Refuted
-returns-in_ok-text-in-Refuted c = record { log = c.in-Refuted.log; lines = c.in_ok-text-in-Refuted.ensures.lines; accepted = c.in_ok-text-in-Refuted.ensures.accepted }
+returns-in_ok-text-in-Refuted c =
+    let is = subst (IsFound c.args.cnf.clauses c.args.cnf.variables c.args.conflicts) c.in-Refuted.is c.in_ok-found.ensures in
+    record { log = c.in-Refuted.log; few = is.1; lines = c.in_ok-text-in-Refuted.ensures.lines; accepted = c.in_ok-text-in-Refuted.ensures.accepted }
 
 pub returns-in-Limit : goal.returns-in-Limit
 returns-in-Limit c = (refl, refl, subst (IsFound c.args.cnf.clauses c.args.cnf.variables c.args.conflicts) c.in-Limit.is c.in_ok-found.ensures)
