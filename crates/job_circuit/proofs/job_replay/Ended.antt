@@ -8,7 +8,6 @@ use Rattle.signal_graph.specs.inner_cone.latch_cone.Cones.{MarksEnabled}
 use Rattle.latch_kinds.specs.declared.kinds.KindsError.TheVariants as kinds_error
 use Rattle.latch_kinds.specs.Found.{FoundIn}
 use Rattle.sec_setup.specs.Matching.{InterfacesMatch}
-use Rattle.cycle_sim.specs.declared.pair_runs.differences.Difference.{Difference}
 use Rattle.job_circuit.specs.declared.replay.replay_header.error.ReplayError.{ReplayError}
 use Rattle.job_circuit.specs.declared.replay.replay_header.error.ReplayError.TheVariants as replay_error
 use Rattle.job_circuit.specs.replay.Replay.{Replays}

@@ -62,7 +62,7 @@ pub record AreSettled {P Q : Type 0} (mode : Mode) (names : List (List ℕ)) (a 
 
 -- what two nets show, where the header fits both: the latches that it names are cut open
 pub record IsReplay (mode : Mode) (a b : NetView) (header : List (List ℕ)) (rows : List (List Bool)) (replayed : Replayed) : Type 0 where
-  pub replayed : AreReplayed mode (opened a b header) (circuit_of a) (circuit_of b) header rows replayed.differences
+  pub differences : AreReplayed mode (opened a b header) (circuit_of a) (circuit_of b) header rows replayed.differences
   pub settled : AreSettled mode (opened a b header) (circuit_of a) (circuit_of b) header rows replayed.settlings
 
 -- what they show, or the first name that doesn't fit

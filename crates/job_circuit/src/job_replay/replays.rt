@@ -151,11 +151,7 @@ fn finding_of(
         ReplayReport::Differences => Ok(Finding::Replayed(replayed.differences)),
         ReplayReport::DifferencesAndSettled => {
             let text = settled_replay_report(alloc, cycles, &replayed)?;
-            Ok(Finding::Judged(
-                judgement_of(&replayed),
-                Proofs::new(alloc),
-                text,
-            ))
+            Ok(Finding::Judged(judgement_of(&replayed), Proofs::new(alloc), text))
         }
         ReplayReport::Settled => {
             let text = settle_report(alloc, cycles, &replayed.settlings)?;

@@ -49,9 +49,7 @@ pub fn replay(
         net: b,
         enabled: enabled_b,
     };
-    Ok(replay_fitting(
-        alloc, &left, &right, &names, &header, stimulus,
-    )?)
+    Ok(replay_fitting(alloc, &left, &right, &names, &header, stimulus)?)
 }
 
 /// What both circuits show, where the header fits both, and these are the latches that it names.

@@ -2,7 +2,7 @@ use Rattle.std.proofs.Common.{◌≡◌, ℕ, Bool, List, Result, Ok, Err, sym, 
 use Rattle.std.specs.Prelude.{IsErrAnd}
 use Rattle.circuit_theory.specs.declared.Mode.{Mode}
 use Rattle.flat_net.specs.View.{NetView}
-use Rattle.job_circuit.specs.declared.replay.differences.Replayed.{Replayed}
+use Rattle.cycle_sim.specs.declared.pair_runs.differences.Replayed.{Replayed}
 use Rattle.job_circuit.specs.declared.replay.replay_header.error.ReplayError.{ReplayError}
 use Rattle.job_circuit.specs.declared.replay.replay_header.error.ReplayError.TheVariants as refused
 use Rattle.job_circuit.specs.replay.Replay.{Replays}
