@@ -28,7 +28,7 @@ use Rattle.job_circuit.specs.replay.cut_sides.Opening.{IsCutSide}
 use Rattle.job_circuit.specs.replay.Replay.{IsReplayRun, IsReplay, places_of}
 use Rattle.job_circuit.proofs.replay.Existing.{run_over}
 use Rattle.job_circuit.proofs.replay.Differ.{IsRight, AreRight, are_differences}
-use Rattle.job_circuit.proofs.replay.Settling.{settled_from}
+use Rattle.job_circuit.proofs.replay.SettledPairs.{settled_from}
 use Rattle.job_circuit.proofs.replay.replay_header.Names.{opened_in_header}
 use Rattle.job_circuit.proofs.replay.Names.{left_unread, right_unread}
 use Rattle.job_circuit.proofs.replay.cut_sides.PairPlaces.{places_named, outputs_there}

@@ -49,7 +49,8 @@ pub fn replay(
         net: b,
         enabled: enabled_b,
     };
-    Ok(replay_fitting(alloc, &left, &right, &names, &header, stimulus)?)
+    let replayed = replay_fitting(alloc, &left, &right, &names, &header, stimulus)?;
+    Ok(replayed)
 }
 
 /// What both circuits show, where the header fits both, and these are the latches that it names.
