@@ -10,7 +10,7 @@ use Rattle.base_tables.specs.Table.{AreDistinct}
 use Rattle.flat_net.specs.declared.parts.Port.{Port}
 use Rattle.flat_net.specs.declared.parts.LatchAt.{LatchAt}
 use Rattle.flat_net.specs.Sound.{IsSound}
-use Rattle.flat_net.specs.View.{NetView, circuit_of, equation_of_latch}
+use Rattle.flat_net.specs.View.{NetView, circuit_of, named, equation_of_latch}
 use Rattle.flat_net.proofs.Nets.{some_at, equation_from, input_from, OfGate, OfLatch, OfInput}
 use Rattle.cycle_sim.specs.Runs.{IsRunFrom}
 use Rattle.cycle_sim.proofs.Lists.{map_at, replicate_at}

@@ -4,7 +4,7 @@ use Rattle.std.specs.List.{All, Contains}
 use Rattle.std.proofs.lemmas.List.Elements.{All-contains}
 use Rattle.circuit_theory.specs.Cover.{cover_value}
 use Rattle.circuit_theory.specs.Circuit.{Circuit, Equation, Gate, Latch, Port, Named, IsLatch, IsSource, Reads, Reaches, InCone, Holds, Carries, Meets, out_of}
-use Rattle.circuit_theory.specs.Run.{IsRun, ExtendsWith, Loads, Marked}
+use Rattle.circuit_theory.specs.Run.{IsRun, ExtendsWith, Loads, Marked, IsEnabled}
 use Rattle.circuit_theory.proofs.Lists.{map_same, All-from_each}
 
 -- nothing drives or reads the places that pass the test

@@ -1,5 +1,5 @@
 -- The pairs of two circuits with latches cut open, by the places of their outputs.
-use Rattle.std.specs.Prelude.{◌≡◌, ℕ, ◌+◌, List, ◌++◌, length, slice_get, Some}
+use Rattle.std.specs.Prelude.{◌≡◌, ℕ, ◌+◌, List, [], ◌++◌, length, map, slice_get, slice_index_or, Some}
 use Rattle.circuit_theory.specs.Agree.{place_named}
 use Rattle.flat_net.specs.declared.parts.Port.{Port}
 use Rattle.flat_net.specs.View.{NetView, circuit_of}
