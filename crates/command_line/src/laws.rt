@@ -15,19 +15,23 @@ pub fn jobs_are_allowed()
     ensures { JobsAreAllowed }
 {}
 
-/// Words of each subcommand that meet the premises of `taken_words_are_job`, some with `--reset`, `--assume` or `--settles`.
+/// Words of the subcommands that meet the premises of `taken_words_are_job`, some with `--reset` or `--assume`.
 pub fn words_are_taken()
     ensures of_check { CheckIsTaken }
     ensures of_graph { GraphIsTaken }
     ensures of_sim { SimIsTaken }
     ensures of_replay { ReplayIsTaken }
-    ensures of_settle { SettleIsTaken }
     ensures of_gen { GenIsTaken }
     ensures of_lrat { LratIsTaken }
     ensures of_cert { CertIsTaken }
     ensures of_induct { InductIsTaken }
     ensures of_reset { ResetIsTaken }
     ensures of_assumed { AssumedIsTaken }
+{}
+
+/// The same of `settle`, and of `replay` with `--settles`.
+pub fn settling_words_are_taken()
+    ensures of_settle { SettleIsTaken }
     ensures of_settles { SettlesIsTaken }
 {}
 
