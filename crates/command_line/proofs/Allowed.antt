@@ -11,7 +11,7 @@ use Rattle.sec_base.specs.declared.settings.Settings.{Settings}
 use Rattle.command_line.specs.declared.task.Task.{Task}
 use Rattle.command_line.specs.declared.task.Task.TheVariants as task
 use Rattle.command_line.specs.command_words.Command.{sec_app, most_conflicts, any_number}
-use Rattle.command_line.specs.Jobs.{job_of, task_in, check_in, graph_in, sim_in, replay_in, gen_in, lrat_in, cert_in, induct_in, form_in, settings_in, conflicts_in, mode_in, mode_of, refuses_reset, number_of, is_set, with_word}
+use Rattle.command_line.specs.Jobs.{task_in, check_in, graph_in, sim_in, replay_in, settle_in, gen_in, lrat_in, cert_in, induct_in, form_in, settings_in, conflicts_in, mode_in, mode_of, refuses_reset, number_of, is_set, with_word}
 use Rattle.command_line.specs.Allowed.{IsAllowed, JobsAreAllowed}
 
 some_is : {X : Type 0} {x y : X} → Some x ≡ Some y → x ≡ y
@@ -113,11 +113,21 @@ allowed_sim rows job e =
 
 allowed_replay : (rows : List Row) (job : Task) → replay_in rows ≡ Some job → IsAllowed job
 allowed_replay rows job e =
-    let a = and_then_some (λ x. with_word (codes "b") rows (λ y. with_word (codes "s") rows (λ z. option_map (task.Replay x y z) (mode_in rows)))) (first_of (codes "a") rows) job e in
-    let b = and_then_some (λ y. with_word (codes "s") rows (λ z. option_map (task.Replay a.0 y z) (mode_in rows))) (first_of (codes "b") rows) job a.2 in
-    let s = and_then_some (λ z. option_map (task.Replay a.0 b.0 z) (mode_in rows)) (first_of (codes "s") rows) job b.2 in
-    let mode = map_some (task.Replay a.0 b.0 s.0) (mode_in rows) job s.2 in
-    let allowed_here : IsAllowed (task.Replay a.0 b.0 s.0 mode.0) = tt in
+    let settles : Bool = is_set (codes "settles") rows in
+    let a = and_then_some (λ x. with_word (codes "b") rows (λ y. with_word (codes "s") rows (λ z. option_map (λ m. task.Replay x y z m settles) (mode_in rows)))) (first_of (codes "a") rows) job e in
+    let b = and_then_some (λ y. with_word (codes "s") rows (λ z. option_map (λ m. task.Replay a.0 y z m settles) (mode_in rows))) (first_of (codes "b") rows) job a.2 in
+    let s = and_then_some (λ z. option_map (λ m. task.Replay a.0 b.0 z m settles) (mode_in rows)) (first_of (codes "s") rows) job b.2 in
+    let mode = map_some (λ m. task.Replay a.0 b.0 s.0 m settles) (mode_in rows) job s.2 in
+    let allowed_here : IsAllowed (task.Replay a.0 b.0 s.0 mode.0 settles) = tt in
+    subst IsAllowed mode.2 allowed_here
+
+allowed_settle : (rows : List Row) (job : Task) → settle_in rows ≡ Some job → IsAllowed job
+allowed_settle rows job e =
+    let a = and_then_some (λ x. with_word (codes "b") rows (λ y. with_word (codes "s") rows (λ z. option_map (task.Settle x y z) (mode_in rows)))) (first_of (codes "a") rows) job e in
+    let b = and_then_some (λ y. with_word (codes "s") rows (λ z. option_map (task.Settle a.0 y z) (mode_in rows))) (first_of (codes "b") rows) job a.2 in
+    let s = and_then_some (λ z. option_map (task.Settle a.0 b.0 z) (mode_in rows)) (first_of (codes "s") rows) job b.2 in
+    let mode = map_some (task.Settle a.0 b.0 s.0) (mode_in rows) job s.2 in
+    let allowed_here : IsAllowed (task.Settle a.0 b.0 s.0 mode.0) = tt in
     subst IsAllowed mode.2 allowed_here
 
 allowed_gen : (rows : List Row) (job : Task) → gen_in rows ≡ Some job → IsAllowed job
@@ -152,7 +162,7 @@ allowed_induct rows job e =
     let conflicts = map_some (task.Induct a.0 b.0) (conflicts_in rows) job b.2 in
     subst IsAllowed conflicts.2 (few rows conflicts.0 conflicts.1)
 
--- the tasks of the subcommands behind the sixth, the fifth, the fourth, the third, the second and the first
+-- the tasks of the subcommands behind the seventh, the sixth, the fifth, the fourth, the third, the second and the first
 abbrev certs : List ℕ → List Row → Option Task
 certs name rows = cond (bytes_eq name (codes "cert")) (cert_in rows) (cond (bytes_eq name (codes "induct")) (induct_in rows) None)
 
@@ -162,8 +172,11 @@ lrats name rows = cond (bytes_eq name (codes "lrat")) (lrat_in rows) (certs name
 abbrev gens : List ℕ → List Row → Option Task
 gens name rows = cond (bytes_eq name (codes "gen")) (gen_in rows) (lrats name rows)
 
+abbrev settles : List ℕ → List Row → Option Task
+settles name rows = cond (bytes_eq name (codes "settle")) (settle_in rows) (gens name rows)
+
 abbrev replays : List ℕ → List Row → Option Task
-replays name rows = cond (bytes_eq name (codes "replay")) (replay_in rows) (gens name rows)
+replays name rows = cond (bytes_eq name (codes "replay")) (replay_in rows) (settles name rows)
 
 abbrev sims : List ℕ → List Row → Option Task
 sims name rows = cond (bytes_eq name (codes "sim")) (sim_in rows) (replays name rows)
@@ -192,12 +205,19 @@ allowed_gens name rows job e = go (either (bytes_eq name (codes "gen")) (gen_in 
     go (inl h) = allowed_gen rows job h
     go (inr h) = allowed_lrats name rows job h
 
-allowed_replays : (name : List ℕ) (rows : List Row) (job : Task) → replays name rows ≡ Some job → IsAllowed job
-allowed_replays name rows job e = go (either (bytes_eq name (codes "replay")) (replay_in rows) (gens name rows) job e)
+allowed_settles : (name : List ℕ) (rows : List Row) (job : Task) → settles name rows ≡ Some job → IsAllowed job
+allowed_settles name rows job e = go (either (bytes_eq name (codes "settle")) (settle_in rows) (gens name rows) job e)
   where
-    go : (replay_in rows ≡ Some job) ⊎ (gens name rows ≡ Some job) → IsAllowed job
-    go (inl h) = allowed_replay rows job h
+    go : (settle_in rows ≡ Some job) ⊎ (gens name rows ≡ Some job) → IsAllowed job
+    go (inl h) = allowed_settle rows job h
     go (inr h) = allowed_gens name rows job h
+
+allowed_replays : (name : List ℕ) (rows : List Row) (job : Task) → replays name rows ≡ Some job → IsAllowed job
+allowed_replays name rows job e = go (either (bytes_eq name (codes "replay")) (replay_in rows) (settles name rows) job e)
+  where
+    go : (replay_in rows ≡ Some job) ⊎ (settles name rows ≡ Some job) → IsAllowed job
+    go (inl h) = allowed_replay rows job h
+    go (inr h) = allowed_settles name rows job h
 
 allowed_sims : (name : List ℕ) (rows : List Row) (job : Task) → sims name rows ≡ Some job → IsAllowed job
 allowed_sims name rows job e = go (either (bytes_eq name (codes "sim")) (sim_in rows) (replays name rows) job e)

@@ -15,8 +15,8 @@ use Rattle.clap.specs.ValueTests.{accepts}
 use Rattle.clap.specs.Walk.{Row, Rule, Text, Walk, answers_to, finished, first_of, nothing_held, rows_after, settled, walk, walk_from}
 use Rattle.clap.specs.Simple.{App, Shape, built, built_leaf, entered, help_shape, inherited, label_of, marked_built, names_of, rows_at, subcommand_of, with_leaf_noted}
 use Rattle.clap.specs.declared.builder.value_parser.ValueParser.{ValueParser}
-use Rattle.command_line.specs.command_words.Command.{sec_app, check_app, graph_app, sim_app, replay_app, gen_app, lrat_app, cert_app, induct_app, most_conflicts, any_number}
-use Rattle.command_line.specs.Jobs.{cert_in, check_in, conflicts_in, form_in, gen_in, graph_in, induct_in, job_of, lrat_in, mode_in, number_of, replay_in, sim_in, task_in}
+use Rattle.command_line.specs.command_words.Command.{sec_app, check_app, graph_app, sim_app, replay_app, settle_app, gen_app, lrat_app, cert_app, induct_app, most_conflicts, any_number}
+use Rattle.command_line.specs.Jobs.{cert_in, check_in, conflicts_in, form_in, gen_in, graph_in, induct_in, job_of, lrat_in, mode_in, number_of, replay_in, settle_in, sim_in, task_in}
 use Rattle.command_line.specs.Known.{HasFitMode, mode_fits}
 use Rattle.command_line.proofs.Taken.{else_first, else_next, EachRule, IsNotHelp, IsOwn, no_help_walk}
 use Rattle.command_line.proofs.Leaves.{IsRead, first_good, leaf_read, second_check}
@@ -58,6 +58,13 @@ replay_job : (rows : List Row) (a b s : Text) → first_of (codes "a") rows ≡ 
 replay_job rows a b s ea eb es mode = by (mode_in rows) refl mode
   where
     by : (m : Option Mode) → mode_in rows ≡ m → is_some m ≡ true → is_some (replay_in rows) ≡ true
+    by None e h = absurd (true≢false (sym h))
+    by (Some m) e h = rw (ea, eb, es, e) refl
+
+settle_job : (rows : List Row) (a b s : Text) → first_of (codes "a") rows ≡ Some a → first_of (codes "b") rows ≡ Some b → first_of (codes "s") rows ≡ Some s → is_some (mode_in rows) ≡ true → is_some (settle_in rows) ≡ true
+settle_job rows a b s ea eb es mode = by (mode_in rows) refl mode
+  where
+    by : (m : Option Mode) → mode_in rows ≡ m → is_some m ≡ true → is_some (settle_in rows) ≡ true
     by None e h = absurd (true≢false (sym h))
     by (Some m) e h = rw (ea, eb, es, e) refl
 
@@ -131,7 +138,7 @@ sim_is words e help known =
     sim_job rows a.0 s.0 a.1 s.1 known
 
 replay_own : EachRule (IsOwn (part replay_app.top).rules) (part replay_app.top).rules
-replay_own = ((refl, omega arith), ((refl, omega arith), ((refl, omega arith), ((refl, omega arith), ((refl, tt), tt)))))
+replay_own = ((refl, omega arith), ((refl, omega arith), ((refl, omega arith), ((refl, omega arith), ((refl, omega arith), ((refl, tt), tt))))))
 
 replay_is : IsJob (part replay_app.top)
 replay_is words e help known =
@@ -142,6 +149,19 @@ replay_is words e help known =
     let b = first_good c (codes "b") _ rows refl read.good (read.required (codes "b") _ refl refl) in
     let s = first_good c (codes "s") _ rows refl read.good (read.required (codes "s") _ refl refl) in
     replay_job rows a.0 b.0 s.0 a.1 b.1 s.1 known
+
+settle_own : EachRule (IsOwn (part settle_app.top).rules) (part settle_app.top).rules
+settle_own = ((refl, omega arith), ((refl, omega arith), ((refl, omega arith), ((refl, omega arith), ((refl, tt), tt)))))
+
+settle_is : IsJob (part settle_app.top)
+settle_is words e help known =
+    let c : List Rule = (part settle_app.top).rules in
+    let rows : List Row = rows_after c [] words in
+    let read : IsRead (part settle_app.top) rows = leaf_read (part settle_app.top) settle_own refl words e in
+    let a = first_good c (codes "a") _ rows refl read.good (read.required (codes "a") _ refl refl) in
+    let b = first_good c (codes "b") _ rows refl read.good (read.required (codes "b") _ refl refl) in
+    let s = first_good c (codes "s") _ rows refl read.good (read.required (codes "s") _ refl refl) in
+    settle_job rows a.0 b.0 s.0 a.1 b.1 s.1 known
 
 gen_own : EachRule (IsOwn (part gen_app.top).rules) (part gen_app.top).rules
 gen_own = ((refl, omega arith), ((refl, omega arith), ((refl, omega arith), ((refl, tt), tt))))
@@ -229,10 +249,10 @@ find_passes test (x ∷ xs) s h = by (test x) refl (λ later. find_passes test x
     by false e rest = rest (sym (ap (λ b. cond b (Some x) (find test xs)) e) ∙ h)
 
 subs_jobs : EachShape IsJob (built sec_app).subs
-subs_jobs = (check_is, (graph_is, (sim_is, (replay_is, (gen_is, (lrat_is, (cert_is, (induct_is, (help_is, tt)))))))))
+subs_jobs = (check_is, (graph_is, (sim_is, (replay_is, (settle_is, (gen_is, (lrat_is, (cert_is, (induct_is, (help_is, tt))))))))))
 
 subs_named : EachShape IsNamed (built sec_app).subs
-subs_named = (named_alone (part check_app.top) refl, (named_alone (part graph_app.top) refl, (named_alone (part sim_app.top) refl, (named_alone (part replay_app.top) refl, (named_alone (part gen_app.top) refl, (named_alone (part lrat_app.top) refl, (named_alone (part cert_app.top) refl, (named_alone (part induct_app.top) refl, (named_alone (built_leaf help_shape) refl, tt)))))))))
+subs_named = (named_alone (part check_app.top) refl, (named_alone (part graph_app.top) refl, (named_alone (part sim_app.top) refl, (named_alone (part replay_app.top) refl, (named_alone (part settle_app.top) refl, (named_alone (part gen_app.top) refl, (named_alone (part lrat_app.top) refl, (named_alone (part cert_app.top) refl, (named_alone (part induct_app.top) refl, (named_alone (built_leaf help_shape) refl, tt))))))))))
 
 -- the subcommand at which the walk stopped
 stopped_job : (stop : Option (Text × List Text)) → IsNotHelp stop → entered_fault (built sec_app) stop ≡ [] → is_some (entered (built sec_app) stop) ≡ true → IfSome (entered (built sec_app) stop) (λ met. mode_fits met.0 met.1 ≡ true)

@@ -1,7 +1,7 @@
 -- Words that are written out, computed.
 use Rattle.std.proofs.Common.{refl}
 use Rattle.clap.proofs.OnLiterals.{clap_on_literals}
-use Rattle.command_line.specs.Known.{CheckIsTaken, GraphIsTaken, SimIsTaken, ReplayIsTaken, GenIsTaken, LratIsTaken, CertIsTaken, InductIsTaken, ResetIsTaken, AssumedIsTaken, AssumedIsRefused, OtherModeIsNoJob, OtherFormIsNoJob, ResetIsNoJob}
+use Rattle.command_line.specs.Known.{CheckIsTaken, GraphIsTaken, SimIsTaken, ReplayIsTaken, SettleIsTaken, GenIsTaken, LratIsTaken, CertIsTaken, InductIsTaken, ResetIsTaken, AssumedIsTaken, SettlesIsTaken, SettlesIsRefused, AssumedIsRefused, OtherModeIsNoJob, OtherFormIsNoJob, ResetIsNoJob}
 
 pub check_is_taken : CheckIsTaken
 unfolding clap_on_literals
@@ -18,6 +18,10 @@ sim_is_taken = (refl, refl)
 pub replay_is_taken : ReplayIsTaken
 unfolding clap_on_literals
 replay_is_taken = (refl, refl)
+
+pub settle_is_taken : SettleIsTaken
+unfolding clap_on_literals
+settle_is_taken = (refl, refl)
 
 pub gen_is_taken : GenIsTaken
 unfolding clap_on_literals
@@ -42,6 +46,14 @@ reset_is_taken = ((refl, refl), refl)
 pub assumed_is_taken : AssumedIsTaken
 unfolding clap_on_literals
 assumed_is_taken = ((refl, refl), refl)
+
+pub settles_is_taken : SettlesIsTaken
+unfolding clap_on_literals
+settles_is_taken = ((refl, refl), refl)
+
+pub settles_is_refused : SettlesIsRefused
+unfolding clap_on_literals
+settles_is_refused = refl
 
 pub assumed_is_refused : AssumedIsRefused
 unfolding clap_on_literals

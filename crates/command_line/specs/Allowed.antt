@@ -1,5 +1,5 @@
 -- What each job of the words keeps.
-use Rattle.std.specs.Prelude.{◌≡◌, ℕ, ◌≤◌, true, false, List, Some}
+use Rattle.std.specs.Prelude.{◌≡◌, ◌≤◌, true, false, List, Some}
 use Rattle.clap.specs.Words.{Text}
 use Rattle.circuit_theory.specs.declared.Mode.TheVariants.{Plain}
 use Rattle.sec_base.specs.declared.limits.TheConstants.{MAX_CONFLICTS}
@@ -12,7 +12,8 @@ abbrev pub IsAllowed : Task → Type 0
 IsAllowed (task.Check a b settings assumed) = (settings.conflicts ≤ MAX_CONFLICTS) × (settings.reset ≡ true → settings.expose ≡ false) × (settings.reset ≡ true → settings.mode ≡ Plain)
 IsAllowed (task.Graph a mode) = Unit {0}
 IsAllowed (task.Sim a s mode power reset) = Unit {0}
-IsAllowed (task.Replay a b s mode) = Unit {0}
+IsAllowed (task.Replay a b s mode settles) = Unit {0}
+IsAllowed (task.Settle a b s mode) = Unit {0}
 IsAllowed (task.Gen seed regroup conflicts) = conflicts ≤ MAX_CONFLICTS
 IsAllowed (task.Lrat f l) = Unit {0}
 IsAllowed (task.Cert a b pair lrat conflicts) = conflicts ≤ MAX_CONFLICTS

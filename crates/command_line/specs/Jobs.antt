@@ -58,7 +58,11 @@ sim_in rows = with_word (codes "a") rows (λ a. with_word (codes "s") rows (λ s
 
 abbrev pub replay_in : List Row → Option Task
 replay_in rows =
-    with_word (codes "a") rows (λ a. with_word (codes "b") rows (λ b. with_word (codes "s") rows (λ s. option_map (λ mode. task.Replay a b s mode) (mode_in rows))))
+    with_word (codes "a") rows (λ a. with_word (codes "b") rows (λ b. with_word (codes "s") rows (λ s. option_map (λ mode. task.Replay a b s mode (is_set (codes "settles") rows)) (mode_in rows))))
+
+abbrev pub settle_in : List Row → Option Task
+settle_in rows =
+    with_word (codes "a") rows (λ a. with_word (codes "b") rows (λ b. with_word (codes "s") rows (λ s. option_map (λ mode. task.Settle a b s mode) (mode_in rows))))
 
 abbrev pub gen_in : List Row → Option Task
 gen_in rows =
@@ -90,6 +94,7 @@ task_in name rows =
     else if bytes_eq name (codes "graph") then graph_in rows
     else if bytes_eq name (codes "sim") then sim_in rows
     else if bytes_eq name (codes "replay") then replay_in rows
+    else if bytes_eq name (codes "settle") then settle_in rows
     else if bytes_eq name (codes "gen") then gen_in rows
     else if bytes_eq name (codes "lrat") then lrat_in rows
     else if bytes_eq name (codes "cert") then cert_in rows

@@ -36,6 +36,9 @@ SimIsTaken = AreTaken (codes "sim" ∷ codes "a" ∷ codes "s" ∷ codes "--powe
 abbrev pub ReplayIsTaken : Type 0
 ReplayIsTaken = AreTaken (codes "replay" ∷ codes "a" ∷ codes "b" ∷ codes "s" ∷ [])
 
+abbrev pub SettleIsTaken : Type 0
+SettleIsTaken = AreTaken (codes "settle" ∷ codes "a" ∷ codes "b" ∷ codes "s" ∷ codes "--mode" ∷ codes "event" ∷ [])
+
 abbrev pub GenIsTaken : Type 0
 GenIsTaken = AreTaken (codes "gen" ∷ codes "7" ∷ codes "--conflicts" ∷ codes "0" ∷ [])
 
@@ -60,6 +63,16 @@ AssumedIsTaken =
     AreTaken (codes "check" ∷ codes "a" ∷ codes "b" ∷ codes "--assume" ∷ codes "c" ∷ [])
     × (job_of (codes "check" ∷ codes "a" ∷ codes "b" ∷ codes "--reset" ∷ codes "--assume" ∷ codes "c" ∷ [])
     ≡ Some (task.Check (codes "a") (codes "b") (record { mode = Plain; expose = false; conflicts = 20000; reset = true }) (Some (codes "c"))))
+
+-- words with `--settles`, and what they ask for
+abbrev pub SettlesIsTaken : Type 0
+SettlesIsTaken =
+    AreTaken (codes "replay" ∷ codes "a" ∷ codes "b" ∷ codes "s" ∷ codes "--settles" ∷ [])
+    × (job_of (codes "replay" ∷ codes "--settles" ∷ codes "a" ∷ codes "b" ∷ codes "s" ∷ []) ≡ Some (task.Replay (codes "a") (codes "b") (codes "s") Plain true))
+
+-- words that aren't taken: `--settles` behind `settle`, which tells that alone
+abbrev pub SettlesIsRefused : Type 0
+SettlesIsRefused = job_of (codes "settle" ∷ codes "a" ∷ codes "b" ∷ codes "s" ∷ codes "--settles" ∷ []) ≡ None
 
 -- words that aren't taken: `--assume` without a path, or twice
 abbrev pub AssumedIsRefused : Type 0

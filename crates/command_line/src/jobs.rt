@@ -6,7 +6,7 @@ ghost use Rattle.clap.specs.Words.{fault_of, first_of, found_of, rows_of, subcom
 ghost use Rattle.clap.specs.ValueTests.{accepts};
 ghost use Rattle.clap.specs.declared.builder.value_parser.ValueParser.TheVariants as parser;
 ghost use Rattle.command_line.specs.command_words.Command.{sec_app};
-ghost use Rattle.command_line.specs.Jobs.{job_of, task_in, check_in, graph_in, sim_in, replay_in, gen_in, lrat_in, cert_in, induct_in, form_in, mode_of, mode_in, refuses_reset, is_set, number_of, conflicts_in, settings_in};
+ghost use Rattle.command_line.specs.Jobs.{job_of, task_in, check_in, graph_in, sim_in, replay_in, settle_in, gen_in, lrat_in, cert_in, induct_in, form_in, mode_of, mode_in, refuses_reset, is_set, number_of, conflicts_in, settings_in};
 
 use crate::command_words::sec_command;
 use crate::task::Task;
@@ -244,9 +244,36 @@ fn replay_in(alloc: Global, matches: &ArgMatches<'_>) -> Result<Option<Task>, No
     let Some(mode) = mode_in(matches) else {
         return Ok(None);
     };
+    let settles = is_set(matches, "settles");
     let s = FilePath::from_str(alloc, s)?;
     let (a, b) = paths_of(alloc, a, b)?;
-    Ok(Some(Task::Replay { a, b, s, mode }))
+    Ok(Some(Task::Replay {
+        a,
+        b,
+        s,
+        mode,
+        settles,
+    }))
+}
+
+fn settle_in(alloc: Global, matches: &ArgMatches<'_>) -> Result<Option<Task>, NoMemory>
+    ensures { IfOk result (λ task. task ≡ settle_in (rows_of (found_of matches.now))) }
+{
+    let Some(a) = word(matches, "a") else {
+        return Ok(None);
+    };
+    let Some(b) = word(matches, "b") else {
+        return Ok(None);
+    };
+    let Some(s) = word(matches, "s") else {
+        return Ok(None);
+    };
+    let Some(mode) = mode_in(matches) else {
+        return Ok(None);
+    };
+    let s = FilePath::from_str(alloc, s)?;
+    let (a, b) = paths_of(alloc, a, b)?;
+    Ok(Some(Task::Settle { a, b, s, mode }))
 }
 
 fn gen_in(matches: &ArgMatches<'_>) -> Option<Task>
@@ -339,6 +366,7 @@ fn task_in(alloc: Global, name: &str, matches: &ArgMatches<'_>) -> Result<Option
         "graph" => graph_in(alloc, matches),
         "sim" => sim_in(alloc, matches),
         "replay" => replay_in(alloc, matches),
+        "settle" => settle_in(alloc, matches),
         "gen" => Ok(gen_in(matches)),
         "lrat" => lrat_in(alloc, matches),
         "cert" => cert_in(alloc, matches),

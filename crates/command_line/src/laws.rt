@@ -1,7 +1,7 @@
 //! What follows for the words. The functions do nothing: each contract is a law.
 
 ghost use Rattle.command_line.specs.Allowed.{JobsAreAllowed};
-ghost use Rattle.command_line.specs.Known.{TakenWordsAreJob, CheckIsTaken, GraphIsTaken, SimIsTaken, ReplayIsTaken, GenIsTaken, LratIsTaken, CertIsTaken, InductIsTaken, ResetIsTaken, AssumedIsTaken, AssumedIsRefused, OtherModeIsNoJob, OtherFormIsNoJob, ResetIsNoJob};
+ghost use Rattle.command_line.specs.Known.{TakenWordsAreJob, CheckIsTaken, GraphIsTaken, SimIsTaken, ReplayIsTaken, SettleIsTaken, GenIsTaken, LratIsTaken, CertIsTaken, InductIsTaken, ResetIsTaken, AssumedIsTaken, SettlesIsTaken, SettlesIsRefused, AssumedIsRefused, OtherModeIsNoJob, OtherFormIsNoJob, ResetIsNoJob};
 
 /// Words that `clap`'s definition for the command takes are a job wherever their mode is `plain` or `event` and `--reset` stands
 /// neither with `event` nor with `--expose`, or they name the subcommand `gen`, `lrat` or `induct`, which have no mode, or `cert` with
@@ -15,7 +15,7 @@ pub fn jobs_are_allowed()
     ensures { JobsAreAllowed }
 {}
 
-/// Words of each subcommand that meet the premises of `taken_words_are_job`, some with `--reset` or `--assume`.
+/// Words of the subcommands that meet the premises of `taken_words_are_job`, some with `--reset` or `--assume`.
 pub fn words_are_taken()
     ensures of_check { CheckIsTaken }
     ensures of_graph { GraphIsTaken }
@@ -29,9 +29,16 @@ pub fn words_are_taken()
     ensures of_assumed { AssumedIsTaken }
 {}
 
-/// Words with `--assume` that `clap`'s definition doesn't take: they have no path behind it, or have it twice.
+/// The same of `settle`, and of `replay` with `--settles`.
+pub fn settling_words_are_taken()
+    ensures of_settle { SettleIsTaken }
+    ensures of_settles { SettlesIsTaken }
+{}
+
+/// Words that `clap`'s definition doesn't take: `--assume` without a path behind it, or twice; `--settles` behind `settle`.
 pub fn refused_words_are_no_job()
-    ensures { AssumedIsRefused }
+    ensures of_assumed { AssumedIsRefused }
+    ensures of_settles { SettlesIsRefused }
 {}
 
 /// Words that are taken and are no job: they have another mode or another form, or `--reset` beside what refuses it.

@@ -27,8 +27,16 @@ pub enum Task {
         power: Option<Word>,
         reset: bool,
     },
-    /// Run two circuits on a stimulus and print where they differ.
+    /// Run two circuits on a stimulus and print where they differ, and with `settles` how many pairs are settled in both.
     Replay {
+        a: FilePath,
+        b: FilePath,
+        s: FilePath,
+        mode: Mode,
+        settles: bool,
+    },
+    /// Run two circuits on a stimulus and print since when each pair is settled in both.
+    Settle {
         a: FilePath,
         b: FilePath,
         s: FilePath,
@@ -80,6 +88,13 @@ impl Drop for Task {
                 reset: _,
             } => {}
             Task::Replay {
+                a: _,
+                b: _,
+                s: _,
+                mode: _,
+                settles: _,
+            } => {}
+            Task::Settle {
                 a: _,
                 b: _,
                 s: _,

@@ -62,12 +62,13 @@ fn unrefuted_status(unrefuted: &Unrefuted) -> StatusName
     }
 }
 
-/// The status of what is said of two circuits by blocks of their latches.
+/// The status of what is said of two circuits by blocks of their latches or on a stimulus.
 fn judgement_status(judgement: Judgement) -> StatusName
     ensures { result ≡ judgement_status judgement }
 {
     match judgement {
         Judgement::Equal => StatusName::Equal,
+        Judgement::Different => StatusName::Different,
         Judgement::NotShown => StatusName::NotShown,
         Judgement::Limit => StatusName::Limit,
     }

@@ -92,12 +92,14 @@ pub enum Unrefuted {
     Limit(u32, Proof),
 }
 
-/// What is said of two circuits whose latches are put into blocks.
+/// What is said of two circuits whose latches are put into blocks, or which were run on one stimulus.
 #[derive(Clone, Copy)]
 pub enum Judgement {
-    /// Each output agrees for all values that are constant on the blocks.
+    /// Each output agrees for all values that are constant on the blocks; or no pair differs on the stimulus, and some is settled.
     Equal,
-    /// Some output differs for values that are constant on the blocks.
+    /// Some pair differs on the stimulus.
+    Different,
+    /// Some output differs for values that are constant on the blocks; or no pair is settled on the stimulus.
     NotShown,
     /// A query wasn't decided within the number of conflicts.
     Limit,
@@ -127,7 +129,8 @@ pub enum Finding {
     Undecided(Side, Word, Proof),
     /// The clauses of a pair of outputs aren't refuted.
     Unrefuted(Unrefuted),
-    /// What is said of two circuits by blocks of their latches, the proofs of the queries that met the limit, and the report.
+    /// What is said of two circuits by blocks of their latches or on a stimulus, the proofs of the queries that met the limit, and the
+    /// report.
     Judged(Judgement, Proofs, Text),
 }
 

@@ -5,5 +5,6 @@ pub mod Fitting
 pub mod FreeInputs
 pub mod FreeMarks
 pub mod Names
+pub mod SettledPairs
 pub mod Sides
 pub mod Whole

@@ -1,6 +1,6 @@
 //! The job that runs two circuits on one stimulus.
 //!
-//! The differences of two circuits on one stimulus, in a mode.
+//! The differences of two circuits on one stimulus, in a mode, and since when their pairs are settled.
 
 mod fault;
 mod modes;
@@ -8,4 +8,4 @@ mod replays;
 
 pub use fault::ReplayFault;
 pub use modes::replay_in;
-pub use replays::{Replay, replay_files};
+pub use replays::{Replay, ReplayReport, replay_files};

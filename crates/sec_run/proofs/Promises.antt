@@ -10,6 +10,8 @@ use Rattle.job_base.specs.Written.{status_of, IsWrittenAs}
 use Rattle.job_base.specs.Meaning.{SaysNothing}
 use Rattle.job_base.proofs.Meaning.{says_nothing, by_finding}
 use Rattle.sec_jobs.specs.job_cert.sec_files.Reading.{Held}
+use Rattle.job_circuit.specs.declared.job_replay.replays.ReplayReport.TheVariants as told
+use Rattle.job_circuit.specs.job_replay.Told.{report_with}
 use Rattle.job_circuit.proofs.Means.{graph_means, sim_means}
 use Rattle.job_circuit.proofs.CompleteReports.{graph_complete, sim_complete}
 use Rattle.job_circuit.proofs.job_replay.Means.{replay_means}
@@ -32,7 +34,8 @@ means held None before now f proofs name found w = says_nothing before now f pro
 means held (Some (task.Check a b settings assumed)) before now f proofs name found w = check_means held (record { left = a; right = b; settings = settings; assumed = assumed }) before now f proofs name found w
 means held (Some (task.Graph a mode)) before now f proofs name found w = graph_means mode (held a) before now f proofs name found w
 means held (Some (task.Sim a s mode power reset)) before now f proofs name found w = sim_means mode (held a) (held s) power reset before now f proofs name found w
-means held (Some (task.Replay a b s mode)) before now f proofs name found w = replay_means mode (held a) (held b) (held s) before now f proofs name found w
+means held (Some (task.Replay a b s mode settles)) before now f proofs name found w = replay_means (report_with settles) mode (held a) (held b) (held s) before now f proofs name found w
+means held (Some (task.Settle a b s mode)) before now f proofs name found w = replay_means told.Settled mode (held a) (held b) (held s) before now f proofs name found w
 means held (Some (task.Gen seed regroup conflicts)) before now f proofs name found w = gen_means (record { seed = seed; regroup = regroup; conflicts = conflicts }) before now f proofs name found w
 means held (Some (task.Lrat f l)) before now found proofs name is w = lrat_means (held f) (held l) before now found proofs name is w
 means held (Some (task.Cert a b pair lrat conflicts)) before now f proofs name found w = cert_means (record { pair = pair; refuted = lrat; conflicts = conflicts }) (held a) (held b) before now f proofs name found w
@@ -44,7 +47,8 @@ memory_means held None before now proofs = tt
 memory_means held (Some (task.Check a b settings assumed)) before now proofs = tt
 memory_means held (Some (task.Graph a mode)) before now proofs = tt
 memory_means held (Some (task.Sim a s mode power reset)) before now proofs = tt
-memory_means held (Some (task.Replay a b s mode)) before now proofs = tt
+memory_means held (Some (task.Replay a b s mode settles)) before now proofs = tt
+memory_means held (Some (task.Settle a b s mode)) before now proofs = tt
 memory_means held (Some (task.Gen seed regroup conflicts)) before now proofs = tt
 memory_means held (Some (task.Lrat f l)) before now proofs = tt
 memory_means held (Some (task.Cert a b pair lrat conflicts)) before now proofs = tt
@@ -55,7 +59,8 @@ fault_means held None before now proofs = tt
 fault_means held (Some (task.Check a b settings assumed)) before now proofs = tt
 fault_means held (Some (task.Graph a mode)) before now proofs = tt
 fault_means held (Some (task.Sim a s mode power reset)) before now proofs = tt
-fault_means held (Some (task.Replay a b s mode)) before now proofs = tt
+fault_means held (Some (task.Replay a b s mode settles)) before now proofs = tt
+fault_means held (Some (task.Settle a b s mode)) before now proofs = tt
 fault_means held (Some (task.Gen seed regroup conflicts)) before now proofs = tt
 fault_means held (Some (task.Lrat f l)) before now proofs = tt
 fault_means held (Some (task.Cert a b pair lrat conflicts)) before now proofs = tt
@@ -67,7 +72,8 @@ is_complete held None f found = inl (ap status_of found)
 is_complete held (Some (task.Check a b settings assumed)) f found = check_complete held (record { left = a; right = b; settings = settings; assumed = assumed }) f found
 is_complete held (Some (task.Graph a mode)) f found = graph_complete mode (held a) f found
 is_complete held (Some (task.Sim a s mode power reset)) f found = sim_complete mode (held a) (held s) power reset f found
-is_complete held (Some (task.Replay a b s mode)) f found = replay_complete mode (held a) (held b) (held s) f found
+is_complete held (Some (task.Replay a b s mode settles)) f found = replay_complete (report_with settles) mode (held a) (held b) (held s) f found
+is_complete held (Some (task.Settle a b s mode)) f found = replay_complete told.Settled mode (held a) (held b) (held s) f found
 is_complete held (Some (task.Gen seed regroup conflicts)) f found = gen_complete (record { seed = seed; regroup = regroup; conflicts = conflicts }) f found
 is_complete held (Some (task.Lrat f l)) found is = lrat_complete (held f) (held l) found is
 is_complete held (Some (task.Cert a b pair lrat conflicts)) f found = cert_complete (record { pair = pair; refuted = lrat; conflicts = conflicts }) (held a) (held b) f found
@@ -79,7 +85,8 @@ memory_is_complete held None = inr refl
 memory_is_complete held (Some (task.Check a b settings assumed)) = λ can. tt
 memory_is_complete held (Some (task.Graph a mode)) = λ can. tt
 memory_is_complete held (Some (task.Sim a s mode power reset)) = λ can. tt
-memory_is_complete held (Some (task.Replay a b s mode)) = λ can. tt
+memory_is_complete held (Some (task.Replay a b s mode settles)) = λ can. tt
+memory_is_complete held (Some (task.Settle a b s mode)) = λ can. tt
 memory_is_complete held (Some (task.Gen seed regroup conflicts)) = tt
 memory_is_complete held (Some (task.Lrat f l)) = λ can. inr refl
 memory_is_complete held (Some (task.Cert a b pair lrat conflicts)) = memory_cert (record { pair = pair; refuted = lrat; conflicts = conflicts }) (held a) (held b)

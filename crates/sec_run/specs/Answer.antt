@@ -14,6 +14,8 @@ use Rattle.job_base.specs.Lines.{finding_text}
 use Rattle.sec_jobs.specs.job_cert.sec_files.Reading.{Held}
 use Rattle.job_circuit.specs.Reports.{IsGraphFound, IsSimFound}
 use Rattle.job_circuit.specs.job_replay.Replays.{IsReplayFound}
+use Rattle.job_circuit.specs.declared.job_replay.replays.ReplayReport.TheVariants as told
+use Rattle.job_circuit.specs.job_replay.Told.{report_with}
 use Rattle.job_check.specs.check_meaning.check_found.Found.{IsFoundOf}
 use Rattle.sec_jobs.specs.job_gen.gen_meaning.Found.{IsGenFound}
 use Rattle.sec_jobs.specs.job_cert.job_lrat.Found.{IsLratFound}
@@ -25,7 +27,8 @@ abbrev pub IsFoundOfJob : Held → Task → Finding → Type 0
 IsFoundOfJob held (task.Check a b settings assumed) f = IsFoundOf held (record { left = a; right = b; settings = settings; assumed = assumed }) f
 IsFoundOfJob held (task.Graph a mode) f = IsGraphFound mode (held a) f
 IsFoundOfJob held (task.Sim a s mode power reset) f = IsSimFound mode (held a) (held s) power reset f
-IsFoundOfJob held (task.Replay a b s mode) f = IsReplayFound mode (held a) (held b) (held s) f
+IsFoundOfJob held (task.Replay a b s mode settles) f = IsReplayFound (report_with settles) mode (held a) (held b) (held s) f
+IsFoundOfJob held (task.Settle a b s mode) f = IsReplayFound told.Settled mode (held a) (held b) (held s) f
 IsFoundOfJob held (task.Gen seed regroup conflicts) f = IsGenFound (record { seed = seed; regroup = regroup; conflicts = conflicts }) f
 IsFoundOfJob held (task.Lrat f l) found = IsLratFound (held f) (held l) found
 IsFoundOfJob held (task.Cert a b pair lrat conflicts) f = IsCertFound (record { pair = pair; refuted = lrat; conflicts = conflicts }) (held a) (held b) f

@@ -15,7 +15,8 @@ abbrev pub paths_of : Task → List (List ℕ)
 paths_of (task.Check a b settings assumed) = check_paths (record { left = a; right = b; settings = settings; assumed = assumed })
 paths_of (task.Graph a mode) = graph_paths a
 paths_of (task.Sim a s mode power reset) = sim_paths a s
-paths_of (task.Replay a b s mode) = replay_paths a b s
+paths_of (task.Replay a b s mode settles) = replay_paths a b s
+paths_of (task.Settle a b s mode) = replay_paths a b s
 paths_of (task.Gen seed regroup conflicts) = []
 paths_of (task.Lrat f l) = lrat_paths f l
 paths_of (task.Cert a b pair lrat conflicts) = cert_paths a b
@@ -31,7 +32,8 @@ abbrev pub GoesOn : Task → Option (List ℕ) → Type 0
 GoesOn (task.Check a b settings assumed) = IsLoaded
 GoesOn (task.Graph a mode) = IsLoaded
 GoesOn (task.Sim a s mode power reset) = IsLoaded
-GoesOn (task.Replay a b s mode) = IsLoaded
+GoesOn (task.Replay a b s mode settles) = IsLoaded
+GoesOn (task.Settle a b s mode) = IsLoaded
 GoesOn (task.Gen seed regroup conflicts) = IsLoaded
 GoesOn (task.Lrat f l) = AreSpelled
 GoesOn (task.Cert a b pair lrat conflicts) = IsLoaded

@@ -9,6 +9,8 @@ use Rattle.job_base.specs.declared.status.StatusName.TheVariants as status
 use Rattle.sec_jobs.specs.job_cert.sec_files.Reading.{Held}
 use Rattle.job_circuit.specs.Reports.{GraphMeans, SimMeans, IsGraphComplete, IsSimComplete}
 use Rattle.job_circuit.specs.job_replay.Replays.{ReplayMeans, IsReplayComplete}
+use Rattle.job_circuit.specs.declared.job_replay.replays.ReplayReport.TheVariants as told
+use Rattle.job_circuit.specs.job_replay.Told.{report_with}
 use Rattle.job_check.specs.check_meaning.Answer.{CheckMeans, IsCheckComplete}
 use Rattle.sec_jobs.specs.job_gen.gen_meaning.Answer.{GenMeans, IsGenAnswer}
 use Rattle.sec_jobs.specs.job_cert.job_lrat.Answer.{LratMeans, IsLratComplete}
@@ -21,7 +23,8 @@ Means held None before now proofs name = SaysNothing name
 Means held (Some (task.Check a b settings assumed)) before now proofs name = CheckMeans held (record { left = a; right = b; settings = settings; assumed = assumed }) before now proofs name
 Means held (Some (task.Graph a mode)) before now proofs name = GraphMeans mode (held a) before now proofs name
 Means held (Some (task.Sim a s mode power reset)) before now proofs name = SimMeans mode (held a) (held s) power reset before now proofs name
-Means held (Some (task.Replay a b s mode)) before now proofs name = ReplayMeans mode (held a) (held b) (held s) before now proofs name
+Means held (Some (task.Replay a b s mode settles)) before now proofs name = ReplayMeans (report_with settles) mode (held a) (held b) (held s) before now proofs name
+Means held (Some (task.Settle a b s mode)) before now proofs name = ReplayMeans told.Settled mode (held a) (held b) (held s) before now proofs name
 Means held (Some (task.Gen seed regroup conflicts)) before now proofs name = GenMeans (record { seed = seed; regroup = regroup; conflicts = conflicts }) before now proofs name
 Means held (Some (task.Lrat f l)) before now proofs name = LratMeans (held f) (held l) before now name
 Means held (Some (task.Cert a b pair lrat conflicts)) before now proofs name = CertMeans (record { pair = pair; refuted = lrat; conflicts = conflicts }) (held a) (held b) before now proofs name
@@ -33,7 +36,8 @@ IsComplete held None name = EndsWith status.Words name
 IsComplete held (Some (task.Check a b settings assumed)) name = IsCheckComplete held (record { left = a; right = b; settings = settings; assumed = assumed }) name
 IsComplete held (Some (task.Graph a mode)) name = IsGraphComplete mode (held a) name
 IsComplete held (Some (task.Sim a s mode power reset)) name = IsSimComplete mode (held a) (held s) power name
-IsComplete held (Some (task.Replay a b s mode)) name = IsReplayComplete mode (held a) (held b) (held s) name
+IsComplete held (Some (task.Replay a b s mode settles)) name = IsReplayComplete (report_with settles) mode (held a) (held b) (held s) name
+IsComplete held (Some (task.Settle a b s mode)) name = IsReplayComplete told.Settled mode (held a) (held b) (held s) name
 IsComplete held (Some (task.Gen seed regroup conflicts)) name = IsGenAnswer name
 IsComplete held (Some (task.Lrat f l)) name = IsLratComplete (held f) (held l) name
 IsComplete held (Some (task.Cert a b pair lrat conflicts)) name = IsCertComplete (record { pair = pair; refuted = lrat; conflicts = conflicts }) (held a) (held b) name

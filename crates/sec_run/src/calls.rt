@@ -6,6 +6,7 @@ ghost use Rattle.sec_base.specs.base_shelves.Outside.{Rose, SameHeld, NoneFell};
 ghost use Rattle.command_line.specs.Jobs.{job_of};
 ghost use Rattle.job_base.specs.Reading.{ReadFailedAfter};
 ghost use Rattle.command_line.specs.Allowed.{IsAllowed};
+ghost use Rattle.job_circuit.specs.job_replay.Told.{report_with};
 ghost use Rattle.sec_run.specs.Job.{paths_of, paths_in, GoesOn, GoesOnIn};
 ghost use Rattle.sec_run.specs.Answer.{IsCutOff, IsTaken};
 ghost use Rattle.sec_run.specs.Ends.{Found};
@@ -14,7 +15,7 @@ ghost use Rattle.sec_run.specs.Promises.{Means, IsComplete};
 use command_line::{Task, WordsError, job};
 use job_base::{Finding, Status, StatusName, Stop, finish};
 use job_check::{Comparison, check};
-use job_circuit::job_replay::{Replay, replay_files};
+use job_circuit::job_replay::{Replay, ReplayReport, replay_files};
 use job_circuit::{Simulation, simulate, tell_graph};
 use sec_base::{FilePath, Shelf, Sink, Word};
 use sec_jobs::job_cert::job_lrat::{Refutation, check_refutation};
@@ -65,12 +66,29 @@ fn find<S: Shelf>(alloc: Global, task: &Task, shelf: &mut S) -> Result<Finding, 
             };
             simulate(alloc, &simulation, shelf)
         }
-        Task::Replay { a, b, s, mode } => {
+        Task::Replay {
+            a,
+            b,
+            s,
+            mode,
+            settles,
+        } => {
             let replay = Replay {
                 left: a.as_str(),
                 right: b.as_str(),
                 stimulus: s.as_str(),
                 mode: *mode,
+                report: report_with(*settles),
+            };
+            replay_files(alloc, &replay, shelf)
+        }
+        Task::Settle { a, b, s, mode } => {
+            let replay = Replay {
+                left: a.as_str(),
+                right: b.as_str(),
+                stimulus: s.as_str(),
+                mode: *mode,
+                report: ReplayReport::Settled,
             };
             replay_files(alloc, &replay, shelf)
         }
@@ -120,6 +138,17 @@ fn find<S: Shelf>(alloc: Global, task: &Task, shelf: &mut S) -> Result<Finding, 
             };
             compare_by_blocks(alloc, &comparison, shelf)
         }
+    }
+}
+
+/// What is told of a replay: with `settles` also how many pairs are settled.
+fn report_with(settles: bool) -> ReplayReport
+    ensures { result ≡ report_with settles }
+{
+    if settles {
+        ReplayReport::DifferencesAndSettled
+    } else {
+        ReplayReport::Differences
     }
 }
 

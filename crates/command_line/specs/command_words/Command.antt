@@ -49,7 +49,10 @@ abbrev pub sim_app : App
 sim_app = fold with_rule (new_app (codes "sim")) (place (codes "a") ∷ place (codes "s") ∷ mode ∷ option (codes "power") ∷ flag (codes "reset") ∷ [])
 
 abbrev pub replay_app : App
-replay_app = fold with_rule (new_app (codes "replay")) (place (codes "a") ∷ place (codes "b") ∷ place (codes "s") ∷ mode ∷ [])
+replay_app = fold with_rule (new_app (codes "replay")) (place (codes "a") ∷ place (codes "b") ∷ place (codes "s") ∷ mode ∷ flag (codes "settles") ∷ [])
+
+abbrev pub settle_app : App
+settle_app = fold with_rule (new_app (codes "settle")) (place (codes "a") ∷ place (codes "b") ∷ place (codes "s") ∷ mode ∷ [])
 
 abbrev pub gen_app : App
 gen_app = fold with_rule (new_app (codes "gen")) (number ∷ flag (codes "regroup") ∷ conflicts ∷ [])
@@ -68,4 +71,4 @@ abbrev pub top_app : App
 top_app = record { top = record (new_shape (codes "sec")) { no_binary_name = true; subcommand_required = true }; subs = [] }
 
 abbrev pub sec_app : App
-sec_app = fold with_subcommand top_app (check_app.top ∷ graph_app.top ∷ sim_app.top ∷ replay_app.top ∷ gen_app.top ∷ lrat_app.top ∷ cert_app.top ∷ induct_app.top ∷ [])
+sec_app = fold with_subcommand top_app (check_app.top ∷ graph_app.top ∷ sim_app.top ∷ replay_app.top ∷ settle_app.top ∷ gen_app.top ∷ lrat_app.top ∷ cert_app.top ∷ induct_app.top ∷ [])

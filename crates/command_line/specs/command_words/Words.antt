@@ -5,7 +5,7 @@ use Rattle.command_line.specs.declared.command_words.command.Word.{Word}
 use Rattle.command_line.specs.declared.command_words.command.Word.TheVariants as word
 use Rattle.command_line.specs.declared.command_words.command.Subcommand.{Subcommand}
 use Rattle.command_line.specs.declared.command_words.command.Subcommand.TheVariants as subcommand
-use Rattle.command_line.specs.command_words.Command.{place, option, option_with, flag, conflicts, number, check_app, graph_app, sim_app, replay_app, gen_app, lrat_app, cert_app, induct_app}
+use Rattle.command_line.specs.command_words.Command.{place, option, option_with, flag, conflicts, number, check_app, graph_app, sim_app, replay_app, settle_app, gen_app, lrat_app, cert_app, induct_app}
 
 abbrev pub word_rule : Word → Rule
 word_rule (word.Place id) = place id.now
@@ -24,6 +24,7 @@ app_of_subcommand subcommand.Check = check_app
 app_of_subcommand subcommand.Graph = graph_app
 app_of_subcommand subcommand.Sim = sim_app
 app_of_subcommand subcommand.Replay = replay_app
+app_of_subcommand subcommand.Settle = settle_app
 app_of_subcommand subcommand.Gen = gen_app
 app_of_subcommand subcommand.Lrat = lrat_app
 app_of_subcommand subcommand.Cert = cert_app

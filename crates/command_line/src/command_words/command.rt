@@ -33,6 +33,7 @@ enum Subcommand {
     Graph,
     Sim,
     Replay,
+    Settle,
     Gen,
     /// Clauses, and a text that refutes them.
     Lrat,
@@ -42,11 +43,12 @@ enum Subcommand {
     Induct,
 }
 
-const SUBCOMMANDS: [Subcommand; 8] = [
+const SUBCOMMANDS: [Subcommand; 9] = [
     Subcommand::Check,
     Subcommand::Graph,
     Subcommand::Sim,
     Subcommand::Replay,
+    Subcommand::Settle,
     Subcommand::Gen,
     Subcommand::Lrat,
     Subcommand::Cert,
@@ -85,6 +87,16 @@ fn words_of<'a>(which: Subcommand) -> (&'a str, &'a [Word<'a>])
         ),
         Subcommand::Replay => (
             "replay",
+            &[
+                Word::Place("a"),
+                Word::Place("b"),
+                Word::Place("s"),
+                MODE,
+                Word::Flag("settles"),
+            ],
+        ),
+        Subcommand::Settle => (
+            "settle",
             &[Word::Place("a"), Word::Place("b"), Word::Place("s"), MODE],
         ),
         Subcommand::Gen => (

@@ -38,20 +38,11 @@ pub struct Settling {
 pub type Settlings = Seq<Settling>;
 
 /// What two circuits show on a stimulus.
+#[derive(Drop)]
 pub struct Replayed {
     /// All differences, by cycle and then by pair: the outputs in the first circuit's order, then what the latches that are cut open
     /// take over, in the first circuit's order of latches.
     pub differences: Differences,
     /// Each pair, in the same order, and since when it is settled in both circuits.
     pub settlings: Settlings,
-}
-
-/// It is let go by one call: an owner isn't taken apart field by field at each way out.
-impl Drop for Replayed {
-    fn drop(self) {
-        let Replayed {
-            differences: _,
-            settlings: _,
-        } = self;
-    }
 }

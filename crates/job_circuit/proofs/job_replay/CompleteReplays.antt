@@ -1,6 +1,6 @@
--- Where two circuits can be replayed on a stimulus, what is found is the report, in the event mode also the limit of a query.
-use Rattle.std.proofs.Common.{◌≡◌, ℕ, Bool, List, [], ◌∷◌, refl, sym, ◌∙◌, ap, Option, Some}
-use Rattle.std.specs.Prelude.{IsSomeAnd}
+-- Where two circuits can be replayed on a stimulus, what is found is the report that is asked for, in the event mode also the limit of a query.
+use Rattle.std.proofs.Common.{◌≡◌, ℕ, Bool, true, false, cond, List, [], ◌∷◌, length, refl, sym, ◌∙◌, ap, subst, Option, Some, Ok}
+use Rattle.std.specs.Prelude.{◌==◌, IsSomeAnd}
 use Rattle.std.proofs.lemmas.Option.{none-some}
 use Rattle.circuit_theory.specs.declared.Mode.{Mode}
 use Rattle.circuit_theory.specs.declared.Mode.TheVariants.{Plain, Event}
@@ -13,7 +13,13 @@ use Rattle.circuit_report.proofs.graph_report.Ended.{large_or_light}
 use Rattle.pair_decide.specs.declared.query.Proof.{Proof}
 use Rattle.circuit_report.specs.declared.sim_report.refusal.Misfit.TheVariants as misfit
 use Rattle.job_circuit.specs.replay.replay_header.Header.{first_unknown, first_lacking}
+use Rattle.cycle_sim.specs.declared.pair_runs.differences.Difference.{Difference}
+use Rattle.cycle_sim.specs.declared.pair_runs.differences.Replayed.{Replayed}
+use Rattle.cycle_sim.specs.pair_runs.replay_report.Report.{settled_count}
+use Rattle.job_circuit.specs.declared.job_replay.replays.ReplayReport.{ReplayReport}
+use Rattle.job_circuit.specs.declared.job_replay.replays.ReplayReport.TheVariants as told
 use Rattle.job_circuit.specs.job_replay.Modes.{AreUnknown}
+use Rattle.job_circuit.specs.job_replay.Told.{finding_of, FindsIn}
 use Rattle.job_base.specs.sec_files.Loading.{Loads}
 use Rattle.job_base.specs.sec_files.Stimuli.{IsStimulus}
 use Rattle.job_base.proofs.sec_files.Texts.{text_sound}
@@ -23,10 +29,11 @@ use Rattle.job_base.specs.declared.finding.Refusal.{Refusal}
 use Rattle.job_base.specs.declared.finding.Refusal.TheVariants as refusal
 use Rattle.job_base.specs.declared.finding.Finding.{Finding}
 use Rattle.job_base.specs.declared.finding.Finding.TheVariants as finding
-use Rattle.job_base.specs.Written.{status_of}
+use Rattle.job_base.specs.declared.finding.Judgement.TheVariants as judgement
+use Rattle.job_base.specs.Written.{status_of, replay_status, judgement_status}
 use Rattle.job_base.proofs.sec_files.job_files.Accepted.{not_long, not_faulty, not_unsound, not_misread, no_long_stimulus, not_headless, no_row_refused, same_names}
 use Rattle.job_base.proofs.sec_files.job_files.Reading.{some_and, if_told}
-use Rattle.job_circuit.specs.job_replay.Replays.{IsReplayRefusal, IsReplayFound, CanBeReplayed, IsReplayed, IsReplayComplete}
+use Rattle.job_circuit.specs.job_replay.Replays.{OfReplay, IsReplayRefusal, IsReplayFound, CanBeReplayed, IsReplayed, IsReplayComplete}
 
 -- in the plain mode no query of a latch has met the limit
 limit_in : (mode : Mode) (n : NetView) (name : List ℕ) (proof : Proof) → IsUnknown mode n (kinds_error.Limit name proof) → mode ≡ Event
@@ -37,7 +44,22 @@ limit_of : (mode : Mode) (a b : NetView) (side : Side) (name : List ℕ) (proof 
 limit_of mode a b A name proof unknown = limit_in mode a name proof unknown
 limit_of mode a b B name proof unknown = limit_in mode b name proof unknown.1
 
-module _ (mode : Mode) (left right stimulus : Option (List ℕ)) (x y z : List ℕ) (is : left ≡ Some x) (other : right ≡ Some y) (told : stimulus ≡ Some z) (can : CanBeReplayed mode x y z) where
+-- what is told has one of the statuses of what was asked for
+status_fits : (mode : Mode) (report : ReplayReport) (cycles : ℕ) (r : Replayed) → IsReplayed report mode (status_of (finding_of report cycles r))
+status_fits mode told.Differences cycles r = go r.differences
+  where
+    go : (differences : List Difference) → IsReplayed told.Differences mode (replay_status differences)
+    go [] = tt
+    go (d ∷ more) = tt
+status_fits mode told.DifferencesAndSettled cycles r = go (length r.differences == 0) (settled_count r.settlings == 0)
+  where
+    go : (same none : Bool) → IsReplayed told.DifferencesAndSettled mode (judgement_status (cond same (cond none judgement.NotShown judgement.Equal) judgement.Different))
+    go true true = tt
+    go true false = tt
+    go false none = tt
+status_fits mode told.Settled cycles r = tt
+
+module _ (report : ReplayReport) (mode : Mode) (left right stimulus : Option (List ℕ)) (x y z : List ℕ) (is : left ≡ Some x) (other : right ≡ Some y) (told : stimulus ≡ Some z) (can : CanBeReplayed mode x y z) where
   -- the names of the stimulus are those of the one that fits
   names_are : (names : List (List ℕ)) (rows : List (List Bool)) → IsStimulus z names rows → can.names ≡ names
   names_are names rows spells = same_names z can.names names can.rows rows can.stimulus.form spells.form
@@ -94,24 +116,27 @@ module _ (mode : Mode) (left right stimulus : Option (List ℕ)) (x y z : List �
   replay_stands refusal.Vacuous h = h
   replay_stands (refusal.Pair name) h = h
 
-  replayed : (f : Finding) → IsReplayFound mode left right stimulus f → IsReplayed mode (status_of f)
-  replayed finding.Words h = absurd h
+  -- what is told of what both circuits show
+  told_so : (f : Finding) → OfReplay left right stimulus (λ a b names rows. FindsIn report mode a b names rows (Ok f)) → IsReplayed report mode (status_of f)
+  told_so f h = subst (λ (g : Finding). IsReplayed report mode (status_of g)) (sym h.said.2) (status_fits mode report (length h.rows) h.said.0)
+
+  replayed : (f : Finding) → IsReplayFound report mode left right stimulus f → IsReplayed report mode (status_of f)
+  replayed finding.Words h = told_so finding.Words h
   replayed (finding.Refused r) h = absurd (replay_stands r h)
-  replayed (finding.Cyclic side names) h = absurd h
-  replayed (finding.Unpaired side names) h = absurd h
-  replayed (finding.Checked o s) h = absurd h
-  replayed (finding.Done report) h = absurd h
-  replayed (finding.Generated o report) h = absurd h
-  replayed (finding.Unrefuted u) h = absurd h
-  replayed (finding.Judged j kept text) h = absurd h
+  replayed (finding.Cyclic side names) h = told_so (finding.Cyclic side names) h
+  replayed (finding.Unpaired side names) h = told_so (finding.Unpaired side names) h
+  replayed (finding.Checked o s) h = told_so (finding.Checked o s) h
+  replayed (finding.Done text) h = told_so (finding.Done text) h
+  replayed (finding.Generated o text) h = told_so (finding.Generated o text) h
+  replayed (finding.Unrefuted u) h = told_so (finding.Unrefuted u) h
+  replayed (finding.Judged j kept text) h = told_so (finding.Judged j kept text) h
   replayed (finding.Undecided side name proof) h = limit_of mode h.a h.b side name proof h.said.1
-  replayed (finding.Replayed []) h = tt
-  replayed (finding.Replayed (d ∷ more)) h = tt
+  replayed (finding.Replayed differences) h = told_so (finding.Replayed differences) h
 
 -- so what is found has the status of a replay, or of the limit
-pub replay_complete : (mode : Mode) (left right stimulus : Option (List ℕ)) (f : Finding) → IsReplayFound mode left right stimulus f → IsReplayComplete mode left right stimulus (status_of f)
-replay_complete mode left right stimulus f found can =
+pub replay_complete : (report : ReplayReport) (mode : Mode) (left right stimulus : Option (List ℕ)) (f : Finding) → IsReplayFound report mode left right stimulus f → IsReplayComplete report mode left right stimulus (status_of f)
+replay_complete report mode left right stimulus f found can =
     let x = some_and left (λ s. IsSomeAnd right (λ t. IsSomeAnd stimulus (λ u. CanBeReplayed mode s t u))) can in
     let y = some_and right (λ t. IsSomeAnd stimulus (λ u. CanBeReplayed mode x.0 t u)) x.2 in
     let z = some_and stimulus (λ u. CanBeReplayed mode x.0 y.0 u) y.2 in
-    replayed mode left right stimulus x.0 y.0 z.0 x.1 y.1 z.1 z.2 f found
+    replayed report mode left right stimulus x.0 y.0 z.0 x.1 y.1 z.1 z.2 f found

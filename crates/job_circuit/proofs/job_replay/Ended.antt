@@ -1,21 +1,12 @@
 -- How the parts of a replay in a mode end.
-use Rattle.std.proofs.Common.{◌≡◌, ◌∙◌, ℕ, Bool, List, Result, Ok, Err, length, sym, subst}
+use Rattle.std.proofs.Common.{ℕ, Bool, List, Err, sym, subst}
 use Rattle.circuit_theory.specs.declared.Mode.{Mode}
 use Rattle.circuit_theory.specs.declared.Side.TheVariants.{A, B}
 use Rattle.flat_net.specs.View.{NetView}
-use Rattle.signal_graph.specs.declared.inner_cone.latch_cone.kinds.LatchKind.{LatchKind}
-use Rattle.signal_graph.specs.inner_cone.latch_cone.Cones.{MarksEnabled}
 use Rattle.latch_kinds.specs.declared.kinds.KindsError.TheVariants as kinds_error
-use Rattle.latch_kinds.specs.Found.{FoundIn}
-use Rattle.sec_setup.specs.Matching.{InterfacesMatch}
-use Rattle.cycle_sim.specs.declared.pair_runs.differences.Difference.{Difference}
-use Rattle.job_circuit.specs.declared.replay.replay_header.error.ReplayError.{ReplayError}
-use Rattle.job_circuit.specs.declared.replay.replay_header.error.ReplayError.TheVariants as replay_error
-use Rattle.job_circuit.specs.replay.Replay.{Replays}
-use Rattle.circuit_report.proofs.graph_report.Ended.{kinds_are}
 use Rattle.job_circuit.specs.declared.job_replay.fault.ReplayFault.{ReplayFault}
 use Rattle.job_circuit.specs.declared.job_replay.fault.ReplayFault.TheVariants as fault
-use Rattle.job_circuit.specs.job_replay.Modes.{fault_of, Matches, AreKnown, HasBits, KnowsEnabled, AreUnknown, AreBothKnown, ReplaysMatching, ReplaysIn}
+use Rattle.job_circuit.specs.job_replay.Modes.{AreKnown, KnowsEnabled, AreUnknown, ReplaysMatching}
 
 -- what A's latches are isn't known
 pub left_unknown : (mode : Mode) (a b : NetView) (header : List (List ℕ)) (rows : List (List Bool)) (e : ReplayFault) → KnowsEnabled mode A a (Err e) → ReplaysMatching mode a b header rows (Err e)

@@ -1,4 +1,4 @@
--- The differences where the header fits, by the table of its names and that of the opened latches.
+-- What both nets show where the header fits, by the table of its names and that of the opened latches.
 use Rattle.std.proofs.Common.{◌≡◌, ◌∙◌, ℕ, Bool, List, [], Result, Ok, Err, length, sym, ap, subst}
 use Rattle.std.specs.Prelude.{IfOk}
 use Rattle.std.specs.List.{All}
@@ -9,7 +9,7 @@ use Rattle.flat_net.specs.Sound.{IsSound}
 use Rattle.flat_net.specs.View.{NetView, circuit_of}
 use Rattle.signal_graph.specs.inner_cone.latch_cone.Cones.{MarksEnabled}
 use Rattle.sec_setup.specs.Matching.{InterfacesMatch}
-use Rattle.cycle_sim.specs.declared.pair_runs.differences.Difference.{Difference}
+use Rattle.cycle_sim.specs.declared.pair_runs.differences.Replayed.{Replayed}
 use Rattle.cycle_sim.specs.declared.pair_runs.differences.OutputPair.{OutputPair}
 use Rattle.cycle_sim.specs.pair_runs.Feeds.{AreFound}
 use Rattle.cycle_sim.specs.pair_runs.Showing.{ArePlacesOf}
@@ -43,14 +43,14 @@ names_of_left a b header names fits is = subst (AreNamesOf a) (sym is) (opened_l
 pub names_of_right : (a b : NetView) (header names : List (List ℕ)) → FitsBoth a b header → names ≡ opened a b header → AreNamesOf b names
 names_of_right a b header names fits is = subst (AreNamesOf b) (sym is) (opened_latches a b header fits).1
 
--- the differences of the cut nets are those of the replay
+-- what the cut nets show is what the circuits show
 pub fitting : (mode : Mode) (a b : NetView) → IsSound a → IsSound b → HasDistinctNames (circuit_of a) → HasDistinctNames (circuit_of b) → (header table names : List (List ℕ)) (rows : List (List Bool)) → All (λ row. length row ≡ length header) rows → AreDistinct header →
     InterfacesMatch a b → table ≡ header → FitsBoth a b table → names ≡ opened a b table → (enabled_a enabled_b : List Bool) → MarksEnabled mode a enabled_a → MarksEnabled mode b enabled_b →
     (m k : NetView) → IsSound m → IsSound k → (bits_m bits_k : List Bool) → IsCutSide a enabled_a names m bits_m → IsCutSide b enabled_b names k bits_k → (pairs : List OutputPair) → ArePairsAt a b names pairs →
-    (differences : List Difference) → AreFound m bits_m k bits_k pairs header rows differences → IsReplay mode a b header rows differences
-fitting mode a b sa sb na nb header table names rows wide once matches same fits named enabled_a enabled_b marks_a marks_b m k sm sk bits_m bits_k side_a side_b pairs at differences found =
+    (replayed : Replayed) → AreFound m bits_m k bits_k pairs header rows replayed → IsReplay mode a b header rows replayed
+fitting mode a b sa sb na nb header table names rows wide once matches same fits named enabled_a enabled_b marks_a marks_b m k sm sk bits_m bits_k side_a side_b pairs at replayed found =
     is_replay mode a b sa sb na nb header rows wide once matches (subst (FitsBoth a b) same fits) enabled_a enabled_b marks_a marks_b m k sm sk bits_m bits_k (subst (λ (ns : List (List ℕ)). IsCutSide a enabled_a ns m bits_m) e side_a)
-    (subst (λ (ns : List (List ℕ)). IsCutSide b enabled_b ns k bits_k) e side_b) pairs (subst (λ (ns : List (List ℕ)). ArePairsAt a b ns pairs) e at) differences found
+    (subst (λ (ns : List (List ℕ)). IsCutSide b enabled_b ns k bits_k) e side_b) pairs (subst (λ (ns : List (List ℕ)). ArePairsAt a b ns pairs) e at) replayed found
   where
     e : names ≡ opened a b header
     e = named ∙ ap (opened a b) same

@@ -1,4 +1,4 @@
--- The differences of the cut nets are those of the circuits.
+-- The differences of the cut nets are those of the circuits, and their pairs are settled since the same cycles.
 use Rattle.std.proofs.Common.{◌≡◌, ℕ, ◌<◌, Bool, List, map, length, slice_get, Some, sym, ◌∙◌, ap, subst}
 use Rattle.std.specs.List.{All}
 use Rattle.std.proofs.lemmas.Option.{get_or_from_slice_get}
@@ -6,6 +6,7 @@ use Rattle.circuit_theory.specs.declared.Mode.{Mode}
 use Rattle.circuit_theory.specs.Agree.{cut, PairAt}
 use Rattle.circuit_theory.specs.Net.{HasDistinctNames}
 use Rattle.circuit_theory.proofs.Lists.{length-map, map-map, map_at}
+use Rattle.circuit_theory.proofs.Numbers.{slice_get-map}
 use Rattle.base_tables.specs.Table.{AreDistinct}
 use Rattle.flat_net.specs.Sound.{IsSound}
 use Rattle.flat_net.specs.View.{NetView, circuit_of}
@@ -13,7 +14,8 @@ use Rattle.flat_net.proofs.Nets.{some_at}
 use Rattle.signal_graph.specs.inner_cone.latch_cone.Cones.{MarksEnabled}
 use Rattle.sec_setup.specs.Matching.{InterfacesMatch}
 use Rattle.sec_setup.specs.ports.Pairs.{NamedPair, named_pairs}
-use Rattle.cycle_sim.specs.declared.pair_runs.differences.Difference.{Difference}
+use Rattle.cycle_sim.specs.declared.pair_runs.differences.Replayed.{Replayed}
+use Rattle.cycle_sim.specs.declared.pair_runs.differences.Settling.{Settling}
 use Rattle.cycle_sim.specs.declared.pair_runs.differences.OutputPair.{OutputPair}
 use Rattle.cycle_sim.specs.declared.pair_runs.shown.Shown.{Shown}
 use Rattle.cycle_sim.specs.pair_runs.Feeds.{AreFound, IsShownAt}
@@ -26,6 +28,7 @@ use Rattle.job_circuit.specs.replay.cut_sides.Opening.{IsCutSide}
 use Rattle.job_circuit.specs.replay.Replay.{IsReplayRun, IsReplay, places_of}
 use Rattle.job_circuit.proofs.replay.Existing.{run_over}
 use Rattle.job_circuit.proofs.replay.Differ.{IsRight, AreRight, are_differences}
+use Rattle.job_circuit.proofs.replay.SettledPairs.{settled_from}
 use Rattle.job_circuit.proofs.replay.replay_header.Names.{opened_in_header}
 use Rattle.job_circuit.proofs.replay.Names.{left_unread, right_unread}
 use Rattle.job_circuit.proofs.replay.cut_sides.PairPlaces.{places_named, outputs_there}
@@ -35,7 +38,7 @@ module _ (mode : Mode) (a b : NetView) (sound_a : IsSound a) (sound_b : IsSound 
     (header : List (List ℕ)) (rows : List (List Bool)) (wide : All (λ row. length row ≡ length header) rows) (once : AreDistinct header) (matches : InterfacesMatch a b) (fits : FitsBoth a b header)
     (enabled_a enabled_b : List Bool) (marks_a : MarksEnabled mode a enabled_a) (marks_b : MarksEnabled mode b enabled_b)
     (m k : NetView) (sound_m : IsSound m) (sound_k : IsSound k) (bits_m bits_k : List Bool) (side_a : IsCutSide a enabled_a (opened a b header) m bits_m) (side_b : IsCutSide b enabled_b (opened a b header) k bits_k)
-    (pairs : List OutputPair) (at : ArePairsAt a b (opened a b header) pairs) (differences : List Difference) (found : AreFound m bits_m k bits_k pairs header rows differences) where
+    (pairs : List OutputPair) (at : ArePairsAt a b (opened a b header) pairs) (replayed : Replayed) (found : AreFound m bits_m k bits_k pairs header rows replayed) where
   abbrev names : List (List ℕ)
   names = opened a b header
 
@@ -93,13 +96,26 @@ module _ (mode : Mode) (a b : NetView) (sound_a : IsSound a) (sound_b : IsSound 
               (pair_right t p.0 s (there.left j p.0 p.1) (there.right j p.0 p.1) (are.right_is j p.0 s p.1 at_s));
         }
 
-  pub is_replay : IsReplay mode a b header rows differences
+  -- the pairs of each cycle, in every two runs over the stimulus
+  pairs_right : (left right : ℕ → ℕ → Bool) → IsReplayRun (cut names (circuit_of a)) header rows left → IsReplayRun (cut names (circuit_of b)) header rows right → (t : ℕ) (shown : List Shown) → slice_get found.puts.cycles t ≡ Some shown →
+      AreRight mode (cut names (circuit_of a)) (cut names (circuit_of b)) (map places_of (named_pairs names (circuit_of a) (circuit_of b))) left right t shown
+  pairs_right left right over_a over_b t shown here =
+      subst (λ (ps : List (PairAt ℕ ℕ)). AreRight mode (cut names (circuit_of a)) (cut names (circuit_of b)) ps left right t shown) (sym places) (all_right left right over_a over_b t shown here)
+
+  pub is_replay : IsReplay mode a b header rows replayed
   is_replay = record {
-    found = differences_from 0 found.puts.cycles;
-    named = found.puts.found_is ∙ ap (λ ns. map (called ns) (differences_from 0 found.puts.cycles)) names_are;
-    right_is = λ left right over_a over_b.
-        are_differences mode (cut names (circuit_of a)) (cut names (circuit_of b)) (map places_of (named_pairs names (circuit_of a) (circuit_of b))) (length rows) left right found.puts.cycles found.puts.each
-        (λ t shown here. subst (λ (ps : List (PairAt ℕ ℕ)). AreRight mode (cut names (circuit_of a)) (cut names (circuit_of b)) ps left right t shown) (sym places) (all_right left right over_a over_b t shown here));
-    left_run = run_over header m sound_m (cut names (circuit_of a)) (one_cut names a m side_a.circuit) found.left_columns found.left_are once rows;
-    right_run = run_over header k sound_k (cut names (circuit_of b)) (one_cut names b k side_b.circuit) found.right_columns found.right_are once rows;
+    differences = record {
+      found = differences_from 0 found.puts.cycles;
+      named = found.puts.found_is ∙ ap (λ ns. map (called ns) (differences_from 0 found.puts.cycles)) names_are;
+      right_is = λ left right over_a over_b.
+          are_differences mode (cut names (circuit_of a)) (cut names (circuit_of b)) (map places_of (named_pairs names (circuit_of a) (circuit_of b))) (length rows) left right found.puts.cycles found.puts.each (pairs_right left right over_a over_b);
+      left_run = run_over header m sound_m (cut names (circuit_of a)) (one_cut names a m side_a.circuit) found.left_columns found.left_are once rows;
+      right_run = run_over header k sound_k (cut names (circuit_of b)) (one_cut names b k side_b.circuit) found.right_columns found.right_are once rows;
+    };
+    settled = record {
+      named = found.named ∙ names_are;
+      right_is = λ left right over_a over_b j pair s at_pair at_s.
+          settled_from mode (cut names (circuit_of a)) (cut names (circuit_of b)) (map places_of (named_pairs names (circuit_of a) (circuit_of b))) (length rows) left right found.puts.cycles found.puts.each (pairs_right left right over_a over_b) j (places_of pair)
+          (slice_get-map places_of (named_pairs names (circuit_of a) (circuit_of b)) j pair at_pair) s.first (found.puts.firsts_are j s.first (slice_get-map (λ (x : Settling). x.first) replayed.settlings j s at_s));
+    };
   }

@@ -11,7 +11,7 @@ use Rattle.latch_kinds.specs.declared.kinds.KindsError.{KindsError}
 use Rattle.latch_kinds.specs.declared.kinds.KindsError.TheVariants as kinds_error
 use Rattle.latch_kinds.specs.Found.{FoundIn}
 use Rattle.sec_setup.specs.Matching.{InterfacesMatch}
-use Rattle.cycle_sim.specs.declared.pair_runs.differences.Difference.{Difference}
+use Rattle.cycle_sim.specs.declared.pair_runs.differences.Replayed.{Replayed}
 use Rattle.job_circuit.specs.declared.replay.replay_header.error.ReplayError.{ReplayError}
 use Rattle.job_circuit.specs.declared.replay.replay_header.error.ReplayError.TheVariants as replay_error
 use Rattle.job_circuit.specs.replay.replay_header.Header.{FitsBoth, FitsOr}
@@ -60,15 +60,15 @@ AreUnknown mode a b B error = AreKnown mode a × IsUnknown mode b error
 abbrev pub AreBothKnown : Mode → NetView → NetView → Type 0
 AreBothKnown mode a b = AreKnown mode a × AreKnown mode b
 
--- it is known what the latches of both nets are, the header fits both, and these are the differences of the replay
-pub record ShowsReplay (mode : Mode) (a b : NetView) (header : List (List ℕ)) (rows : List (List Bool)) (differences : List Difference) : Type 0 where
+-- it is known what the latches of both nets are, the header fits both, and this is what both show
+pub record ShowsReplay (mode : Mode) (a b : NetView) (header : List (List ℕ)) (rows : List (List Bool)) (replayed : Replayed) : Type 0 where
   pub known : AreBothKnown mode a b
   pub fits : FitsBoth a b header
-  pub are : IsReplay mode a b header rows differences
+  pub are : IsReplay mode a b header rows replayed
 
--- the differences, or why there are none, where the interfaces match
-abbrev pub ReplaysMatching : Mode → NetView → NetView → List (List ℕ) → List (List Bool) → Result (List Difference) ReplayFault → Type 0
-ReplaysMatching mode a b header rows (Ok differences) = ShowsReplay mode a b header rows differences
+-- what both nets show, or why that isn't known, where the interfaces match
+abbrev pub ReplaysMatching : Mode → NetView → NetView → List (List ℕ) → List (List Bool) → Result Replayed ReplayFault → Type 0
+ReplaysMatching mode a b header rows (Ok replayed) = ShowsReplay mode a b header rows replayed
 ReplaysMatching mode a b header rows (Err (fault.Interface name)) = ⊥
 ReplaysMatching mode a b header rows (Err (fault.TooLarge side)) = AreUnknown mode a b side kinds_error.TooLarge
 ReplaysMatching mode a b header rows (Err (fault.Limit side name proof)) = AreUnknown mode a b side (kinds_error.Limit name proof)
@@ -77,7 +77,7 @@ ReplaysMatching mode a b header rows (Err (fault.Missing name)) = AreBothKnown m
 ReplaysMatching mode a b header rows (Err fault.NoMemory) = Unit {0}
 
 -- the same where the interfaces are matched before
-abbrev pub ReplaysIn : Mode → NetView → NetView → List (List ℕ) → List (List Bool) → Result (List Difference) ReplayFault → Type 0
+abbrev pub ReplaysIn : Mode → NetView → NetView → List (List ℕ) → List (List Bool) → Result Replayed ReplayFault → Type 0
 ReplaysIn mode a b header rows (Err (fault.Interface name)) = first_mismatch (ports_of a) (ports_of b) ≡ Some name
 ReplaysIn mode a b header rows (Err fault.NoMemory) = Unit {0}
 ReplaysIn mode a b header rows found = InterfacesMatch a b × ReplaysMatching mode a b header rows found

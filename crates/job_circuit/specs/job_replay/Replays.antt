@@ -1,5 +1,5 @@
 -- What is true where a replay of two circuits ends as it does. A text is given where it is told.
-use Rattle.std.specs.Prelude.{◌≡◌, ◌≢◌, ℕ, Bool, List, [], ◌∷◌, Option, Ok, Err, IfSome, IsSomeAnd}
+use Rattle.std.specs.Prelude.{◌≡◌, ℕ, Bool, List, [], ◌∷◌, length, Option, Ok, Err, IfSome, IsSomeAnd}
 use Rattle.circuit_theory.specs.declared.Mode.{Mode}
 use Rattle.circuit_theory.specs.declared.Mode.TheVariants.{Event}
 use Rattle.circuit_theory.specs.declared.Side.{Side}
@@ -10,14 +10,17 @@ use Rattle.sec_setup.specs.Matching.{InterfacesMatch}
 use Rattle.circuit_report.specs.declared.sim_report.refusal.Misfit.TheVariants as misfit
 use Rattle.circuit_report.specs.graph_report.Jobs.{AreLightIn}
 use Rattle.latch_kinds.specs.declared.kinds.KindsError.TheVariants as kinds_error
-use Rattle.cycle_sim.specs.declared.pair_runs.differences.Difference.{Difference}
+use Rattle.cycle_sim.specs.declared.pair_runs.differences.Replayed.{Replayed}
 use Rattle.job_circuit.specs.replay.replay_header.Header.{FitsBoth}
-use Rattle.cycle_sim.specs.pair_runs.replay_report.Report.{replay_text}
 use Rattle.job_circuit.specs.declared.job_replay.fault.ReplayFault.TheVariants as fault
+use Rattle.job_circuit.specs.declared.job_replay.replays.ReplayReport.{ReplayReport}
+use Rattle.job_circuit.specs.declared.job_replay.replays.ReplayReport.TheVariants as told
 use Rattle.job_circuit.specs.job_replay.Modes.{AreUnknown, ShowsReplay, ReplaysIn}
+use Rattle.job_circuit.specs.job_replay.Told.{finding_of, FindsIn}
 use Rattle.job_base.specs.sec_files.Loading.{IsAccepted, Loads, IsTooLong, HasFault, HasDesignFault, HasRecordFault}
 use Rattle.job_base.specs.sec_files.Stimuli.{IsStimulus, HasBadHeader, HasBadRow}
-use Rattle.job_base.specs.Lines.{undecided_text}
+use Rattle.job_base.specs.Lines.{undecided_text, finding_text}
+use Rattle.job_base.specs.Written.{status_of}
 use Rattle.job_base.specs.declared.status.StatusName.{StatusName}
 use Rattle.job_base.specs.declared.status.StatusName.TheVariants as status
 use Rattle.job_base.specs.declared.finding.File.{File}
@@ -77,26 +80,19 @@ IsReplayRefusal mode left right stimulus refusal.Vacuous = ⊥
 IsReplayRefusal mode left right stimulus (refusal.Pair name) = ⊥
 
 -- what is found where a replay is asked for
-abbrev pub IsReplayFound : Mode → Option (List ℕ) → Option (List ℕ) → Option (List ℕ) → Finding → Type 0
-IsReplayFound mode left right stimulus (finding.Replayed differences) = OfReplay left right stimulus (λ a b names rows. ReplaysIn mode a b names rows (Ok differences))
-IsReplayFound mode left right stimulus (finding.Refused r) = IsReplayRefusal mode left right stimulus r
-IsReplayFound mode left right stimulus (finding.Undecided side name proof) = OfReplay left right stimulus (λ a b names rows. ReplaysIn mode a b names rows (Err (fault.Limit side name proof)))
-IsReplayFound mode left right stimulus other = ⊥
+abbrev pub IsReplayFound : ReplayReport → Mode → Option (List ℕ) → Option (List ℕ) → Option (List ℕ) → Finding → Type 0
+IsReplayFound report mode left right stimulus (finding.Refused r) = IsReplayRefusal mode left right stimulus r
+IsReplayFound report mode left right stimulus (finding.Undecided side name proof) = OfReplay left right stimulus (λ a b names rows. ReplaysIn mode a b names rows (Err (fault.Limit side name proof)))
+IsReplayFound report mode left right stimulus f = OfReplay left right stimulus (λ a b names rows. FindsIn report mode a b names rows (Ok f))
 
--- the interfaces of both nets match, and these are the differences of the replay
-abbrev pub ShowsDifferences : Mode → List Difference → NetView → NetView → List (List ℕ) → List (List Bool) → Type 0
-ShowsDifferences mode differences a b names rows = InterfacesMatch a b × ShowsReplay mode a b names rows differences
+-- the finding has this status, and its whole report is taken
+abbrev pub IsToldAs : StatusName → Option (List ℕ) → Option (List ℕ) → Finding → Type 0
+IsToldAs name before now f = (status_of f ≡ name) × Takes before now (finding_text f)
 
--- the whole report of a replay without a difference is taken
-abbrev pub TakesSame : Mode → Option (List ℕ) → Option (List ℕ) → Option (List ℕ) → Option (List ℕ) → Option (List ℕ) → Type 0
-TakesSame mode left right stimulus before now = OfReplay left right stimulus (ShowsDifferences mode []) × Takes before now (replay_text [])
-
--- the whole report of a replay with differences is taken
-pub record TakesDifferences (mode : Mode) (left right stimulus before now : Option (List ℕ)) : Type 0 where
-  pub differences : List Difference
-  pub some : differences ≢ []
-  pub shown : OfReplay left right stimulus (ShowsDifferences mode differences)
-  pub printed : Takes before now (replay_text differences)
+-- The interfaces of both nets match, and what is told of them as it was asked for, by what they show, is taken whole and has this status.
+pub record TakesReplay (report : ReplayReport) (mode : Mode) (left right stimulus before now : Option (List ℕ)) (name : StatusName) : Type 0 where
+  pub replayed : Replayed
+  pub shown : OfReplay left right stimulus (λ a b names rows. InterfacesMatch a b × ShowsReplay mode a b names rows replayed × IsToldAs name before now (finding_of report (length rows) replayed))
 
 -- the report names a latch of a circuit, and the one proof shows that its query has met the limit, those of the latches before it being
 -- decided
@@ -125,24 +121,34 @@ pub record CanBeReplayed (mode : Mode) (x y z : List ℕ) : Type 0 where
 abbrev pub CanReplay : Mode → Option (List ℕ) → Option (List ℕ) → Option (List ℕ) → Type 0
 CanReplay mode left right stimulus = IsSomeAnd left (λ x. IsSomeAnd right (λ y. IsSomeAnd stimulus (λ z. CanBeReplayed mode x y z)))
 
--- a replay is done, with a difference or without, or want of memory; in the event mode also a query has met the limit
-abbrev pub IsReplayed : Mode → StatusName → Type 0
-IsReplayed mode status.Equal = Unit {0}
-IsReplayed mode status.Different = Unit {0}
-IsReplayed mode status.NoMemory = Unit {0}
-IsReplayed mode status.Limit = mode ≡ Event
-IsReplayed mode other = ⊥
+-- the statuses by what is to be told: whether there is a difference, and whether a pair is settled; or the report is done
+abbrev pub IsStatusOf : ReplayReport → StatusName → Type 0
+IsStatusOf told.Differences status.Equal = Unit {0}
+IsStatusOf told.Differences status.Different = Unit {0}
+IsStatusOf told.Differences other = ⊥
+IsStatusOf told.DifferencesAndSettled status.Equal = Unit {0}
+IsStatusOf told.DifferencesAndSettled status.Different = Unit {0}
+IsStatusOf told.DifferencesAndSettled status.NotShown = Unit {0}
+IsStatusOf told.DifferencesAndSettled other = ⊥
+IsStatusOf told.Settled status.Done = Unit {0}
+IsStatusOf told.Settled other = ⊥
 
--- What the status of a replay says: its report is taken whole, and it has no difference, or some; or the limit of a query is told in its
--- place.
-abbrev pub ReplayMeans : Mode → Option (List ℕ) → Option (List ℕ) → Option (List ℕ) → Option (List ℕ) → Option (List ℕ) → List Proof → StatusName → Type 0
-ReplayMeans mode left right stimulus before now proofs status.Equal = TakesSame mode left right stimulus before now
-ReplayMeans mode left right stimulus before now proofs status.Different = TakesDifferences mode left right stimulus before now
-ReplayMeans mode left right stimulus before now proofs status.NotShown = ⊥
-ReplayMeans mode left right stimulus before now proofs status.Limit = TakesReplayLimit mode left right stimulus proofs before now
-ReplayMeans mode left right stimulus before now proofs status.Done = ⊥
-ReplayMeans mode left right stimulus before now proofs other = Unit {0}
+-- a replay is reported, or want of memory; in the event mode also a query has met the limit
+abbrev pub IsReplayed : ReplayReport → Mode → StatusName → Type 0
+IsReplayed report mode status.NoMemory = Unit {0}
+IsReplayed report mode status.Limit = mode ≡ Event
+IsReplayed report mode other = IsStatusOf report other
+
+-- What the status of a replay says: its report is taken whole, and the status is that of what both circuits show; or the limit of a query
+-- is told in its place.
+abbrev pub ReplayMeans : ReplayReport → Mode → Option (List ℕ) → Option (List ℕ) → Option (List ℕ) → Option (List ℕ) → Option (List ℕ) → List Proof → StatusName → Type 0
+ReplayMeans report mode left right stimulus before now proofs status.Equal = TakesReplay report mode left right stimulus before now status.Equal
+ReplayMeans report mode left right stimulus before now proofs status.Different = TakesReplay report mode left right stimulus before now status.Different
+ReplayMeans report mode left right stimulus before now proofs status.NotShown = TakesReplay report mode left right stimulus before now status.NotShown
+ReplayMeans report mode left right stimulus before now proofs status.Done = TakesReplay report mode left right stimulus before now status.Done
+ReplayMeans report mode left right stimulus before now proofs status.Limit = TakesReplayLimit mode left right stimulus proofs before now
+ReplayMeans report mode left right stimulus before now proofs other = Unit {0}
 
 -- where the circuits can be replayed, they are, if no read and no write fails
-abbrev pub IsReplayComplete : Mode → Option (List ℕ) → Option (List ℕ) → Option (List ℕ) → StatusName → Type 0
-IsReplayComplete mode left right stimulus name = CanReplay mode left right stimulus → IsReplayed mode name
+abbrev pub IsReplayComplete : ReplayReport → Mode → Option (List ℕ) → Option (List ℕ) → Option (List ℕ) → StatusName → Type 0
+IsReplayComplete report mode left right stimulus name = CanReplay mode left right stimulus → IsReplayed report mode name

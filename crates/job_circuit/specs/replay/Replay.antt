@@ -1,10 +1,10 @@
--- The differences of two circuits on a stimulus.
-use Rattle.std.specs.Prelude.{◌≡◌, ◌<◌, ◌^◌, ℕ, Bool, false, List, map, length, slice_get, Some, Result, Ok, Err, IfOk}
+-- The differences of two circuits on a stimulus, and since when their pairs are settled.
+use Rattle.std.specs.Prelude.{◌≡◌, ◌<◌, ◌≤◌, ◌^◌, ◌↔◌, ℕ, Bool, false, List, map, length, slice_get, Option, Some, None, Result, Ok, Err, IfOk}
 use Rattle.std.specs.List.{Contains}
 use Rattle.circuit_theory.specs.declared.Mode.{Mode}
 use Rattle.circuit_theory.specs.Circuit.{Circuit, IsLatch}
 use Rattle.circuit_theory.specs.Run.{IsRun}
-use Rattle.circuit_theory.specs.Agree.{cut, PairAt}
+use Rattle.circuit_theory.specs.Agree.{cut, PairAt, IsSettled}
 use Rattle.circuit_theory.specs.Replay.{AreDifferences, Difference as PlacedDifference}
 use Rattle.flat_net.specs.View.{NetView, circuit_of}
 use Rattle.flat_net.specs.declared.parts.Port.{Port}
@@ -14,7 +14,8 @@ use Rattle.sec_base.specs.NoMemory.{NoMemory}
 use Rattle.sec_setup.specs.Matching.{InterfacesMatch}
 use Rattle.sec_setup.specs.ports.Pairs.{NamedPair, named_pairs}
 use Rattle.cycle_sim.specs.declared.pair_runs.differences.Difference.{Difference}
-use Rattle.job_circuit.specs.declared.replay.differences.Replayed.{Replayed}
+use Rattle.cycle_sim.specs.declared.pair_runs.differences.Replayed.{Replayed}
+use Rattle.cycle_sim.specs.declared.pair_runs.differences.Settling.{Settling}
 use Rattle.job_circuit.specs.declared.replay.replay_header.error.ReplayError.{ReplayError}
 use Rattle.job_circuit.specs.declared.replay.replay_header.error.ReplayError.TheVariants as refused
 use Rattle.job_circuit.specs.replay.replay_header.Header.{FitsBoth, FitsOr, opened}
@@ -42,13 +43,31 @@ pub record AreReplayed {P Q : Type 0} (mode : Mode) (names : List (List ℕ)) (a
   pub left_run : (run : ℕ → P → Bool) × IsReplayRun (cut names a) header rows run
   pub right_run : (run : ℕ → Q → Bool) × IsReplayRun (cut names b) header rows run
 
--- the differences of two nets, where the header fits both: the latches that it names are cut open
-abbrev pub IsReplay : Mode → NetView → NetView → List (List ℕ) → List (List Bool) → List Difference → Type 0
-IsReplay mode a b header rows differences = AreReplayed mode (opened a b header) (circuit_of a) (circuit_of b) header rows differences
+-- the pair is settled in both runs
+abbrev pub AreBothSettled : {P Q : Type 0} → Mode → Circuit P → Circuit Q → (ℕ → P → Bool) → (ℕ → Q → Bool) → PairAt P Q → ℕ → Type 0
+AreBothSettled mode a b left right pair t = IsSettled mode a left t pair.left × IsSettled mode b right t pair.right
 
--- the differences, or the first name that doesn't fit
+-- Of n cycles this is the first in which the pair is settled in both runs, and it is so from there on; none where it is so in no cycle.
+abbrev pub IsSettledFrom : {P Q : Type 0} → Mode → Circuit P → Circuit Q → ℕ → (ℕ → P → Bool) → (ℕ → Q → Bool) → PairAt P Q → Option ℕ → Type 0
+IsSettledFrom mode a b n left right pair None = (t : ℕ) → t < n → AreBothSettled mode a b left right pair t → ⊥
+IsSettledFrom mode a b n left right pair (Some first) = (first < n) × ((t : ℕ) → t < n → AreBothSettled mode a b left right pair t ↔ (first ≤ t))
+
+-- Since when the pairs of two circuits are settled, in which the latches of these names are cut open: each pair by its name, in order, and
+-- from which cycle on it is settled in both, in any two runs over the stimulus.
+pub record AreSettled {P Q : Type 0} (mode : Mode) (names : List (List ℕ)) (a : Circuit P) (b : Circuit Q) (header : List (List ℕ)) (rows : List (List Bool)) (settlings : List Settling) : Type 0 where
+  pub named : map (λ (s : Settling). s.pair) settlings ≡ map (λ (pair : NamedPair P Q). pair.name) (named_pairs names a b)
+  pub right_is : (left : ℕ → P → Bool) (right : ℕ → Q → Bool) → IsReplayRun (cut names a) header rows left → IsReplayRun (cut names b) header rows right →
+      (j : ℕ) (pair : NamedPair P Q) (s : Settling) → slice_get (named_pairs names a b) j ≡ Some pair → slice_get settlings j ≡ Some s →
+      IsSettledFrom mode (cut names a) (cut names b) (length rows) left right (places_of pair) s.first
+
+-- what two nets show, where the header fits both: the latches that it names are cut open
+pub record IsReplay (mode : Mode) (a b : NetView) (header : List (List ℕ)) (rows : List (List Bool)) (replayed : Replayed) : Type 0 where
+  pub differences : AreReplayed mode (opened a b header) (circuit_of a) (circuit_of b) header rows replayed.differences
+  pub settled : AreSettled mode (opened a b header) (circuit_of a) (circuit_of b) header rows replayed.settlings
+
+-- what they show, or the first name that doesn't fit
 abbrev pub Replays : Mode → NetView → NetView → List (List ℕ) → List (List Bool) → Result Replayed ReplayError → Type 0
-Replays mode a b header rows (Ok replayed) = FitsBoth a b header × IsReplay mode a b header rows replayed.differences
+Replays mode a b header rows (Ok replayed) = FitsBoth a b header × IsReplay mode a b header rows replayed
 Replays mode a b header rows (Err refused.NoMemory) = Unit {0}
 Replays mode a b header rows (Err (refused.Unknown name)) = FitsOr a b header (Err (refused.Unknown name))
 Replays mode a b header rows (Err (refused.Missing name)) = FitsOr a b header (Err (refused.Missing name))
@@ -64,6 +83,6 @@ pub record IsFitting (a b : NetView) (enabled_a enabled_b : List Bool) (table na
   pub named : names ≡ opened a b table
   pub few : length rows < 2 ^ 32
 
--- the differences that are found are those of each mode whose enabled latches are marked
-abbrev pub FindsReplay : NetView → NetView → List Bool → List Bool → List (List ℕ) → List (List Bool) → Result (List Difference) NoMemory → Type 0
+-- what is found is what both nets show in each mode whose enabled latches are marked
+abbrev pub FindsReplay : NetView → NetView → List Bool → List Bool → List (List ℕ) → List (List Bool) → Result Replayed NoMemory → Type 0
 FindsReplay a b enabled_a enabled_b header rows found = (mode : Mode) → MarksEnabled mode a enabled_a → MarksEnabled mode b enabled_b → IfOk found (IsReplay mode a b header rows)

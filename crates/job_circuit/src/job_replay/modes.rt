@@ -6,7 +6,7 @@ ghost use Rattle.sec_setup.specs.Matching.{InterfacesMatch};
 ghost use Rattle.job_circuit.specs.job_replay.Modes.{Matches, KnowsEnabled, ReplaysMatching, ReplaysIn};
 
 use crate::job_replay::fault::ReplayFault;
-use crate::replay::{Differences, replay};
+use crate::replay::{Replayed, replay};
 use circuit_theory::Mode;
 use flat_net::Net;
 use latch_kinds::{KindsError, kinds_in};
@@ -43,14 +43,14 @@ fn enabled_in(alloc: Global, net: &Net, side: Side, mode: Mode) -> Result<Bits, 
     }
 }
 
-/// The differences of both circuits on the stimulus in the mode, where their interfaces match.
+/// What both circuits show on the stimulus in the mode, where their interfaces match.
 fn replay_matching(
     alloc: Global,
     a: &Net,
     b: &Net,
     stimulus: &Stimulus,
     mode: Mode,
-) -> Result<Differences, ReplayFault>
+) -> Result<Replayed, ReplayFault>
     requires right { IsComparable b.now }
     requires matches { InterfacesMatch a.now b.now }
     requires few { length stimulus.now.rows < 2 ^ 32 }
@@ -58,12 +58,11 @@ fn replay_matching(
 {
     let left = enabled_in(alloc, a, Side::A, mode)?;
     let right = enabled_in(alloc, b, Side::B, mode)?;
-    let replayed = replay(alloc, a, b, &left, &right, stimulus)?;
-    Ok(replayed.differences)
+    Ok(replay(alloc, a, b, &left, &right, stimulus)?)
 }
 
-/// The differences of both circuits on the stimulus in the mode, where both power up with zeros: by cycle and then by pair. It refuses,
-/// in this order: interfaces that don't match; a latch of A of which it isn't known whether it has a load enable, then one of B; a name
+/// The differences of both circuits on the stimulus in the mode, where both power up with zeros: by cycle and then by pair; and since
+/// when each pair is settled in both. It refuses, in this order: interfaces that don't match; a latch of A of which it isn't known whether it has a load enable, then one of B; a name
 /// of the stimulus that is unknown, then a shared input that it lacks.
 pub fn replay_in(
     alloc: Global,
@@ -71,7 +70,7 @@ pub fn replay_in(
     b: &Net,
     stimulus: &Stimulus,
     mode: Mode,
-) -> Result<Differences, ReplayFault>
+) -> Result<Replayed, ReplayFault>
     requires left { IsComparable a.now }
     requires right { IsComparable b.now }
     requires few { length stimulus.now.rows < 2 ^ 32 }

@@ -8,10 +8,9 @@ ghost use Rattle.sec_setup.specs.Matching.{InterfacesMatch};
 ghost use Rattle.job_circuit.specs.replay.Replay.{Replays, IsFitting, FindsReplay};
 
 use crate::replay::cut_sides::{cut_side, pairs_of};
-use crate::replay::differences::Replayed;
 use crate::replay::replay_header::{ReplayError, opened_by};
 use base_tables::NameTable;
-use cycle_sim::pair_runs::{Differences, Side, run_pairs};
+use cycle_sim::pair_runs::{Replayed, Side, run_pairs};
 use flat_net::Net;
 use sec_base::{Bits, NoMemory};
 use sec_setup::ports::name_tables::table_of_names;
@@ -19,7 +18,7 @@ use std::alloc::Global;
 use witness_report::Stimulus;
 
 /// The differences that two circuits show on a stimulus, where both power up with zeros: by cycle and then by pair, each pair that is
-/// settled in both and differs. The names of the stimulus that are no inputs are those of latches of both circuits, which are cut
+/// settled in both and differs. And of each pair, in order, the first cycle in which it is settled in both. The names of the stimulus that are no inputs are those of latches of both circuits, which are cut
 /// open: each takes its values from the stimulus, and what it takes over is compared behind the outputs. The latches whose bits are
 /// set count as enabled; the differences are those of each mode whose enabled latches are exactly these. First a name is refused
 /// that is neither an input of one of the circuits nor a latch of both, then an input of both that the stimulus lacks. An input that
@@ -50,11 +49,11 @@ pub fn replay(
         net: b,
         enabled: enabled_b,
     };
-    let differences = replay_fitting(alloc, &left, &right, &names, &header, stimulus)?;
-    Ok(Replayed { differences })
+    let replayed = replay_fitting(alloc, &left, &right, &names, &header, stimulus)?;
+    Ok(replayed)
 }
 
-/// The differences, where the header fits both circuits, and these are the latches that it names.
+/// What both circuits show, where the header fits both, and these are the latches that it names.
 fn replay_fitting(
     alloc: Global,
     a: &Side<'_>,
@@ -62,7 +61,7 @@ fn replay_fitting(
     names: &NameTable,
     header: &NameTable,
     stimulus: &Stimulus,
-) -> Result<Differences, NoMemory>
+) -> Result<Replayed, NoMemory>
     requires { IsFitting a.now.net.now b.now.net.now a.now.enabled.now b.now.enabled.now header.now names.now stimulus.now.names stimulus.now.rows }
     ensures { FindsReplay a.now.net.now b.now.net.now a.now.enabled.now b.now.enabled.now stimulus.now.names stimulus.now.rows result }
 {
@@ -80,7 +79,7 @@ fn replay_whole(
     names: &NameTable,
     header: &NameTable,
     stimulus: &Stimulus,
-) -> Result<Differences, NoMemory>
+) -> Result<Replayed, NoMemory>
     requires none { length names.now ≡ 0 }
     requires fitting { IsFitting a.now.net.now b.now.net.now a.now.enabled.now b.now.enabled.now header.now names.now stimulus.now.names stimulus.now.rows }
     ensures { FindsReplay a.now.net.now b.now.net.now a.now.enabled.now b.now.enabled.now stimulus.now.names stimulus.now.rows result }
@@ -99,7 +98,7 @@ fn replay_cut(
     names: &NameTable,
     header: &NameTable,
     stimulus: &Stimulus,
-) -> Result<Differences, NoMemory>
+) -> Result<Replayed, NoMemory>
     requires { IsFitting a.now.net.now b.now.net.now a.now.enabled.now b.now.enabled.now header.now names.now stimulus.now.names stimulus.now.rows }
     ensures { FindsReplay a.now.net.now b.now.net.now a.now.enabled.now b.now.enabled.now stimulus.now.names stimulus.now.rows result }
 {

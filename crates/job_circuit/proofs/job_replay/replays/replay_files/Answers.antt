@@ -8,7 +8,7 @@ use Rattle.job_circuit.proofs.job_replay.replays.replay_files.Goals as goal
 pub returns-in-Ok-clause-found : goal.returns-in-Ok-clause-found
 returns-in-Ok-clause-found g c =
     let r = c.args.replay.now in
-    let job : ReplayJob = record { left = r.left.now; right = r.right.now; stimulus = r.stimulus.now; mode = r.mode } in
+    let job : ReplayJob = record { left = r.left.now; right = r.right.now; stimulus = r.stimulus.now; mode = r.mode; report = r.report } in
     let held = g.S.Shelf.held c.args.shelf.now in
     let before = g.S.Shelf.faults c.args.shelf.now in
     let middle = g.S.Shelf.faults c.load.new.shelf in
@@ -19,7 +19,7 @@ returns-in-Ok-clause-found g c =
 pub returns-in-Err-clause-found : goal.returns-in-Err-clause-found
 returns-in-Err-clause-found g c =
     let r = c.args.replay.now in
-    let job : ReplayJob = record { left = r.left.now; right = r.right.now; stimulus = r.stimulus.now; mode = r.mode } in
+    let job : ReplayJob = record { left = r.left.now; right = r.right.now; stimulus = r.stimulus.now; mode = r.mode; report = r.report } in
     let held = g.S.Shelf.held c.args.shelf.now in
     let before = g.S.Shelf.faults c.args.shelf.now in
     let now = g.S.Shelf.faults c.load.new.shelf in

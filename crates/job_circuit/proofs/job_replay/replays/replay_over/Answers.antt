@@ -7,11 +7,11 @@ use Rattle.job_circuit.proofs.job_replay.TwoCircuits.{no_fault_replayed}
 use Rattle.job_circuit.proofs.job_replay.replays.replay_over.Goals as goal
 
 pub returns-in-Ok-clause-found : goal.returns-in-Ok-clause-found
-returns-in-Ok-clause-found g c = inr (c.in-Ok.stimulus.names, c.in-Ok.stimulus.rows, c.replay_in-replayed.result, c.in-Ok.ensures.ok, c.replay_in-replayed.ensures, c.replay_end.ensures)
+returns-in-Ok-clause-found g c = inr (c.in-Ok.stimulus.names, c.in-Ok.stimulus.rows, c.found_in-found.result, c.in-Ok.ensures.ok, c.found_in-found.ensures, c.replay_end.ensures)
 
 pub returns-in-Ok-clause-served : goal.returns-in-Ok-clause-served
 returns-in-Ok-clause-served g c serves =
-    subst (λ (r : Result Finding Stop). IsErrOf r stop.ReadFault → ⊥) (sym c.replay_end.ensures) (no_fault_replayed c.replay_in-replayed.result)
+    subst (λ (r : Result Finding Stop). IsErrOf r stop.ReadFault → ⊥) (sym c.replay_end.ensures) (no_fault_replayed c.found_in-found.result)
 
 pub returns-in-Err-clause-found : goal.returns-in-Err-clause-found
 returns-in-Err-clause-found g c = inl (c.in-Err.error, c.in-Err.ensures.err, c.stimulus_end.ensures)

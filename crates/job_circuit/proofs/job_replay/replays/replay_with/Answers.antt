@@ -8,7 +8,7 @@ returns-in-Ok-clause-found g c =
     inr (
       c.in-Ok.b,
       c.in-Ok.ensures.ok,
-      over_later c.args.replay.now.mode (g.S.Shelf.held c.load.new.shelf path) (g.S.Shelf.held c.args.shelf.now path) (g.S.Shelf.faults c.args.shelf.now path) (g.S.Shelf.faults c.load.new.shelf path)
+      over_later c.args.replay.now.report c.args.replay.now.mode (g.S.Shelf.held c.load.new.shelf path) (g.S.Shelf.held c.args.shelf.now path) (g.S.Shelf.faults c.args.shelf.now path) (g.S.Shelf.faults c.load.new.shelf path)
           (g.S.Shelf.faults c.replay_over.new.shelf path) c.args.a.now c.in-Ok.b c.replay_over.result (c.load.ensures.keeps path) (c.load.ensures.later path) c.replay_over.ensures.found,
     )
 

@@ -2,9 +2,10 @@ use Rattle.std.proofs.Common.{◌≡◌, ℕ, Bool, List, Result, Ok, Err, sym, 
 use Rattle.std.specs.Prelude.{IsErrAnd}
 use Rattle.circuit_theory.specs.declared.Mode.{Mode}
 use Rattle.flat_net.specs.View.{NetView}
-use Rattle.job_circuit.specs.declared.replay.differences.Replayed.{Replayed}
+use Rattle.cycle_sim.specs.declared.pair_runs.differences.Replayed.{Replayed}
 use Rattle.job_circuit.specs.declared.replay.replay_header.error.ReplayError.{ReplayError}
 use Rattle.job_circuit.specs.declared.replay.replay_header.error.ReplayError.TheVariants as refused
+use Rattle.job_circuit.specs.replay.replay_header.Header.{FitsBoth}
 use Rattle.job_circuit.specs.replay.Replay.{Replays}
 use Rattle.job_circuit.proofs.replay.two_circuits.replay.Goals as goal
 
@@ -13,6 +14,9 @@ memory_wanted : (mode : Mode) (a b : NetView) (names : List (List ℕ)) (rows : 
 memory_wanted mode a b names rows (Ok replayed) h = absurd h
 memory_wanted mode a b names rows (Err e) h = subst (λ (x : ReplayError). Replays mode a b names rows (Err x)) (sym h) tt
 
-pub returns-in_err-differences : goal.returns-in_err-differences
-returns-in_err-differences c mode marks_a marks_b =
-    memory_wanted mode c.args.a.now c.args.b.now c.args.stimulus.now.names c.args.stimulus.now.rows c.from_residual-in_err-differences.result c.from_residual-in_err-differences.ensures.1
+pub returns-in_err-replayed : goal.returns-in_err-replayed
+returns-in_err-replayed c mode marks_a marks_b =
+    memory_wanted mode c.args.a.now c.args.b.now c.args.stimulus.now.names c.args.stimulus.now.rows c.from_residual-in_err-replayed.result c.from_residual-in_err-replayed.ensures.1
+
+pub returns : goal.returns
+returns c mode marks_a marks_b = (subst (FitsBoth c.args.a.now c.args.b.now) c.in_ok-header.ensures c.in_ok-names.ensures.0, c.in_ok-replayed.ensures mode marks_a marks_b)

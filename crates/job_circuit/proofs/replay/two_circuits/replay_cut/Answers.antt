@@ -41,12 +41,12 @@ returns c = λ mode marks_a marks_b.
     let bk = c.in_ok-right.right.enabled in
     let s = c.args.stimulus.now in
     let fit = c.requires in
-    if_ok c.run_pairs.result (λ differences found.
+    if_ok c.run_pairs.result (λ replayed found.
     fitting mode a b c.keeps.ensures.sound c.keeps-2.ensures.sound c.keeps.ensures.names c.keeps-2.ensures.names s.names c.args.header.now c.args.names.now s.rows s.fit s.distinct fit.matches fit.same fit.fits fit.named c.args.a.now.enabled.now
-    c.args.b.now.enabled.now marks_a marks_b m k c.keeps-3.ensures.sound c.keeps-4.ensures.sound bm bk c.in_ok-left.ensures c.in_ok-right.ensures c.in_ok-pairs.pairs.items c.in_ok-pairs.ensures differences
-    (subst (λ (n : NetView). AreFound n bm k bk c.in_ok-pairs.pairs.items s.names s.rows differences) c.side-left_side.ensures.net
-    (subst (λ (bits : List Bool). AreFound c.side-left_side.result.net.now bits k bk c.in_ok-pairs.pairs.items s.names s.rows differences) c.side-left_side.ensures.bits
-    (subst (λ (n : NetView). AreFound c.side-left_side.result.net.now c.side-left_side.result.enabled.now n bk c.in_ok-pairs.pairs.items s.names s.rows differences) c.side-right_side.ensures.net
-    (subst (λ (bits : List Bool). AreFound c.side-left_side.result.net.now c.side-left_side.result.enabled.now c.side-right_side.result.net.now bits c.in_ok-pairs.pairs.items s.names s.rows differences) c.side-right_side.ensures.bits
-    (subst (λ (ps : List OutputPair). AreFound c.side-left_side.result.net.now c.side-left_side.result.enabled.now c.side-right_side.result.net.now c.side-right_side.result.enabled.now ps s.names s.rows differences) c.as_slice.ensures.value found))))))
+    c.args.b.now.enabled.now marks_a marks_b m k c.keeps-3.ensures.sound c.keeps-4.ensures.sound bm bk c.in_ok-left.ensures c.in_ok-right.ensures c.in_ok-pairs.pairs.items c.in_ok-pairs.ensures replayed
+    (subst (λ (n : NetView). AreFound n bm k bk c.in_ok-pairs.pairs.items s.names s.rows replayed) c.side-left_side.ensures.net
+    (subst (λ (bits : List Bool). AreFound c.side-left_side.result.net.now bits k bk c.in_ok-pairs.pairs.items s.names s.rows replayed) c.side-left_side.ensures.bits
+    (subst (λ (n : NetView). AreFound c.side-left_side.result.net.now c.side-left_side.result.enabled.now n bk c.in_ok-pairs.pairs.items s.names s.rows replayed) c.side-right_side.ensures.net
+    (subst (λ (bits : List Bool). AreFound c.side-left_side.result.net.now c.side-left_side.result.enabled.now c.side-right_side.result.net.now bits c.in_ok-pairs.pairs.items s.names s.rows replayed) c.side-right_side.ensures.bits
+    (subst (λ (ps : List OutputPair). AreFound c.side-left_side.result.net.now c.side-left_side.result.enabled.now c.side-right_side.result.net.now c.side-right_side.result.enabled.now ps s.names s.rows replayed) c.as_slice.ensures.value found))))))
     c.run_pairs.ensures

@@ -27,7 +27,7 @@ returns c = λ mode marks_a marks_b.
     let s = c.args.stimulus.now in
     let fit = c.requires.fitting in
     let none = no_names names c.requires.none in
-    if_ok c.run_pairs.result (λ differences found.
+    if_ok c.run_pairs.result (λ replayed found.
     fitting mode a b c.keeps.ensures.sound c.keeps-2.ensures.sound c.keeps.ensures.names c.keeps-2.ensures.names s.names c.args.header.now names s.rows s.fit s.distinct fit.matches fit.same fit.fits fit.named ea eb marks_a marks_b a b
-    c.keeps.ensures.sound c.keeps-2.ensures.sound ea eb (as_it_is a ea names fit.left_bits none) (as_it_is b eb names fit.right_bits none) c.in_ok-pairs.pairs.items c.in_ok-pairs.ensures differences
-    (subst (λ (ps : List OutputPair). AreFound a ea b eb ps s.names s.rows differences) c.as_slice.ensures.value found)) c.run_pairs.ensures
+    c.keeps.ensures.sound c.keeps-2.ensures.sound ea eb (as_it_is a ea names fit.left_bits none) (as_it_is b eb names fit.right_bits none) c.in_ok-pairs.pairs.items c.in_ok-pairs.ensures replayed
+    (subst (λ (ps : List OutputPair). AreFound a ea b eb ps s.names s.rows replayed) c.as_slice.ensures.value found)) c.run_pairs.ensures
