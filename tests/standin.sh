@@ -58,6 +58,7 @@ cat > "$2" <<'PROGRAM'
 #!/bin/sh
 if [ $# -lt 2 ]; then echo "words refused"; exit 5; fi
 if [ "$2" = long ]; then exec sleep 60; fi
+if [ "$1" = graph ]; then exit 0; fi
 echo "ran $*"; exit 3
 PROGRAM
 chmod +x "$2"
