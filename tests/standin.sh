@@ -1,7 +1,7 @@
 # shellcheck shell=bash
 # Read by the tests of scripts that prove and build: a repository of four crates and a kit that proves nothing, in the folder $folder.
 # The kit's prover takes a second for a crate, and does what files beside crates.txt say: `broken` and `killed` name a crate, `line` holds
-# another verdict line, and `compiled` one of what is compiled.
+# another verdict line, and `compiled` one of what is compiled; where there is kit/old, it compiles nothing that was checked before.
 : "${top:?}" "${folder:?}"
 mkdir -p "$folder/repo/crates" "$folder/bin" "$folder/kit/bin"
 cp "$top/sec" "$top/prove" "$folder/repo/"
@@ -28,6 +28,11 @@ END
 cat > "$folder/kit/bin/rattle" <<'END'
 #!/usr/bin/env bash
 top=../..
+if [ "$*" = 'build --help' ]; then
+  echo '--backend --statements'
+  [ -f "${0%/*}/../old" ] || echo '--crate-checked'
+  exit 0
+fi
 checked='' to='' name=''
 while [ $# -gt 0 ]; do
   case $1 in
@@ -46,7 +51,10 @@ else
   if [ "$(cat "$top/broken" 2>/dev/null)" = "$name" ]; then echo 'a proof is missing'; exit 1; fi
   if [ "$(cat "$top/killed" 2>/dev/null)" = "$name" ]; then rm "$top/killed"; kill -KILL $$; fi
   [ -f "$top/line" ] && line=$(cat "$top/line")
-  mkdir "$to" && date +%s%N > "$to/format"
+  case $to in
+    *.o) echo object > "$to" ;;
+    *) mkdir "$to" && date +%s%N > "$to/format" ;;
+  esac
   echo "proved $name" >> "$top/proved"
 fi
 echo "$line$checked"
