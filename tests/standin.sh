@@ -1,7 +1,7 @@
 # shellcheck shell=bash
 # Read by the tests of scripts that prove and build: a repository of four crates and a kit that proves nothing, in the folder $folder.
 # The kit's prover takes a second for a crate, and does what files beside crates.txt say: `broken` and `killed` name a crate, `line` holds
-# another verdict line, and `compiled` one of what is compiled; where there is kit/old, it compiles nothing that was checked before.
+# another verdict line, and `compiled` one of what is compiled, and `same` what its library holds; where there is kit/old, it compiles nothing that was checked before.
 : "${top:?}" "${folder:?}"
 mkdir -p "$folder/repo/crates" "$folder/bin" "$folder/kit/bin"
 cp "$top/sec" "$top/prove" "$folder/repo/"
@@ -53,7 +53,7 @@ else
   [ -f "$top/line" ] && line=$(cat "$top/line")
   case $to in
     *.o) echo object > "$to" ;;
-    *) mkdir "$to" && date +%s%N > "$to/format" ;;
+    *) mkdir "$to" && if [ -f "$top/same" ]; then cp "$top/same" "$to/format"; else date +%s%N > "$to/format"; fi ;;
   esac
   echo "proved $name" >> "$top/proved"
 fi
