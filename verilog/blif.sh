@@ -1,0 +1,135 @@
+# shellcheck shell=bash disable=SC2154
+# From Verilog to BLIF by Yosys, and what the files say. Read by sec-verilog.
+
+# What earlier runs left in the folder of --keep goes, and nothing else does.
+clear_folder() {
+  local name
+  [ -d "$keep" ] || return 0
+  for name in {old,new}{,.x0,.x1}.{blif,tcl,log,facts} resets.v report notes waves.vcd waves.gtkw; do
+    rm -f "$keep/$name"
+  done
+}
+
+# The folder of this run's files, which is that of --keep, or one that goes with this script.
+open_folder() {
+  local other
+  scratch=$(mktemp -d) || exit 73
+  trap 'rm -rf "$scratch"' EXIT
+  folder=${keep:-$scratch/files}
+  mkdir -p "$folder" || stop 73 "the folder $folder can't be made"
+  clear_folder
+  other=$(find "$folder/" -mindepth 1 -print -quit)
+  [ -z "$other" ] || stop 73 "$other isn't of sec-verilog: --keep wants a folder that is new or empty, or that of an earlier run"
+}
+
+# One word as Tcl reads it.
+quoted() {
+  printf '%s' "$1" | sed 's/[] "$;{}\\[]/\\&/g'
+}
+
+# What Yosys is told of one design: script NAME TOP X FILE..
+script() {
+  local name=$1 top=$2 x=$3 file it
+  shift 3
+  for file in "$@"; do
+    printf 'yosys read_verilog'
+    case $file in
+      *.sv | *.svh) printf ' -sv' ;;
+      *) printf '%s' "${sv:+ $sv}" ;;
+    esac
+    for it in "${defines[@]}"; do printf ' %s' "$(quoted "-D$it")"; done
+    for it in "${reading[@]}"; do printf ' %s' "$(quoted "$it")"; done
+    printf ' %s\n' "$(quoted "$file")"
+  done
+  for it in "${parameters[@]}"; do
+    echo "yosys chparam -set $(quoted "${it%%=*}") $(quoted "${it#*=}") $(quoted "$top")"
+  done
+  echo "set top $(quoted "$top")"
+  echo "set x {$x}"
+  for it in resets.v blif:"$name.blif" facts:"$name.facts"; do
+    echo "set ${it%%[.:]*} $(quoted "$folder/${it#*:}")"
+  done
+  cat "$parts/to_blif.tcl"
+}
+
+# What the flip-flops of a BLIF file say: each clock with its edge, and how many have no clock, an initial value, or none.
+latches() {
+  awk '
+    $1 != ".latch" { next }
+    NF > 4 && $5 != "NIL" { clocks["the " ($4 == "re" ? "rising" : "falling") " edge of " $5] }
+    NF <= 4 || $5 == "NIL" { timeless++ }
+    { if (NF % 2 == 0 && $NF ~ /^[01]$/) started++; else free++ }
+    END {
+      for (it in clocks) print "clock " it
+      print "timeless " timeless + 0
+      print "started " started + 0
+      print "free " free + 0
+    }' "$1"
+}
+
+# Brings one design to BLIF: to_blif NAME TOP X FILE..
+to_blif() {
+  local name=$1
+  script "$@" > "$folder/$name.tcl" || exit 73
+  if ! yosys -Q -T -c "$folder/$name.tcl" > "$folder/$name.log" 2>&1 < /dev/null || [ ! -s "$folder/$name.blif" ]; then
+    grep -h -B 1 '^ERROR\|: ERROR' "$folder/$name.log" | grep -v '^--$\|^$\|TCL interpreter' >&2 || tail -n 5 "$folder/$name.log" >&2
+    rm -f "$folder/$name.blif" "$folder/$name.facts"
+    stop 65 "yosys refuses the ${name%.x?} design"
+  fi
+  latches "$folder/$name.blif" >> "$folder/$name.facts" || exit 73
+  # What a selection doesn't find is no news, and what has no driver is told behind the report.
+  grep -h '^Warning' "$folder/$name.log" | grep -v 'did not match any\|is used but has no driver' | sed "s/^/sec-verilog: ${name%.x?}: /" >&2
+  if grep -q '^Replacing .*([$]_\(DLATCH\|SR\|ALDFF\|DFFSR\)' "$folder/$name.log"; then
+    say "${name%.x?}: latches, or asynchronous loads, are compared at the clock's edges alone"
+  fi
+}
+
+# The values of a fact of one design, a line each: facts NAME WORD
+facts() {
+  sed -n "s/^$2 //p" "$folder/$1.facts"
+}
+
+# The values of a number of both designs together.
+sum_of() {
+  echo $(($(facts "$old_name" "$1") + $(facts "$new_name" "$1")))
+}
+
+# Some of many words, and how many there are besides.
+some() {
+  if [ $# -le 4 ]; then echo "$*"; else echo "$1 $2 $3 and $(($# - 3)) more"; fi
+}
+
+# What both designs say of one fact, nothing where neither says any.
+of_both() {
+  local left right
+  mapfile -t left < <(facts "$old_name" "$1")
+  mapfile -t right < <(facts "$new_name" "$1")
+  if [ "${#left[@]}" -gt 0 ]; then
+    printf 'in old %s' "$(some "${left[@]}")"
+    [ "${#right[@]}" -eq 0 ] || printf '; '
+  fi
+  [ "${#right[@]}" -eq 0 ] || printf 'in new %s' "$(some "${right[@]}")"
+}
+
+# Two clocks, or edges, of one design sec refuses by itself. Those of two designs it takes for one.
+look_at_clocks() {
+  local left right
+  left=$(facts "$old_name" clock) right=$(facts "$new_name" clock)
+  case $left$'\n'$right in
+    $'\n'* | *$'\n' | *$'\n'*$'\n'*) return ;;
+  esac
+  [ "$left" != "$right" ] || return 0
+  if [ -z "$any_clock" ]; then
+    stop 4 "refused: flip-flops load at $left in the old design, and at $right in the new one; --any-clock compares them all the same"
+  fi
+  clocks="clock: $left in old counts as $right in new (--any-clock)"
+}
+
+# With --expose flip-flops are paired by names, and a name that Yosys made says nothing.
+tell_made_names() {
+  local name count
+  for name in "$old_name" "$new_name"; do
+    count=$(awk '$1 == ".latch" && $3 ~ /^\$/ { count++ } END { print count + 0 }' "$folder/$name.blif")
+    [ "$count" -eq 0 ] || say "${name%.x?}: $count flip-flops have names that Yosys made; those can't be paired"
+  done
+}

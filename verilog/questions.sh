@@ -1,0 +1,112 @@
+# shellcheck shell=bash disable=SC2154
+# What is asked of two BLIF files, `$a` and `$b`. Read by sec-verilog.
+
+# Runs sec, which a signal to this script reaches as well: sec_to FILE WORDS..
+sec_to() {
+  local file=$1 child status
+  shift
+  "$here/sec" "$@" > "$file" < /dev/null &
+  child=$!
+  trap 'kill -TERM "$child" 2>/dev/null' TERM HUP INT
+  wait "$child"
+  status=$?
+  while kill -0 "$child" 2>/dev/null; do
+    wait "$child"
+    status=$?
+  done
+  trap - TERM HUP INT
+  [ "$status" -lt 128 ] || exit "$status"
+  return "$status"
+}
+
+# Whether sec takes the words of check, which is asked before Yosys runs.
+ask_for_words() {
+  : > "$scratch/empty"
+  sec_to "$scratch/words" check "$scratch/empty" "$scratch/empty" "${check[@]}" 2> "$scratch/said"
+  case $? in
+    5) stop 5 "sec check refuses these words: ${check[*]}" ;;
+    70) cat "$scratch/said" >&2 && exit 70 ;;
+  esac
+}
+
+# Whether both designs are without feedback, in a mode.
+acyclic() {
+  "$here/sec" graph "$a" "$@" | grep -q '^acyclic$' && "$here/sec" graph "$b" "$@" | grep -q '^acyclic$'
+}
+
+# Whether one design has feedback, in a mode. A design that is refused has none; `check` tells why.
+cyclic() {
+  "$here/sec" graph "$a" "$@" | grep -q '^cycle ' || "$here/sec" graph "$b" "$@" | grep -q '^cycle '
+}
+
+# What a report answers, in a word or two.
+answer_of() {
+  sed -n 's/^verdict \([a-z-]*\).*/\1/p; /^refused /p; /^cyclic /p; /^unpaired /p; /^limit /p' "$1" | head -n 1
+}
+
+# How strong an answer is, by its status; the least number is that of the strongest.
+strength() {
+  case $1 in
+    1) echo 0 ;;
+    0) echo 1 ;;
+    2 | 3) echo "$1" ;;
+    9) echo 4 ;;
+    *) echo 5 ;;
+  esac
+}
+
+# Asks check, and sets `status` and `report`: ask NAME WORDS..
+ask() {
+  report=$scratch/$1.$number status=0
+  sec_to "$report" check "$a" "$b" "${check[@]}" "${@:2}" || status=$?
+}
+
+# Asks from any power-up. Where it is left to this script, --expose comes first, which mostly is quick, and then the event mode.
+from_any_power_up() {
+  local event=() first second printed
+  if [ -n "$is_given" ] || ! cyclic; then
+    ask check
+    return
+  fi
+  ask expose --expose
+  case $status in
+    2 | 3 | 9)
+      if acyclic --mode event; then
+        event=(--mode event)
+      elif cyclic --mode event; then
+        event=(--mode event --expose)
+      fi
+      ;;
+  esac
+  if [ "${#event[@]}" -eq 0 ]; then
+    say "there is feedback: --expose"
+    return
+  fi
+  first=$status printed=second
+  ask event "${event[@]}"
+  second=$(answer_of "$report")
+  if [ "$(strength "$status")" -ge "$(strength "$first")" ]; then
+    report=$scratch/expose.$number status=$first printed=first
+  fi
+  say "there is feedback; --expose: $(answer_of "$scratch/expose.$number"); ${event[*]}: $second; the $printed is taken"
+}
+
+# A file with the initial value 0 where a flip-flop has none: started FROM TO
+started() {
+  awk '$1 == ".latch" && NF % 2 { print $0, 0; next } $1 == ".latch" && $NF !~ /^[01]$/ { $NF = 0 } { print }' "$1" > "$2" || exit 73
+}
+
+# Asks from the initial values of two files, and sets `way` too. By induct no inputs are assumed, so an answer of equal says more.
+from_initial_values() {
+  local words=()
+  report=$scratch/initial.$number status=0
+  if cyclic; then
+    way=induct
+    mapfile -t words < <(valued --conflicts)
+    sec_to "$report" induct "$1" "$2" "${words[@]}" || status=$?
+  else
+    way='check --reset'
+    mapfile -t words < <(valued --conflicts --assume)
+    sec_to "$report" check "$1" "$2" "${words[@]}" --reset || status=$?
+  fi
+}

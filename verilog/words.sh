@@ -1,0 +1,99 @@
+# shellcheck shell=bash disable=SC2034
+# The words of sec-verilog. Read by it.
+old=() new=() check=() parameters=() reading=() defines=() values=('')
+side=old top='' new_top='' sv='' keep='' wrong='' any_clock='' any_start=''
+
+# What is wrong first is told: complain WHY
+complain() {
+  wrong=${wrong:-$1}
+}
+
+# The word behind an option: value OPTION LEFT WORD
+value() {
+  [ "$2" -ge 2 ] || complain "$1 wants a word behind it"
+  case $3 in
+    *$'\n'*) complain "a word with a line break: $3" ;;
+  esac
+}
+
+# A word of sec check, or what belongs to one, or else a file.
+other() {
+  local last=${check[*]: -1}
+  case $1,$last in
+    *$'\n'*) complain "a word with a line break: $1" ;;
+    -* | *,--mode | *,--conflicts | *,--assume)
+      [ -n "$top" ] || complain "no such option, or a word of sec check before --top TOP: $1"
+      check+=("$1")
+      ;;
+    *) if [ "$side" = old ]; then old+=("$1"); else new+=("$1"); fi ;;
+  esac
+}
+
+read_words() {
+  while [ $# -gt 0 ]; do
+    case $1 in
+      --help | -h)
+        usage
+        exit 0
+        ;;
+      --top | --new-top | --keep | -P | -D | -I) value "$1" $# "${2:-}" ;;
+    esac
+    case $1 in
+      --top) top=${2:-} && shift ;;
+      --new-top) new_top=${2:-} && shift ;;
+      --keep) keep=${2:-} && shift ;;
+      -P) parameters+=("${2:-}") && shift ;;
+      -D) defines+=("${2:-}") && shift ;;
+      -I) reading+=("-I${2:-}") && shift ;;
+      -P?*) parameters+=("${1#-P}") ;;
+      -D?*) defines+=("${1#-D}") ;;
+      -I?*) reading+=("$1") ;;
+      -sv) sv=-sv ;;
+      --any-clock) any_clock=yes ;;
+      --any-start) any_start=yes ;;
+      --x-differs) values=(0 1) ;;
+      --)
+        [ "$side" = old ] || complain "-- stands twice"
+        side=new
+        ;;
+      *) other "$1" ;;
+    esac
+    [ $# -eq 0 ] || shift
+  done
+}
+
+# What is wrong with the words together.
+look_at_words() {
+  local it
+  if [ "${#old[@]}" -eq 0 ] || [ "${#new[@]}" -eq 0 ]; then
+    complain "files of two designs are wanted, parted by --"
+  fi
+  [ -n "$top" ] || complain "--top TOP is wanted"
+  for it in "${parameters[@]}"; do
+    case $it in
+      ?*=*) ;;
+      *) complain "-P wants NAME=VALUE, and not $it" ;;
+    esac
+  done
+  case "$any_start ${check[*]} " in
+    'yes '*'--reset '*) complain "--any-start and --reset are two questions" ;;
+  esac
+  for it in "${reading[@]#-I}" "$keep"; do
+    case $it in
+      -*) keep='' && complain "no folder: $it" ;;
+    esac
+  done
+}
+
+# Some options of check with the words behind them, a line each: valued OPTION..
+valued() {
+  local it option last=''
+  for it in "${check[@]}"; do
+    for option in "$@"; do
+      case $it,$last in
+        "$option,"* | "$option="* | *",$option") printf '%s\n' "$it" ;;
+      esac
+    done
+    last=$it
+  done
+}
