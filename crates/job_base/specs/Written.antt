@@ -55,9 +55,10 @@ abbrev pub unrefuted_proofs : Unrefuted → List Proof
 unrefuted_proofs unrefuted.Satisfiable = []
 unrefuted_proofs (unrefuted.Limit conflicts proof) = proof ∷ []
 
--- the status of what is said of two circuits by blocks of their latches
+-- the status of what is said of two circuits by blocks of their latches, or by pairs with care
 abbrev pub judgement_status : Judgement → StatusName
 judgement_status judgement.Equal = status.Equal
+judgement_status judgement.Different = status.Different
 judgement_status judgement.NotShown = status.NotShown
 judgement_status judgement.Limit = status.Limit
 

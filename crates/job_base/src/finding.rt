@@ -92,12 +92,15 @@ pub enum Unrefuted {
     Limit(u32, Proof),
 }
 
-/// What is said of two circuits whose latches are put into blocks.
+/// What is said of two circuits whose latches are put into blocks, or whose pairs are asked whether they have care.
 #[derive(Clone, Copy)]
 pub enum Judgement {
-    /// Each output agrees for all values that are constant on the blocks.
+    /// Each output agrees for all values that are constant on the blocks; or each pair's functions agree, and some frame has care for it.
     Equal,
-    /// Some output differs for values that are constant on the blocks.
+    /// A pair's functions differ, and the circuits with them.
+    Different,
+    /// Some output differs for values that are constant on the blocks; or no frame has care for a pair, or the functions of one differ where that
+    /// isn't known of the circuits.
     NotShown,
     /// A query wasn't decided within the number of conflicts.
     Limit,
@@ -127,7 +130,7 @@ pub enum Finding {
     Undecided(Side, Word, Proof),
     /// The clauses of a pair of outputs aren't refuted.
     Unrefuted(Unrefuted),
-    /// What is said of two circuits by blocks of their latches, the proofs of the queries that met the limit, and the report.
+    /// What is said of two circuits by blocks of their latches, or by pairs with care, the proofs of the queries that met the limit, and the report.
     Judged(Judgement, Proofs, Text),
 }
 
