@@ -1,7 +1,7 @@
 -- Words that are written out, computed.
 use Rattle.std.proofs.Common.{refl}
 use Rattle.clap.proofs.OnLiterals.{clap_on_literals}
-use Rattle.command_line.specs.Known.{CheckIsTaken, GraphIsTaken, SimIsTaken, ReplayIsTaken, GenIsTaken, LratIsTaken, CertIsTaken, InductIsTaken, ResetIsTaken, AssumedIsTaken, AssumedIsRefused, OtherModeIsNoJob, OtherFormIsNoJob, ResetIsNoJob}
+use Rattle.command_line.specs.Known.{CheckIsTaken, GraphIsTaken, SimIsTaken, ReplayIsTaken, GenIsTaken, LratIsTaken, CertIsTaken, InductIsTaken, SettlesIsTaken, ResetIsTaken, AssumedIsTaken, AssumedIsRefused, OtherModeIsNoJob, OtherFormIsNoJob, ResetIsNoJob}
 
 pub check_is_taken : CheckIsTaken
 unfolding clap_on_literals
@@ -35,6 +35,10 @@ pub induct_is_taken : InductIsTaken
 unfolding clap_on_literals
 induct_is_taken = (refl, refl)
 
+pub settles_is_taken : SettlesIsTaken
+unfolding clap_on_literals
+settles_is_taken = ((refl, refl), refl)
+
 pub reset_is_taken : ResetIsTaken
 unfolding clap_on_literals
 reset_is_taken = ((refl, refl), refl)
@@ -57,4 +61,4 @@ form_is_no_job = (refl, refl)
 
 pub reset_is_no_job : ResetIsNoJob
 unfolding clap_on_literals
-reset_is_no_job = ((refl, refl), (refl, refl), (refl, refl))
+reset_is_no_job = ((refl, refl), (refl, refl), (refl, refl), (refl, refl))

@@ -102,7 +102,7 @@ fn refuses_reset(matches: &ArgMatches<'_>, mode: Mode) -> bool
     ensures { result ≡ refuses_reset (rows_of (found_of matches.now)) mode }
 {
     match mode {
-        Mode::Plain => is_set(matches, "expose"),
+        Mode::Plain => is_set(matches, "expose") || is_set(matches, "settles"),
         Mode::Event => true,
     }
 }
@@ -172,36 +172,34 @@ fn check_in(alloc: Global, matches: &ArgMatches<'_>) -> Result<Option<Task>, NoM
     };
     let assumed = path_of(alloc, word(matches, "assume"))?;
     let (a, b) = paths_of(alloc, a, b)?;
-    Ok(compared_in(is_set(matches, "settles"), a, b, settings, assumed))
+    let settles = is_set(matches, "settles");
+    Ok(Some(compared_in(settles, a, b, settings, assumed)))
 }
 
-/// The comparison of these files, with `settles` where that stands, which it doesn't beside `--reset`.
+/// The comparison of these files, with `--settles` where that stands.
 fn compared_in(
     settles: bool,
     a: FilePath,
     b: FilePath,
     settings: Settings,
     assumed: Option<FilePath>,
-) -> Option<Task>
+) -> Task
     ensures { result ≡ compared_in settles a b settings assumed }
 {
-    if !settles {
-        return Some(Task::Check {
+    if settles {
+        return Task::CheckSettles {
             a,
             b,
             settings,
             assumed,
-        });
+        };
     }
-    if settings.reset {
-        return None;
-    }
-    Some(Task::CheckSettles {
+    Task::Check {
         a,
         b,
         settings,
         assumed,
-    })
+    }
 }
 
 fn graph_in(alloc: Global, matches: &ArgMatches<'_>) -> Result<Option<Task>, NoMemory>

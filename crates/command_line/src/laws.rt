@@ -1,10 +1,10 @@
 //! What follows for the words. The functions do nothing: each contract is a law.
 
 ghost use Rattle.command_line.specs.Allowed.{JobsAreAllowed};
-ghost use Rattle.command_line.specs.Known.{TakenWordsAreJob, CheckIsTaken, GraphIsTaken, SimIsTaken, ReplayIsTaken, GenIsTaken, LratIsTaken, CertIsTaken, InductIsTaken, ResetIsTaken, AssumedIsTaken, AssumedIsRefused, OtherModeIsNoJob, OtherFormIsNoJob, ResetIsNoJob};
+ghost use Rattle.command_line.specs.Known.{TakenWordsAreJob, CheckIsTaken, GraphIsTaken, SimIsTaken, ReplayIsTaken, GenIsTaken, LratIsTaken, CertIsTaken, InductIsTaken, SettlesIsTaken, ResetIsTaken, AssumedIsTaken, AssumedIsRefused, OtherModeIsNoJob, OtherFormIsNoJob, ResetIsNoJob};
 
 /// Words that `clap`'s definition for the command takes are a job wherever their mode is `plain` or `event` and `--reset` stands
-/// neither with `event` nor with `--expose`, or they name the subcommand `gen`, `lrat` or `induct`, which have no mode, or `cert` with
+/// neither with `event` nor with `--expose` or `--settles`, or they name the subcommand `gen`, `lrat` or `induct`, which have no mode, or `cert` with
 /// the form `cnf` or `lrat`. So `job` never refuses such words.
 pub fn taken_words_are_job()
     ensures { TakenWordsAreJob }
@@ -15,7 +15,7 @@ pub fn jobs_are_allowed()
     ensures { JobsAreAllowed }
 {}
 
-/// Words of each subcommand that meet the premises of `taken_words_are_job`, some with `--reset` or `--assume`.
+/// Words of each subcommand that meet the premises of `taken_words_are_job`, some with `--reset`, `--assume` or `--settles`.
 pub fn words_are_taken()
     ensures of_check { CheckIsTaken }
     ensures of_graph { GraphIsTaken }
@@ -25,6 +25,7 @@ pub fn words_are_taken()
     ensures of_lrat { LratIsTaken }
     ensures of_cert { CertIsTaken }
     ensures of_induct { InductIsTaken }
+    ensures of_settles { SettlesIsTaken }
     ensures of_reset { ResetIsTaken }
     ensures of_assumed { AssumedIsTaken }
 {}
