@@ -1,5 +1,5 @@
 -- The text of the report of a comparison with the cares of its pairs, and what it says.
-use Rattle.std.specs.Prelude.{ℕ, List, [], ◌∷◌, ◌++◌, codes, if◌then◌else◌, Option, Some, None}
+use Rattle.std.specs.Prelude.{ℕ, Bool, true, false, List, [], ◌∷◌, ◌++◌, codes, find, if◌then◌else◌, Option, option_map, Some, None}
 use Rattle.std.specs.Fmt.{decimal}
 use Rattle.std.specs.List.{filter_map, flat_map}
 use Rattle.sec_base.specs.declared.settings.Settings.{Settings}
@@ -29,25 +29,33 @@ line_of (care.Limit proof) name = named_line (codes "undecided ") name
 abbrev pub care_line : PairCare → List ℕ
 care_line c = line_of c.care c.name
 
--- the name of the first pair that has no care
-abbrev pub first_never : List PairCare → Option PairName
-first_never [] = None
-first_never (c ∷ rest) = by c.care
+-- no frame has care for the pair
+abbrev pub is_never : PairCare → Bool
+is_never c = by c.care
   where
-    by : Care → Option PairName
-    by care.Met = first_never rest
-    by care.Never = Some c.name
-    by (care.Limit proof) = first_never rest
+    by : Care → Bool
+    by care.Met = false
+    by care.Never = true
+    by (care.Limit proof) = false
 
--- and of the first of which it isn't known
-abbrev pub first_limit : List PairCare → Option PairName
-first_limit [] = None
-first_limit (c ∷ rest) = by c.care
+-- it isn't known whether one has
+abbrev pub is_limit : PairCare → Bool
+is_limit c = by c.care
   where
-    by : Care → Option PairName
-    by care.Met = first_limit rest
-    by care.Never = first_limit rest
-    by (care.Limit proof) = Some c.name
+    by : Care → Bool
+    by care.Met = false
+    by care.Never = false
+    by (care.Limit proof) = true
+
+-- the name of the first such pair
+abbrev pub first_where : (PairCare → Bool) → List PairCare → Option PairName
+first_where test cares = option_map (λ (c : PairCare). c.name) (find test cares)
+
+abbrev pub first_never : List PairCare → Option PairName
+first_never cares = first_where is_never cares
+
+abbrev pub first_limit : List PairCare → Option PairName
+first_limit cares = first_where is_limit cares
 
 -- the verdict where all pairs are equal
 abbrev pub equal_by : ℕ → Option PairName → Option PairName → List ℕ

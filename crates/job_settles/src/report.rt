@@ -1,6 +1,6 @@
 //! The report of a comparison with the cares of its pairs, and what it says.
 
-ghost use Rattle.std.specs.Prelude.{◌≡◌, ◌≢◌, [], ◌∷◌, ◌++◌, length, option_map, true, IfOk, OnOk};
+ghost use Rattle.std.specs.Prelude.{◌≡◌, ◌≢◌, [], ◌∷◌, ◌++◌, length, option_map, option_to_list, true, IfOk, OnOk};
 ghost use Rattle.std.specs.List.{filter_map, flat_map};
 ghost use Rattle.circuit_theory.specs.declared.Mode.TheVariants.{Event};
 ghost use Rattle.obligations.specs.outcome.Report.{knows_pairs, pair_text, verdict_text};
@@ -221,7 +221,7 @@ fn all_proofs(alloc: Global, outcome: Outcome, cares: PairCares) -> Result<Proof
 
 /// Puts the proof of the care's limit behind the others, where it met one.
 fn keep_proof(proofs: &mut Proofs, care: PairCare) -> Result<(), NoMemory>
-    ensures { OnOk result (proofs.new ≡ proofs.old ++ filter_map care_proof (care ∷ [])) }
+    ensures { OnOk result (proofs.new ≡ proofs.old ++ option_to_list (care_proof care)) }
 {
     let PairCare { name: _, care } = care;
     match care {
