@@ -1,13 +1,14 @@
 -- What is decided of the care of a pair's query says which frames have care for the pair.
-use Rattle.std.proofs.Common.{◌≡◌, ◌≢◌, ◌∙◌, ◌<◌, ℕ, Bool, true, false, List, [], ◌∷◌, map, length, get_or, slice_get, Some, refl, sym, ap, subst, arith, inl, inr}
-use Rattle.std.specs.Prelude.{◌⊎◌, ◌↔◌}
+use Rattle.std.proofs.Common.{◌≡◌, ◌≢◌, ◌∙◌, ◌<◌, ℕ, suc, Bool, true, false, List, [], ◌∷◌, length, get_or, slice_get, Some, refl, sym, subst, arith, inl, Result, Ok, Err}
+use Rattle.std.specs.Prelude.{◌↔◌, IfOk}
 use Rattle.std.specs.List.{All, AllZip, Contains}
-use Rattle.std.proofs.lemmas.List.Elements.{All-nil, All-cons, All-contains, Contains-head}
-use Rattle.std.proofs.lemmas.Option.{slice_get-get_or}
+use Rattle.std.proofs.lemmas.List.Elements.{All-nil, All-cons, All-contains}
+use Rattle.std.proofs.lemmas.Option.{slice_get-get_or, slice_get_within}
+use Rattle.flat_net.proofs.Nets.{some_at}
 use Rattle.circuit_theory.specs.Joined.{Either, Left, Right}
 use Rattle.circuit_theory.specs.Query.{Variable}
 use Rattle.circuit_theory.specs.Tree.{Tree}
-use Rattle.circuit_theory.proofs.Lists.{Contains-cases, Contains-map, length-map}
+use Rattle.circuit_theory.proofs.Lists.{All-from_each, Contains-map, at_of, length-map}
 use Rattle.circuit_theory.specs.EventFrames.{AreNodeVariables, IsPairTree, frame_of}
 use Rattle.circuit_theory.specs.Frame.{EventSide}
 use Rattle.base_tables.specs.Table.{AreDistinct}
@@ -33,6 +34,7 @@ use Rattle.assume_laws.specs.Assume.{Assumption}
 use Rattle.assume_laws.specs.Sequences.{IsPairTreeUnder}
 use Rattle.event_under.specs.Asked.{variable_in, variables_in, AsksUnder, AreAskedUnder, IsAskedUnder}
 use Rattle.event_under.proofs.Bits.{bits_take, assignment_in, takes_assignment}
+use Rattle.event_settles.proofs.Decisions.{reached_among}
 use Rattle.event_settles.specs.declared.cares.Care.{Care}
 use Rattle.event_settles.specs.declared.cares.Care.TheVariants as care
 use Rattle.event_settles.specs.declared.cares.PairCare.{PairCare}
@@ -56,16 +58,8 @@ record AsksCare (Cared : (ℕ → List ℕ → Bool) → Type 0) (IsTree : Tree 
 
 module _ (Cared : (ℕ → List ℕ → Bool) → Type 0) (IsTree : Tree (List ℕ) → Type 0) (g : List Node) (places : List (ℕ × List ℕ)) (query : Query) (k : AsksCare Cared IsTree g places query) where
   -- the care's cone reads the query's variables
-  among : (x : ℕ) {n : ℕ} → Contains (roots_of query) x → IsReached g (x ∷ []) n → IsReached g (roots_of query) n
-  among x member (IsReached.root y h) = go (Contains-cases x y [] h)
-    where
-      go : (x ≡ y) ⊎ Contains [] y → IsReached g (roots_of query) (y / 2)
-      go (inl e) = IsReached.root y (subst (Contains (roots_of query)) e member)
-      go (inr n) = absurd (omega (arith, n.1))
-  among x member (IsReached.operand n y node reached at reads) = IsReached.operand n y node (among x member reached) at reads
-
   own : ReadOnly g places (query.care.0 ∷ []) k.variables
-  own n v reached at = k.named v (k.asked.covers n v (among query.care.0 (2, omega arith, refl) reached) at)
+  own n v reached at = k.named v (k.asked.covers n v (reached_among g query.care.0 (roots_of query) (2, omega arith, refl) reached) at)
 
   undecided : (conflicts : ℕ) (proof : Proof) → IsAtLimit g (care_query query) conflicts proof → IsCareUndecided Cared IsTree conflicts proof
   undecided conflicts proof limit = record {
@@ -163,3 +157,41 @@ pairs_fit s w cut conflicts is [] (o ∷ asked) cares are d = absurd are
 pairs_fit s w cut conflicts is (p ∷ pairs) [] cares are d = absurd are
 pairs_fit s w cut conflicts is (p ∷ pairs) (o ∷ asked) [] are d = absurd d
 pairs_fit s w cut conflicts is (p ∷ pairs) (o ∷ asked) (c ∷ cares) are d = (pair_fits s w cut p o is are.0 conflicts c d.0, pairs_fit s w cut conflicts is pairs asked cares are.1 d.1)
+
+-- of several pairs under an assumption
+module _ (a : Assumption) (s : EventSide (Either ℕ ℕ)) (w : EventGraphView) (g : List Node) (places : List (ℕ × List ℕ)) (cut : Bool) (conflicts : ℕ) (graph : IsGraph g) (distinct : AreDistinct places) where
+  abbrev IsAskedAt : List SignalPair → List Obligation → List Obligation → Type 0
+  IsAskedAt pairs asked under = (i : ℕ) (p : SignalPair) (o u : Obligation) → slice_get pairs i ≡ Some p → slice_get asked i ≡ Some o → slice_get under i ≡ Some u → IsAskedUnder a s w g places cut p o u
+
+  zip_under : (pairs : List SignalPair) (asked under : List Obligation) (cares : List PairCare) → length asked ≡ length pairs → length under ≡ length pairs → IsAskedAt pairs asked under → AllZip (IsCareDecided g conflicts) under cares → AllZip (CareFitsUnder a s conflicts) pairs cares
+  zip_under [] asked [] [] many each are d = tt
+  zip_under [] asked [] (c ∷ cares) many each are d = absurd d
+  zip_under [] asked (u ∷ under) cares many each are d = absurd (omega (arith, each))
+  zip_under (p ∷ pairs) [] under cares many each are d = absurd (omega (arith, many))
+  zip_under (p ∷ pairs) (o ∷ asked) [] cares many each are d = absurd (omega (arith, each))
+  zip_under (p ∷ pairs) (o ∷ asked) (u ∷ under) [] many each are d = absurd d
+  zip_under (p ∷ pairs) (o ∷ asked) (u ∷ under) (c ∷ cares) many each are d = (
+    pair_fits_under a s w g places cut p o u graph distinct (are 0 p o u refl refl refl) conflicts c d.0,
+    zip_under pairs asked under cares (omega (arith, many)) (omega (arith, each)) (λ i q x y at_q at_x at_y. are (suc i) q x y at_q at_x at_y) d.1,
+  )
+
+  pub pairs_fit_under : (pairs : List SignalPair) (asked under : List Obligation) (cares : List PairCare) → AreAskedUnder a s w g places cut pairs asked under → AllZip (IsCareDecided g conflicts) under cares → AllZip (CareFitsUnder a s conflicts) pairs cares
+  pairs_fit_under pairs asked under cares are d = zip_under pairs asked under cares are.each_asked are.each_under are.are d
+
+  pub one_queries_under : (pairs : List SignalPair) (asked under : List Obligation) → AreAskedUnder a s w g places cut pairs asked under → All (HasOneQuery g) under
+  one_queries_under pairs asked under are = All-from_each (HasOneQuery g) under (λ u h. (let i = at_of under u h in one u i.0 i.1))
+    where
+      one : (u : Obligation) (i : ℕ) → slice_get under i ≡ Some u → HasOneQuery g u
+      one u i here =
+          let inside = slice_get_within under i u here in
+          let each = are.each_under in
+          let many = are.each_asked in
+          let p = some_at pairs i (omega (arith, inside, each)) in
+          let o = some_at asked i (omega (arith, inside, each, many)) in
+          let k = are.are i p.0 o.0 u p.1 o.1 here in
+          record { query = k.query; only = k.only; asked = k.asks.asked }
+
+-- what follows where a call succeeds
+pub if_ok : {X E : Type 0} {P Q : X → Type 0} (r : Result X E) → ((x : X) → P x → Q x) → IfOk r P → IfOk r Q
+if_ok (Ok x) f h = f x h
+if_ok (Err e) f h = tt

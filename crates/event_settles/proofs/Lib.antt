@@ -1,2 +1,2 @@
-pub mod Deciding
+pub mod Decisions
 pub mod Caring

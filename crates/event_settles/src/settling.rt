@@ -63,5 +63,6 @@ pub fn settle_pairs_under(
     let Ok(questions) = questions_of(alloc, events, compared, premise, asked.as_slice()) else {
         return Err(NoMemory);
     };
+    questions.aig.keeps();
     decide_cares(alloc, &questions.aig, questions.asked.as_slice(), conflicts)
 }

@@ -4,6 +4,7 @@ use Rattle.std.specs.List.{AllZip}
 use Rattle.circuit_theory.specs.Classes.{HasClasses}
 use Rattle.flat_net.specs.View.{NetView, circuit_of}
 use Rattle.sec_base.specs.declared.settings.Settings.{Settings}
+use Rattle.assume_laws.specs.Assume.{ReadsInputs}
 use Rattle.sec_setup.specs.declared.ports.pairs.SignalPair.{SignalPair}
 use Rattle.sec_setup.specs.ports.Pairs.{named_pairs, places_of}
 use Rattle.obligations.specs.declared.outcome.verdict.Outcome.{Outcome}
@@ -26,6 +27,7 @@ pub record HaveCaresUnder (a b c : NetView) (settings : Settings) (o : Outcome) 
   pub left : EventCircuitView
   pub right : EventCircuitView
   pub reached : AreReached a b settings.expose o.exposed left right
+  pub reads : ReadsInputs (assumed_by met.assumed) (circuit_of left.net) left.order
   pub classes : HasClasses (both_of left right)
   pub pairs : List SignalPair
   pub listed : map places_of pairs ≡ named_pairs o.exposed (circuit_of a) (circuit_of b)

@@ -178,6 +178,7 @@ module _ (a b c : NetView) (settings : Settings) (sa : IsSound a) (sb : IsSound 
         left = left;
         right = right;
         reached = is.reached;
+        reads = reads k.compared k.asked;
         classes = is.counted.classes;
         pairs = x.asked.pairs;
         listed = is.listed;

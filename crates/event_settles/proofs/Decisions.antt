@@ -4,7 +4,6 @@ use Rattle.std.specs.Prelude.{◌⊎◌}
 use Rattle.std.specs.List.{AllZip, Contains}
 use Rattle.std.proofs.lemmas.List.{take_more}
 use Rattle.std.proofs.lemmas.Option.{slice_get_within}
-use Rattle.std.proofs.lemmas.List.Elements.{Contains-head}
 use Rattle.circuit_theory.proofs.Lists.{Contains-cases, only, zip_push}
 use Rattle.aig.specs.declared.node.Node.{Node}
 use Rattle.aig.specs.declared.node.Node.TheVariants.{Constant, Input}
@@ -25,9 +24,9 @@ use Rattle.event_settles.specs.declared.cares.PairCare.{PairCare}
 use Rattle.event_settles.specs.Deciding.{IsCareDecided, care_query}
 
 -- what is reached from one root is reached from all
-among : (g : List Node) (x : ℕ) (roots : List ℕ) → Contains roots x → {k : ℕ} → IsReached g (x ∷ []) k → IsReached g roots k
-among g x roots member (IsReached.root y h) = IsReached.root y (subst (Contains roots) (only x y h) member)
-among g x roots member (IsReached.operand n y node reached at reads) = IsReached.operand n y node (among g x roots member reached) at reads
+pub reached_among : (g : List Node) (x : ℕ) (roots : List ℕ) → Contains roots x → {k : ℕ} → IsReached g (x ∷ []) k → IsReached g roots k
+reached_among g x roots member (IsReached.root y h) = IsReached.root y (subst (Contains roots) (only x y h) member)
+reached_among g x roots member (IsReached.operand n y node reached at reads) = IsReached.operand n y node (reached_among g x roots member reached) at reads
 
 module _ (g : List Node) (q : Query) (graph : IsGraph g) (is : IsQuery g q) where
   -- the care is the third root
@@ -52,7 +51,7 @@ module _ (g : List Node) (q : Query) (graph : IsGraph g) (is : IsQuery g q) wher
       rest y (inr k) = small y (Contains-cases 1 y [] k)
 
       first : (k v y : ℕ) → slice_get g k ≡ Some (Input v) → (q.care.0 ≡ y) ⊎ Contains (0 ∷ 1 ∷ []) y → IsReached g (y ∷ []) k → Contains q.vars v
-      first k v y at (inl e) reached = is.covers k v (among g q.care.0 (roots_of q) third (subst (λ z. IsReached g (z ∷ []) k) (sym e) reached)) at
+      first k v y at (inl e) reached = is.covers k v (reached_among g q.care.0 (roots_of q) third (subst (λ z. IsReached g (z ∷ []) k) (sym e) reached)) at
       first k v y at (inr h) reached = absurd (constant_reaches g y graph (rest y (Contains-cases 0 y (1 ∷ []) h)) k v reached at)
 
       go : (k v : ℕ) → slice_get g k ≡ Some (Input v) → (y : ℕ) × Contains (roots_of (care_query q)) y × IsReached g (y ∷ []) k → Contains q.vars v
