@@ -1,5 +1,5 @@
 -- Interfaces that don't match, what is refused before the pairs, and the limit of an enable or of a class.
-use Rattle.std.proofs.Common.{◌∙◌, None, sym, ap, subst, length, Ok}
+use Rattle.std.proofs.Common.{◌≡◌, ◌∙◌, None, sym, ap, subst, length, Ok}
 use Rattle.plain_check.specs.under_base.compare_base.Compared.{refusal_of}
 use Rattle.plain_check.proofs.under_base.compare_base.Refusals.{refused_by}
 use Rattle.event_check.specs.event_answers.Settles.{SettlesInEvents}

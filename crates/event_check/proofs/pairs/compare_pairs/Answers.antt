@@ -35,7 +35,7 @@ pub returns-in_ok-found-in-Ok : goal.returns-in_ok-found-in-Ok
 returns-in_ok-found-in-Ok c =
     pairs_found c.args.separated.now.events c.args.names.now c.args.asked.now c.requires.askable _ (c.as_slice.ensures, c.as_slice-2.ensures, refl, refl) c.keeps.ensures.kept c.compare_events.new.events c.args.conflicts c.in-Ok.findings
     c.in-Ok.ensures.counted c.in-Ok.ensures.fits c.keeps.ensures.events c.requires.counted c.requires.separated.few c.keeps-in-Ok.ensures.kept c.keeps-in-Ok.ensures.once c.args.settles c.in_ok-cares-in-Ok.cares c.in_ok-cares-in-Ok.ensures c.in_ok-found-in-Ok.found
-    (subst (λ count. IsNamedFound c.args.names.now c.in-Ok.findings count c.in_ok-cares-in-Ok.cares c.in_ok-found-in-Ok.found) c.classes.ensures c.in_ok-found-in-Ok.ensures)
+    (subst (λ count. IsNamedFound c.args.names.now c.in-Ok.findings count c.in_ok-cares-in-Ok.cares c.in_ok-found-in-Ok.found) c.classes-classes.ensures c.in_ok-found-in-Ok.ensures)
 
 pub returns-in-Err : goal.returns-in-Err
 returns-in-Err c =
