@@ -98,14 +98,11 @@ refused_other settings compare_error.NoMemory = tt
 
 -- a comparison ends with no read fault
 pub no_fault_settled : (settings : Settings) (s : Result Settled CompareError) (r : Result Finding Stop) → IsSettledEnd settings s r → IsErrOf r stop.ReadFault → ⊥
-no_fault_settled settings (Ok s) r (inl is) h = absurd (let z = ap (λ (x : Result Finding Stop). IsErrOf x stop.ReadFault) is in ok_fault (subst (λ (x : Result Finding Stop). IsErrOf x stop.ReadFault) is h))
+no_fault_settled settings (Ok s) r (inl is) h = ok_fault (subst (λ (x : Result Finding Stop). IsErrOf x stop.ReadFault) is h)
   where
     ok_fault : IsErrOf {E = Stop} (Ok (settled_finding settings s)) stop.ReadFault → ⊥
     ok_fault q = absurd (cc)
-no_fault_settled settings (Ok s) r (inr is) h = memory_fault (subst (λ (x : Result Finding Stop). IsErrOf x stop.ReadFault) is h)
-  where
-    memory_fault : IsErrOf {X = Finding} (Err stop.NoMemory) stop.ReadFault → ⊥
-    memory_fault q = absurd (cc)
+no_fault_settled settings (Ok s) r (inr is) h = no_fault_compared settings (Err compare_error.NoMemory) (subst (λ (x : Result Finding Stop). IsErrOf x stop.ReadFault) is h)
 no_fault_settled settings (Err e) r is h = no_fault_compared settings (Err e) (subst (λ (x : Result Finding Stop). IsErrOf x stop.ReadFault) is h)
 
 -- what is found beside both nets at a later time is found at the earlier
