@@ -1,9 +1,9 @@
 -- A job of the words allows at most 200,000 conflicts; where runs begin with initial values it cuts no latch open, and its mode is plain.
-use Rattle.std.specs.Prelude.{◌==◌, ◌&&◌, option_and_then, option_map, codes, bytes_eq}
+use Rattle.std.specs.Prelude.{◌==◌, ◌&&◌, ◌||◌, option_and_then, option_map, codes, bytes_eq}
 use Rattle.std.specs.Str.Parse.{digits_value, without_leading_plus}
 use Rattle.clap.specs.Words.{Row, Text, fault_of, first_of, subcommand_of}
 use Rattle.clap.specs.ValueTests.{accepts}
-use Rattle.std.proofs.Common.{◌≡◌, ℕ, ◌≤◌, length, Bool, true, false, cond, List, refl, subst, inl, inr, ◌⊎◌, Option, Some, None}
+use Rattle.std.proofs.Common.{◌≡◌, ℕ, ◌≤◌, length, Bool, true, false, cond, List, refl, sym, ◌∙◌, subst, inl, inr, ◌⊎◌, Option, Some, None}
 use Rattle.clap.proofs.ValueTestLemmas.{accepts-Accepts}
 use Rattle.circuit_theory.specs.declared.Mode.{Mode}
 use Rattle.circuit_theory.specs.declared.Mode.TheVariants.{Plain, Event}
@@ -11,7 +11,7 @@ use Rattle.sec_base.specs.declared.settings.Settings.{Settings}
 use Rattle.command_line.specs.declared.task.Task.{Task}
 use Rattle.command_line.specs.declared.task.Task.TheVariants as task
 use Rattle.command_line.specs.command_words.Command.{sec_app, most_conflicts, any_number}
-use Rattle.command_line.specs.Jobs.{task_in, check_in, graph_in, sim_in, replay_in, settle_in, gen_in, lrat_in, cert_in, induct_in, form_in, settings_in, conflicts_in, mode_in, mode_of, refuses_reset, number_of, is_set, with_word}
+use Rattle.command_line.specs.Jobs.{task_in, check_in, compared_in, graph_in, sim_in, replay_in, settle_in, gen_in, lrat_in, cert_in, induct_in, form_in, settings_in, conflicts_in, mode_in, mode_of, refuses_reset, number_of, is_set, with_word}
 use Rattle.command_line.specs.Allowed.{IsAllowed, JobsAreAllowed}
 
 some_is : {X : Type 0} {x y : X} → Some x ≡ Some y → x ≡ y
@@ -44,23 +44,24 @@ few rows n e =
 abbrev settings_of : List Row → Mode → ℕ → Settings
 settings_of rows mode conflicts = record { mode = mode; expose = is_set (codes "expose") rows; conflicts = conflicts; reset = is_set (codes "reset") rows }
 
--- `--reset` stands beside no `--expose`
-plain_uncut : {m : Mode} (reset expose : Bool) → reset ≡ true → cond (reset && expose) None (Some Plain) ≡ Some m → expose ≡ false
-plain_uncut true false is e = refl
-plain_uncut true true is e = absurd (cc)
-plain_uncut false expose is e = absurd (cc)
+-- `--reset` stands beside no `--expose` and no `--settles`
+plain_alone : {m : Mode} (reset expose settles : Bool) → reset ≡ true → cond (reset && (expose || settles)) None (Some Plain) ≡ Some m → (expose ≡ false) × (settles ≡ false)
+plain_alone true false false is e = (refl, refl)
+plain_alone true false true is e = absurd (cc)
+plain_alone true true settles is e = absurd (cc)
+plain_alone false expose settles is e = absurd (cc)
 
 event_unset : {m : Mode} (reset : Bool) → reset ≡ true → cond (reset && true) None (Some Event) ≡ Some m → ⊥
 event_unset true is e = cc
 event_unset false is e = cc
 
-uncut : (rows : List Row) (m : Mode) → mode_in rows ≡ Some m → is_set (codes "reset") rows ≡ true → is_set (codes "expose") rows ≡ false
-uncut rows m e reset =
+alone : (rows : List Row) (m : Mode) → mode_in rows ≡ Some m → is_set (codes "reset") rows ≡ true → (is_set (codes "expose") rows ≡ false) × (is_set (codes "settles") rows ≡ false)
+alone rows m e reset =
     let met = and_then_some (λ mode. cond (is_set (codes "reset") rows && refuses_reset rows mode) None (Some mode)) (option_and_then mode_of (first_of (codes "mode") rows)) m e in
     by met.0 met.2
   where
-    by : (mode : Mode) → cond (is_set (codes "reset") rows && refuses_reset rows mode) None (Some mode) ≡ Some m → is_set (codes "expose") rows ≡ false
-    by Plain h = plain_uncut (is_set (codes "reset") rows) (is_set (codes "expose") rows) reset h
+    by : (mode : Mode) → cond (is_set (codes "reset") rows && refuses_reset rows mode) None (Some mode) ≡ Some m → (is_set (codes "expose") rows ≡ false) × (is_set (codes "settles") rows ≡ false)
+    by Plain h = plain_alone (is_set (codes "reset") rows) (is_set (codes "expose") rows) (is_set (codes "settles") rows) reset h
     by Event h = absurd (event_unset (is_set (codes "reset") rows) reset h)
 
 -- and no event mode
@@ -74,7 +75,7 @@ plain rows m e reset =
     by met.0 met.2
   where
     by : (mode : Mode) → cond (is_set (codes "reset") rows && refuses_reset rows mode) None (Some mode) ≡ Some m → m ≡ Plain
-    by Plain h = plain_is (is_set (codes "reset") rows && is_set (codes "expose") rows) h
+    by Plain h = plain_is (is_set (codes "reset") rows && (is_set (codes "expose") rows || is_set (codes "settles") rows)) h
     by Event h = absurd (event_unset (is_set (codes "reset") rows) reset h)
 
 abbrev AreAllowed : Settings → Type 0
@@ -84,15 +85,34 @@ allowed_settings : (rows : List Row) (s : Settings) → settings_in rows ≡ Som
 allowed_settings rows s e =
     let mode = and_then_some (λ m. option_map (settings_of rows m) (conflicts_in rows)) (mode_in rows) s e in
     let conflicts = map_some (settings_of rows mode.0) (conflicts_in rows) s mode.2 in
-    subst AreAllowed conflicts.2 (few rows conflicts.0 conflicts.1, uncut rows mode.0 mode.1, plain rows mode.0 mode.1)
+    subst AreAllowed conflicts.2 (few rows conflicts.0 conflicts.1, (λ reset. (alone rows mode.0 mode.1 reset).0), plain rows mode.0 mode.1)
+
+-- with `--settles` runs don't begin with initial values
+settles_always : (rows : List Row) (s : Settings) → settings_in rows ≡ Some s → is_set (codes "settles") rows ≡ true → s.reset ≡ false
+settles_always rows s e settles =
+    let mode = and_then_some (λ m. option_map (settings_of rows m) (conflicts_in rows)) (mode_in rows) s e in
+    let conflicts = map_some (settings_of rows mode.0) (conflicts_in rows) s mode.2 in
+    subst (λ (z : Settings). z.reset ≡ false) conflicts.2 (by (is_set (codes "reset") rows) (λ reset. (alone rows mode.0 mode.1 reset).1))
+  where
+    true_not_false : true ≡ false → ⊥
+    true_not_false q = cc
+
+    by : (reset : Bool) → (reset ≡ true → is_set (codes "settles") rows ≡ false) → reset ≡ false
+    by true none = absurd (true_not_false (sym settles ∙ none refl))
+    by false none = refl
+
+allowed_compared : (settles : Bool) (a b : Text) (s : Settings) (assumed : Option Text) → AreAllowed s → (settles ≡ true → s.reset ≡ false) → IsAllowed (compared_in settles a b s assumed)
+allowed_compared false a b s assumed h always = h
+allowed_compared true a b s assumed h always = (h.0, always refl)
 
 allowed_check : (rows : List Row) (job : Task) → check_in rows ≡ Some job → IsAllowed job
 allowed_check rows job e =
     let assumed : Option Text = first_of (codes "assume") rows in
-    let a = and_then_some (λ x. with_word (codes "b") rows (λ y. option_map (λ s. task.Check x y s assumed) (settings_in rows))) (first_of (codes "a") rows) job e in
-    let b = and_then_some (λ y. option_map (λ s. task.Check a.0 y s assumed) (settings_in rows)) (first_of (codes "b") rows) job a.2 in
-    let settings = map_some (λ s. task.Check a.0 b.0 s assumed) (settings_in rows) job b.2 in
-    subst IsAllowed settings.2 (allowed_settings rows settings.0 settings.1)
+    let settles : Bool = is_set (codes "settles") rows in
+    let a = and_then_some (λ x. with_word (codes "b") rows (λ y. option_map (λ s. compared_in settles x y s assumed) (settings_in rows))) (first_of (codes "a") rows) job e in
+    let b = and_then_some (λ y. option_map (λ s. compared_in settles a.0 y s assumed) (settings_in rows)) (first_of (codes "b") rows) job a.2 in
+    let settings = map_some (λ s. compared_in settles a.0 b.0 s assumed) (settings_in rows) job b.2 in
+    subst IsAllowed settings.2 (allowed_compared settles a.0 b.0 settings.0 assumed (allowed_settings rows settings.0 settings.1) (settles_always rows settings.0 settings.1))
 
 allowed_graph : (rows : List Row) (job : Task) → graph_in rows ≡ Some job → IsAllowed job
 allowed_graph rows job e =

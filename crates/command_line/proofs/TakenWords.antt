@@ -1,7 +1,7 @@
 -- Words that are written out, computed.
 use Rattle.std.proofs.Common.{refl}
 use Rattle.clap.proofs.OnLiterals.{clap_on_literals}
-use Rattle.command_line.specs.Known.{CheckIsTaken, GraphIsTaken, SimIsTaken, ReplayIsTaken, SettleIsTaken, GenIsTaken, LratIsTaken, CertIsTaken, InductIsTaken, ResetIsTaken, AssumedIsTaken, SettlesIsTaken, SettlesIsRefused, AssumedIsRefused, OtherModeIsNoJob, OtherFormIsNoJob, ResetIsNoJob}
+use Rattle.command_line.specs.Known.{CheckIsTaken, GraphIsTaken, SimIsTaken, ReplayIsTaken, SettleIsTaken, GenIsTaken, LratIsTaken, CertIsTaken, InductIsTaken, ResetIsTaken, AssumedIsTaken, CheckSettlesIsTaken, ReplaySettlesIsTaken, SettlesIsRefused, AssumedIsRefused, OtherModeIsNoJob, OtherFormIsNoJob, ResetIsNoJob}
 
 pub check_is_taken : CheckIsTaken
 unfolding clap_on_literals
@@ -39,6 +39,10 @@ pub induct_is_taken : InductIsTaken
 unfolding clap_on_literals
 induct_is_taken = (refl, refl)
 
+pub check_settles_is_taken : CheckSettlesIsTaken
+unfolding clap_on_literals
+check_settles_is_taken = ((refl, refl), refl)
+
 pub reset_is_taken : ResetIsTaken
 unfolding clap_on_literals
 reset_is_taken = ((refl, refl), refl)
@@ -47,9 +51,9 @@ pub assumed_is_taken : AssumedIsTaken
 unfolding clap_on_literals
 assumed_is_taken = ((refl, refl), refl)
 
-pub settles_is_taken : SettlesIsTaken
+pub replay_settles_is_taken : ReplaySettlesIsTaken
 unfolding clap_on_literals
-settles_is_taken = ((refl, refl), refl)
+replay_settles_is_taken = ((refl, refl), refl)
 
 pub settles_is_refused : SettlesIsRefused
 unfolding clap_on_literals
@@ -69,4 +73,4 @@ form_is_no_job = (refl, refl)
 
 pub reset_is_no_job : ResetIsNoJob
 unfolding clap_on_literals
-reset_is_no_job = ((refl, refl), (refl, refl), (refl, refl))
+reset_is_no_job = ((refl, refl), (refl, refl), (refl, refl), (refl, refl))

@@ -1,5 +1,5 @@
 -- The job of a command line.
-use Rattle.std.specs.Prelude.{ℕ, ◌==◌, ◌&&◌, Bool, true, false, if◌then◌else◌, List, length, Option, Some, None, codes, bytes_eq, option_and_then, option_map}
+use Rattle.std.specs.Prelude.{ℕ, ◌==◌, ◌&&◌, ◌||◌, Bool, true, false, if◌then◌else◌, List, length, Option, Some, None, codes, bytes_eq, option_and_then, option_map}
 use Rattle.std.specs.Str.Parse.{digits_value, without_leading_plus}
 use Rattle.circuit_theory.specs.declared.Mode.{Mode}
 use Rattle.circuit_theory.specs.declared.Mode.TheVariants.{Plain, Event}
@@ -27,9 +27,9 @@ is_set id rows = given (first_of id rows)
     given None = false
     given (Some value) = bytes_eq value (codes "true")
 
--- `--reset` can't stand beside the mode `event`, nor beside `--expose`
+-- `--reset` can't stand beside the mode `event`, nor beside `--expose` or `--settles`
 abbrev pub refuses_reset : List Row → Mode → Bool
-refuses_reset rows Plain = is_set (codes "expose") rows
+refuses_reset rows Plain = is_set (codes "expose") rows || is_set (codes "settles") rows
 refuses_reset rows Event = true
 
 -- the mode that the words name, unless `--reset` stands beside what refuses it
@@ -47,8 +47,14 @@ abbrev pub settings_in : List Row → Option Settings
 settings_in rows =
     option_and_then (λ mode. option_map (λ conflicts. record { mode = mode; expose = is_set (codes "expose") rows; conflicts = conflicts; reset = is_set (codes "reset") rows }) (conflicts_in rows)) (mode_in rows)
 
+-- the comparison of these files, with `--settles` where that stands
+abbrev pub compared_in : Bool → Text → Text → Settings → Option Text → Task
+compared_in false a b settings assumed = task.Check a b settings assumed
+compared_in true a b settings assumed = task.CheckSettles a b settings assumed
+
 abbrev pub check_in : List Row → Option Task
-check_in rows = with_word (codes "a") rows (λ a. with_word (codes "b") rows (λ b. option_map (λ settings. task.Check a b settings (first_of (codes "assume") rows)) (settings_in rows)))
+check_in rows =
+    with_word (codes "a") rows (λ a. with_word (codes "b") rows (λ b. option_map (λ settings. compared_in (is_set (codes "settles") rows) a b settings (first_of (codes "assume") rows)) (settings_in rows)))
 
 abbrev pub graph_in : List Row → Option Task
 graph_in rows = with_word (codes "a") rows (λ a. option_map (λ mode. task.Graph a mode) (mode_in rows))

@@ -1,6 +1,6 @@
 -- Words that `clap` takes, with a mode that is known and nothing that refuses `--reset`.
 use Rattle.std.specs.Prelude.{◌≡◌, ◌||◌, Bool, true, false, if◌then◌else◌, [], ◌∷◌, List, None, Some, is_some, codes, bytes_eq, IfSome}
-use Rattle.circuit_theory.specs.declared.Mode.TheVariants.{Plain}
+use Rattle.circuit_theory.specs.declared.Mode.TheVariants.{Plain, Event}
 use Rattle.clap.specs.Words.{Row, Text, fault_of, subcommand_of}
 use Rattle.command_line.specs.command_words.Command.{sec_app}
 use Rattle.command_line.specs.Jobs.{job_of, mode_in, form_in}
@@ -65,8 +65,8 @@ AssumedIsTaken =
     ≡ Some (task.Check (codes "a") (codes "b") (record { mode = Plain; expose = false; conflicts = 20000; reset = true }) (Some (codes "c"))))
 
 -- words with `--settles`, and what they ask for
-abbrev pub SettlesIsTaken : Type 0
-SettlesIsTaken =
+abbrev pub ReplaySettlesIsTaken : Type 0
+ReplaySettlesIsTaken =
     AreTaken (codes "replay" ∷ codes "a" ∷ codes "b" ∷ codes "s" ∷ codes "--settles" ∷ [])
     × (job_of (codes "replay" ∷ codes "--settles" ∷ codes "a" ∷ codes "b" ∷ codes "s" ∷ []) ≡ Some (task.Replay (codes "a") (codes "b") (codes "s") Plain true))
 
@@ -92,9 +92,17 @@ OtherModeIsNoJob = AreNoJob (codes "check" ∷ codes "a" ∷ codes "b" ∷ codes
 abbrev pub OtherFormIsNoJob : Type 0
 OtherFormIsNoJob = AreNoJob (codes "cert" ∷ codes "a" ∷ codes "b" ∷ codes "y" ∷ codes "drat" ∷ [])
 
--- since `--reset` stands with `--expose`, or with the mode `event`
+-- words with `--settles`, and what they ask for
+abbrev pub CheckSettlesIsTaken : Type 0
+CheckSettlesIsTaken =
+    AreTaken (codes "check" ∷ codes "a" ∷ codes "b" ∷ codes "--settles" ∷ [])
+    × (job_of (codes "check" ∷ codes "a" ∷ codes "b" ∷ codes "--mode" ∷ codes "event" ∷ codes "--settles" ∷ codes "--assume" ∷ codes "c" ∷ [])
+    ≡ Some (task.CheckSettles (codes "a") (codes "b") (record { mode = Event; expose = false; conflicts = 20000; reset = false }) (Some (codes "c"))))
+
+-- since `--reset` stands with `--expose`, with `--settles`, or with the mode `event`
 abbrev pub ResetIsNoJob : Type 0
 ResetIsNoJob =
     AreNoJob (codes "check" ∷ codes "a" ∷ codes "b" ∷ codes "--reset" ∷ codes "--expose" ∷ [])
+    × AreNoJob (codes "check" ∷ codes "a" ∷ codes "b" ∷ codes "--reset" ∷ codes "--settles" ∷ [])
     × AreNoJob (codes "check" ∷ codes "a" ∷ codes "b" ∷ codes "--mode" ∷ codes "event" ∷ codes "--reset" ∷ [])
     × AreNoJob (codes "sim" ∷ codes "a" ∷ codes "s" ∷ codes "--mode" ∷ codes "event" ∷ codes "--reset" ∷ [])

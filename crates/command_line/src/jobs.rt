@@ -6,7 +6,7 @@ ghost use Rattle.clap.specs.Words.{fault_of, first_of, found_of, rows_of, subcom
 ghost use Rattle.clap.specs.ValueTests.{accepts};
 ghost use Rattle.clap.specs.declared.builder.value_parser.ValueParser.TheVariants as parser;
 ghost use Rattle.command_line.specs.command_words.Command.{sec_app};
-ghost use Rattle.command_line.specs.Jobs.{job_of, task_in, check_in, graph_in, sim_in, replay_in, settle_in, gen_in, lrat_in, cert_in, induct_in, form_in, mode_of, mode_in, refuses_reset, is_set, number_of, conflicts_in, settings_in};
+ghost use Rattle.command_line.specs.Jobs.{job_of, task_in, check_in, compared_in, graph_in, sim_in, replay_in, settle_in, gen_in, lrat_in, cert_in, induct_in, form_in, mode_of, mode_in, refuses_reset, is_set, number_of, conflicts_in, settings_in};
 
 use crate::command_words::sec_command;
 use crate::task::Task;
@@ -20,7 +20,7 @@ use std::alloc::{AllocError, Global};
 #[derive(Clone, Copy)]
 pub enum WordsError {
     /// `clap`'s definition for the command doesn't take the words, the mode is neither `plain` nor `event`, `--reset` stands with
-    /// `event` or with `--expose`, or the form of a certificate is neither `cnf` nor `lrat`.
+    /// `event`, with `--expose` or with `--settles`, or the form of a certificate is neither `cnf` nor `lrat`.
     Refused,
     /// Memory was wanted and couldn't be had.
     NoMemory,
@@ -102,7 +102,7 @@ fn refuses_reset(matches: &ArgMatches<'_>, mode: Mode) -> bool
     ensures { result ≡ refuses_reset (rows_of (found_of matches.now)) mode }
 {
     match mode {
-        Mode::Plain => is_set(matches, "expose"),
+        Mode::Plain => is_set(matches, "expose") || is_set(matches, "settles"),
         Mode::Event => true,
     }
 }
@@ -172,12 +172,34 @@ fn check_in(alloc: Global, matches: &ArgMatches<'_>) -> Result<Option<Task>, NoM
     };
     let assumed = path_of(alloc, word(matches, "assume"))?;
     let (a, b) = paths_of(alloc, a, b)?;
-    Ok(Some(Task::Check {
+    let settles = is_set(matches, "settles");
+    Ok(Some(compared_in(settles, a, b, settings, assumed)))
+}
+
+/// The comparison of these files, with `--settles` where that stands.
+fn compared_in(
+    settles: bool,
+    a: FilePath,
+    b: FilePath,
+    settings: Settings,
+    assumed: Option<FilePath>,
+) -> Task
+    ensures { result ≡ compared_in settles a b settings assumed }
+{
+    if settles {
+        return Task::CheckSettles {
+            a,
+            b,
+            settings,
+            assumed,
+        };
+    }
+    Task::Check {
         a,
         b,
         settings,
         assumed,
-    }))
+    }
 }
 
 fn graph_in(alloc: Global, matches: &ArgMatches<'_>) -> Result<Option<Task>, NoMemory>
@@ -405,8 +427,8 @@ fn matches_of<'a>(alloc: Global, words: &'a [String]) -> Result<ArgMatches<'a>, 
 }
 
 /// The job of the words behind the program's name. `Refused` comes exactly where `clap`'s definition for the command
-/// doesn't take them, the mode is neither `plain` nor `event`, `--reset` stands with `event` or with `--expose`, or the form of a
-/// certificate is neither `cnf` nor `lrat`.
+/// doesn't take them, the mode is neither `plain` nor `event`, `--reset` stands with `event`, with `--expose` or with `--settles`, or
+/// the form of a certificate is neither `cnf` nor `lrat`.
 pub fn job(alloc: Global, words: &[String]) -> Result<Task, WordsError>
     ensures job { IfOk result (λ task. job_of (map (λ w. string_bytes w) words.now) ≡ Some task) }
     ensures refused { IsErrOf result WordsError.Refused → job_of (map (λ w. string_bytes w) words.now) ≡ None }

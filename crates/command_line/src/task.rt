@@ -13,6 +13,13 @@ pub enum Task {
         settings: Settings,
         assumed: Option<FilePath>,
     },
+    /// Compare them so, not from initial values, and find out of each pair whether some frame has care for both its sides.
+    CheckSettles {
+        a: FilePath,
+        b: FilePath,
+        settings: Settings,
+        assumed: Option<FilePath>,
+    },
     /// Print the latches of a circuit, their depths and a cycle.
     Graph {
         a: FilePath,
@@ -74,6 +81,12 @@ impl Drop for Task {
     fn drop(self) {
         match self {
             Task::Check {
+                a: _,
+                b: _,
+                settings: _,
+                assumed: _,
+            } => {}
+            Task::CheckSettles {
                 a: _,
                 b: _,
                 settings: _,

@@ -1,5 +1,5 @@
 -- From what is found of both circuits to the answer of a comparison.
-use Rattle.std.proofs.Common.{◌≡◌, ◌∙◌, ℕ, List, length, map, None, Err, refl, sym, ap, subst, inl, inr}
+use Rattle.std.proofs.Common.{◌≡◌, ◌∙◌, ℕ, Bool, true, false, List, [], length, map, None, Err, refl, sym, ap, subst, inl, inr}
 use Rattle.std.specs.Prelude.{◌⊎◌}
 use Rattle.flat_net.specs.Comparable.{IsComparable}
 use Rattle.flat_net.specs.Sound.{IsSound}
@@ -25,6 +25,8 @@ use Rattle.event_check.proofs.event_answers.Told.{limit_at, named, outcome_by}
 use Rattle.event_setup.proofs.event_meaning.Saying.{cut_outcomes, different_outcomes, equal_outcomes}
 use Rattle.event_setup.proofs.event_meaning.Framing.{unshown_outcomes}
 use Rattle.event_check.specs.Pairs.{ArePairsFound}
+use Rattle.event_check.specs.event_answers.Settles.{CaresFit}
+use Rattle.event_check.proofs.event_answers.Told.{known_pairs, unknown_pairs}
 
 -- the interfaces don't match
 pub unmatched : (a b : NetView) (settings : Settings) (e : SetupError) → NoMatch a b e → ComparedInEvents a b settings (Err (refusal_of e))
@@ -64,6 +66,10 @@ module _ (a b : NetView) (settings : Settings) (sa : IsSound a) (sb : IsSound b)
       fits_is_compared (outcome_by a b None exposed (limit_at at))
       (record { counts = counts exposed (limit_at at); rest = rest (outcome_by a b None exposed (limit_at at)) (stops (outcome_by a b None exposed (limit_at at)) refl refl refl refl) })
 
+  -- where no pair is asked about there are none
+  pub no_cares : (exposed : List (List ℕ)) (at : LimitAt) → StopsAtLimit a b settings exposed at → CaresFit a b settings (outcome_by a b None exposed (limit_at at)) []
+  no_cares exposed at stops = inl (unknown_pairs a b settings (outcome_by a b None exposed (limit_at at)) (stops (outcome_by a b None exposed (limit_at at)) refl refl refl refl), refl)
+
   -- what is found of the pairs is the outcome
   module _ (x : Classed) (is : AreClassed a b settings x) where
     abbrev left : EventCircuitView
@@ -72,8 +78,8 @@ module _ (a b : NetView) (settings : Settings) (sa : IsSound a) (sb : IsSound b)
     abbrev right : EventCircuitView
     right = x.separated.events.right
 
-    pub pairs_compared : (f : Found) → ArePairsFound left right x.names x.asked settings.conflicts f → IsComparedInEvents a b settings (outcome_by a b None x.exposed f)
-    pairs_compared f k = fits_is_compared (outcome_by a b None x.exposed f) (record {
+    pub pairs_compared : (settles : Bool) (f : Found) → ArePairsFound left right x.names x.asked settings.conflicts settles f → IsComparedInEvents a b settings (outcome_by a b None x.exposed f)
+    pairs_compared settles f k = fits_is_compared (outcome_by a b None x.exposed f) (record {
       counts = counts x.exposed f;
       rest = inr (inr (record {
         left = left;
@@ -91,4 +97,17 @@ module _ (a b : NetView) (settings : Settings) (sa : IsSound a) (sb : IsSound b)
         pairs = k.pairs;
         verdict_is = named a b settings x is k.found f.verdict k.verdict_is;
       }));
+    })
+
+    -- and what is found of their cares is that of the outcome
+    pub cares_found : (settles : Bool) (f : Found) → ArePairsFound left right x.names x.asked settings.conflicts settles f → settles ≡ true → CaresFit a b settings (outcome_by a b None x.exposed f) f.cares
+    cares_found settles f k asks = inr (record {
+      known = known_pairs x.names.left x.names.right x.names.columns k.found.verdict f.verdict k.verdict_is;
+      left = left;
+      right = right;
+      reached = is.reached;
+      classes = is.counted.classes;
+      pairs = x.asked.pairs;
+      listed = is.listed;
+      each = k.cares asks;
     })

@@ -1,12 +1,17 @@
 -- What is found of the pairs of two circuits, by what their comparison says.
-use Rattle.std.proofs.Common.{◌≡◌, ◌∙◌, ◌≤◌, ℕ, List, sym, subst}
-use Rattle.std.specs.List.{All}
+use Rattle.std.proofs.Common.{◌≡◌, ◌∙◌, ◌≤◌, ℕ, Bool, true, List, sym, subst}
+use Rattle.std.specs.List.{All, AllZip}
+use Rattle.circuit_theory.specs.Joined.{Either}
+use Rattle.circuit_theory.specs.Frame.{EventSide}
 use Rattle.sec_setup.specs.declared.ports.pairs.SignalPair.{SignalPair}
 use Rattle.sec_setup.specs.ports.Pairs.{ArePairsOf}
 use Rattle.event_check.specs.event_answers.class_events.Made.{AreEnablesCounted}
 use Rattle.edbf_unfold.specs.class_queries.Laws.{AreKept}
 use Rattle.event_nodes.specs.View.{EventCircuitView}
-use Rattle.event_form.specs.event_agreement.pair_events.View.{EventsView, IsEvents}
+use Rattle.event_form.specs.event_agreement.pair_events.View.{EventsView, IsEvents, side_of_both}
+use Rattle.event_form.proofs.Asking.{side_same}
+use Rattle.event_settles.specs.Cares.{CareFits}
+use Rattle.event_settles.specs.declared.cares.PairCare.{PairCare}
 use Rattle.event_form.specs.event_agreement.pair_events.Within.{IsCountedOnce}
 use Rattle.event_check.specs.event_answers.Findings.{FindingsFit}
 use Rattle.event_check.specs.event_answers.EventFindings.{EventFindings}
@@ -36,8 +41,9 @@ module _ (e : EventsView) (n : Names) (x : Asked) (askable : AreAskable e n x) (
       (subst (ArePairsOf e.left.net e.right.net) (sym asked.0) askable.shown) fits_first.verdict_is
 
   -- and it is what is found of the circuits
-  pub pairs_found : (is : IsEvents e) (k : AreEnablesCounted e) (few : e.count ≤ 500) → AreKept f.left f.right f.events → IsCountedOnce f → (found : Found) → IsNamedFound n findings f.count found → ArePairsFound e.left e.right n x conflicts found
-  pairs_found is k few later_kept once found told = record {
+  pub pairs_found : (is : IsEvents e) (k : AreEnablesCounted e) (few : e.count ≤ 500) → AreKept f.left f.right f.events → IsCountedOnce f → (settles : Bool) (cares : List PairCare) → (settles ≡ true → AllZip (CareFits (side_of_both f) conflicts) c.pairs.now cares) →
+      (found : Found) → IsNamedFound n findings f.count cares found → ArePairsFound e.left e.right n x conflicts settles found
+  pairs_found is k few later_kept once settles cares own found told = record {
     unfolded = subst (AreUnfolded e.left e.right x.pairs) (sym told.classes_are) (subst (λ (ps : List SignalPair). AreUnfolded e.left e.right ps f.count) asked.0 (unfolded e is k few c.pairs.now f counted later_kept once));
     compared = c;
     asked = asked;
@@ -45,4 +51,8 @@ module _ (e : EventsView) (n : Names) (x : Asked) (askable : AreAskable e n x) (
     fits = fits_first;
     pairs = told.pairs;
     verdict_is = told.verdict_is;
+    cares = λ asks.
+        subst (AllZip (CareFits (side_of_both e) conflicts) x.pairs) (sym told.cares_are)
+        (subst (λ (ps : List SignalPair). AllZip (CareFits (side_of_both e) conflicts) ps cares) asked.0
+        (subst (λ (s : EventSide (Either ℕ ℕ)). AllZip (CareFits s conflicts) c.pairs.now cares) (sym (side_same e f counted.later.left counted.later.right)) (own asks)));
   }

@@ -2,6 +2,7 @@ pub mod Askable
 pub mod Finding
 pub mod Limits
 pub mod Reached
+pub mod Settles
 pub mod Laws
 pub use Rattle.event_setup.specs.declared.event_meaning.event_names.names.Names
 pub use Rattle.event_setup.specs.event_meaning.event_names.Nameable

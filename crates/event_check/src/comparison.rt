@@ -7,8 +7,9 @@ ghost use Rattle.flat_net.specs.View.{ports_of};
 ghost use Rattle.sec_setup.specs.Matching.{InterfacesMatch};
 ghost use Rattle.event_setup.specs.event_meaning.event_names.event_fits.Compared.{ComparedInEvents};
 ghost use Rattle.event_check.specs.event_answers.Reached.{AreClassed};
+ghost use Rattle.event_check.specs.event_answers.Settles.{SettlesInEvents};
 
-use crate::event_answers::{Classed, Reached, limit_found, outcome_of, reach_pairs};
+use crate::event_answers::{Classed, Reached, Settled, limit_found, outcome_of, reach_pairs};
 use crate::pairs::compare_pairs;
 use event_setup::event_meaning::CompareError;
 use flat_net::Net;
@@ -35,12 +36,32 @@ pub fn compare_in_events(
     requires right { IsComparable b.now }
     ensures { ComparedInEvents a.now b.now settings.now result }
 {
+    match settle_in_events(alloc, a, b, settings, false) {
+        Ok(Settled { outcome, cares: _ }) => Ok(outcome),
+        Err(error) => Err(error),
+    }
+}
+
+/// Compares the circuits so, and with `settles` finds out of each pair, in order, whether both its sides have care together in some frame. These queries
+/// come behind those of the pairs, each with at most as many conflicts.
+pub fn settle_in_events(
+    alloc: Global,
+    a: &Net,
+    b: &Net,
+    settings: &Settings,
+    settles: bool,
+) -> Result<Settled, CompareError>
+    requires conflicts { settings.now.conflicts ≤ MAX_CONFLICTS }
+    requires left { IsComparable a.now }
+    requires right { IsComparable b.now }
+    ensures { SettlesInEvents settles a.now b.now settings.now result }
+{
     a.keeps();
     b.keeps();
     let shared = shared_names(alloc, a, b)?;
     match reach_pairs(alloc, a, b, &shared, settings)? {
         Reached::Pairs(mut classed) => {
-            compare_classed(alloc, a, b, shared.len(), &mut classed, settings)
+            compare_classed(alloc, a, b, shared.len(), &mut classed, settings, settles)
         }
         Reached::Limit(exposed, at) => {
             let found = limit_found(alloc, at);
@@ -57,14 +78,15 @@ fn compare_classed(
     inputs: u32,
     classed: &mut Classed,
     settings: &Settings,
-) -> Result<Outcome, CompareError>
+    settles: bool,
+) -> Result<Settled, CompareError>
     requires conflicts { settings.now.conflicts ≤ MAX_CONFLICTS }
     requires left { IsComparable a.now }
     requires right { IsComparable b.now }
     requires matches { InterfacesMatch a.now b.now }
     requires inputs { inputs ≡ length (shared_inputs (ports_of a.now) (ports_of b.now)) }
     requires classed { AreClassed a.now b.now settings.now classed.old }
-    ensures { ComparedInEvents a.now b.now settings.now result }
+    ensures { SettlesInEvents settles a.now b.now settings.now result }
 {
     a.keeps();
     b.keeps();
@@ -74,6 +96,7 @@ fn compare_classed(
         &classed.names,
         &classed.asked,
         settings.conflicts,
+        settles,
     )?;
     let exposed = mem::replace(&mut classed.exposed, Words::new(alloc));
     Ok(outcome_of(a, b, inputs, None, exposed, found))

@@ -9,7 +9,7 @@ ghost use Rattle.event_check.specs.event_answers.Laws.{EqualSetupsAgree, SetupsA
 
 pub use event_comparison::{EventFindings, EventFormError, EventPairs, Separated, compare_events};
 pub use event_setup::event_meaning::event_names::Names;
-pub use outcomes::{Found, limit_found, named_findings, outcome_of};
+pub use outcomes::{Found, Settled, limit_found, named_findings, outcome_of};
 pub use reaching::{Asked, Classed, Reached, reach_pairs};
 
 /// The two circuits of a setup are as they are to be compared, once their latches have their classes.

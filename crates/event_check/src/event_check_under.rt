@@ -6,4 +6,4 @@ pub mod event_answers_under;
 pub mod event_names_under;
 mod pairs;
 
-pub use comparison::compare_in_events_under;
+pub use comparison::{compare_in_events_under, settle_in_events_under};

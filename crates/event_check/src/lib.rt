@@ -6,4 +6,4 @@ pub mod event_answers;
 pub mod event_check_under;
 mod pairs;
 
-pub use comparison::compare_in_events;
+pub use comparison::{compare_in_events, settle_in_events};

@@ -16,7 +16,7 @@ use obligations::Obligation;
 use std::alloc::Global;
 
 /// What is asked of the pairs, each query under the assumption.
-pub(crate) fn questions_of(
+pub fn questions_of(
     alloc: Global,
     events: &Events,
     compared: &EventPairs<'_>,

@@ -9,5 +9,6 @@ pub mod event_under_verdicts;
 pub mod event_witness_under;
 mod verdict;
 
+pub use asking::questions_of;
 pub use comparison::compare_events_under;
 pub use error::EventUnderError;

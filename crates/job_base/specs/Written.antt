@@ -55,7 +55,7 @@ abbrev pub unrefuted_proofs : Unrefuted → List Proof
 unrefuted_proofs unrefuted.Satisfiable = []
 unrefuted_proofs (unrefuted.Limit conflicts proof) = proof ∷ []
 
--- the status of what is said of two circuits by blocks of their latches or on a stimulus
+-- the status of what is said of two circuits: by blocks of their latches, by pairs with care, or on a stimulus
 abbrev pub judgement_status : Judgement → StatusName
 judgement_status judgement.Equal = status.Equal
 judgement_status judgement.Different = status.Different

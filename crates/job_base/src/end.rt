@@ -62,7 +62,7 @@ fn unrefuted_status(unrefuted: &Unrefuted) -> StatusName
     }
 }
 
-/// The status of what is said of two circuits by blocks of their latches or on a stimulus.
+/// The status of what is said of two circuits.
 fn judgement_status(judgement: Judgement) -> StatusName
     ensures { result ≡ judgement_status judgement }
 {
@@ -124,7 +124,7 @@ fn proofs_from(alloc: Global, first: Option<Proof>, pairs: PairResults) -> Resul
 }
 
 /// The proofs of an outcome's queries that met the limit, in the order in which they were decided.
-fn proofs_of(alloc: Global, outcome: Outcome) -> Result<Proofs, NoMemory>
+pub fn proofs_of(alloc: Global, outcome: Outcome) -> Result<Proofs, NoMemory>
     ensures { IfOk result (λ proofs. proofs ≡ outcome_proofs outcome) }
 {
     let (pairs, verdict) = outcome.into_parts(alloc);

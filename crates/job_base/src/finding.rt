@@ -92,14 +92,17 @@ pub enum Unrefuted {
     Limit(u32, Proof),
 }
 
-/// What is said of two circuits whose latches are put into blocks, or which were run on one stimulus.
+/// What is said of two circuits whose latches are put into blocks, whose pairs are asked whether they have care, or which were run on one
+/// stimulus.
 #[derive(Clone, Copy)]
 pub enum Judgement {
-    /// Each output agrees for all values that are constant on the blocks; or no pair differs on the stimulus, and some is settled.
+    /// Each output agrees for all values that are constant on the blocks; or each pair's functions agree, and some frame has care for it; or no
+    /// pair differs on the stimulus, and some is settled.
     Equal,
-    /// Some pair differs on the stimulus.
+    /// A pair's functions differ, and the circuits with them; or some pair differs on the stimulus.
     Different,
-    /// Some output differs for values that are constant on the blocks; or no pair is settled on the stimulus.
+    /// Some output differs for values that are constant on the blocks; or no frame has care for a pair, or the functions of one differ where that
+    /// isn't known of the circuits; or no pair is settled on the stimulus.
     NotShown,
     /// A query wasn't decided within the number of conflicts.
     Limit,
@@ -129,8 +132,8 @@ pub enum Finding {
     Undecided(Side, Word, Proof),
     /// The clauses of a pair of outputs aren't refuted.
     Unrefuted(Unrefuted),
-    /// What is said of two circuits by blocks of their latches or on a stimulus, the proofs of the queries that met the limit, and the
-    /// report.
+    /// What is said of two circuits by blocks of their latches, by pairs with care or on a stimulus, the proofs of the queries that met the
+    /// limit, and the report.
     Judged(Judgement, Proofs, Text),
 }
 

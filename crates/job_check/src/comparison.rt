@@ -105,7 +105,7 @@ fn compare_assuming<S: Shelf>(
 }
 
 /// What is found by a comparison.
-fn compare_end(settings: Settings, compared: Result<Outcome, CompareError>) -> Result<Finding, Stop>
+pub fn compare_end(settings: Settings, compared: Result<Outcome, CompareError>) -> Result<Finding, Stop>
     ensures { result ≡ compare_end settings compared }
 {
     match compared {

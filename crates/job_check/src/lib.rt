@@ -6,4 +6,4 @@ pub mod compare_under;
 mod comparison;
 pub mod sec_check;
 
-pub use comparison::{Comparison, check};
+pub use comparison::{Comparison, check, compare_end};

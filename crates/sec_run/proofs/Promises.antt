@@ -18,6 +18,7 @@ use Rattle.job_circuit.proofs.job_replay.Means.{replay_means}
 use Rattle.job_circuit.proofs.job_replay.CompleteReplays.{replay_complete}
 use Rattle.job_check.proofs.check_meaning.Complete.{check_complete}
 use Rattle.job_check.proofs.check_meaning.Means.{check_means}
+use Rattle.job_settles.proofs.Means.{settles_means, settles_complete}
 use Rattle.sec_jobs.proofs.job_gen.gen_meaning.Means.{gen_means, gen_complete}
 use Rattle.sec_jobs.proofs.job_cert.job_lrat.Means.{lrat_means, lrat_complete}
 use Rattle.sec_jobs.proofs.job_cert.Means.{cert_means}
@@ -32,6 +33,7 @@ pub means : (held : Held) (job : Option Task) (before now : Option (List ℕ)) (
     IsFinding held job f → IsWrittenAs before now f proofs name → Means held job before now proofs name
 means held None before now f proofs name found w = says_nothing before now f proofs name (subst (λ (g : Finding). SaysNothing (status_of g)) (sym found) tt) w
 means held (Some (task.Check a b settings assumed)) before now f proofs name found w = check_means held (record { left = a; right = b; settings = settings; assumed = assumed }) before now f proofs name found w
+means held (Some (task.CheckSettles a b settings assumed)) before now f proofs name found w = settles_means held (record { left = a; right = b; settings = settings; assumed = assumed }) before now f proofs name found w
 means held (Some (task.Graph a mode)) before now f proofs name found w = graph_means mode (held a) before now f proofs name found w
 means held (Some (task.Sim a s mode power reset)) before now f proofs name found w = sim_means mode (held a) (held s) power reset before now f proofs name found w
 means held (Some (task.Replay a b s mode settles)) before now f proofs name found w = replay_means (report_with settles) mode (held a) (held b) (held s) before now f proofs name found w
@@ -45,6 +47,7 @@ means held (Some (task.Induct a b conflicts)) before now f proofs name found w =
 pub memory_means : (held : Held) (job : Option Task) (before now : Option (List ℕ)) (proofs : List Proof) → Means held job before now proofs status.NoMemory
 memory_means held None before now proofs = tt
 memory_means held (Some (task.Check a b settings assumed)) before now proofs = tt
+memory_means held (Some (task.CheckSettles a b settings assumed)) before now proofs = tt
 memory_means held (Some (task.Graph a mode)) before now proofs = tt
 memory_means held (Some (task.Sim a s mode power reset)) before now proofs = tt
 memory_means held (Some (task.Replay a b s mode settles)) before now proofs = tt
@@ -57,6 +60,7 @@ memory_means held (Some (task.Induct a b conflicts)) before now proofs = tt
 pub fault_means : (held : Held) (job : Option Task) (before now : Option (List ℕ)) (proofs : List Proof) → Means held job before now proofs status.ReadFault
 fault_means held None before now proofs = tt
 fault_means held (Some (task.Check a b settings assumed)) before now proofs = tt
+fault_means held (Some (task.CheckSettles a b settings assumed)) before now proofs = tt
 fault_means held (Some (task.Graph a mode)) before now proofs = tt
 fault_means held (Some (task.Sim a s mode power reset)) before now proofs = tt
 fault_means held (Some (task.Replay a b s mode settles)) before now proofs = tt
@@ -70,6 +74,7 @@ fault_means held (Some (task.Induct a b conflicts)) before now proofs = tt
 is_complete : (held : Held) (job : Option Task) (f : Finding) → IsFinding held job f → IsComplete held job (status_of f)
 is_complete held None f found = inl (ap status_of found)
 is_complete held (Some (task.Check a b settings assumed)) f found = check_complete held (record { left = a; right = b; settings = settings; assumed = assumed }) f found
+is_complete held (Some (task.CheckSettles a b settings assumed)) f found = settles_complete held (record { left = a; right = b; settings = settings; assumed = assumed }) f found
 is_complete held (Some (task.Graph a mode)) f found = graph_complete mode (held a) f found
 is_complete held (Some (task.Sim a s mode power reset)) f found = sim_complete mode (held a) (held s) power reset f found
 is_complete held (Some (task.Replay a b s mode settles)) f found = replay_complete (report_with settles) mode (held a) (held b) (held s) f found
@@ -83,6 +88,7 @@ is_complete held (Some (task.Induct a b conflicts)) f found = induct_complete co
 pub memory_is_complete : (held : Held) (job : Option Task) → IsComplete held job status.NoMemory
 memory_is_complete held None = inr refl
 memory_is_complete held (Some (task.Check a b settings assumed)) = λ can. tt
+memory_is_complete held (Some (task.CheckSettles a b settings assumed)) = λ can. tt
 memory_is_complete held (Some (task.Graph a mode)) = λ can. tt
 memory_is_complete held (Some (task.Sim a s mode power reset)) = λ can. tt
 memory_is_complete held (Some (task.Replay a b s mode settles)) = λ can. tt

@@ -13,6 +13,7 @@ use Rattle.sec_jobs.specs.job_induct.induct_meaning.Found.{induct_paths}
 -- the paths that a job reads, in the order of their fetches; none where it makes its circuits itself
 abbrev pub paths_of : Task → List (List ℕ)
 paths_of (task.Check a b settings assumed) = check_paths (record { left = a; right = b; settings = settings; assumed = assumed })
+paths_of (task.CheckSettles a b settings assumed) = check_paths (record { left = a; right = b; settings = settings; assumed = assumed })
 paths_of (task.Graph a mode) = graph_paths a
 paths_of (task.Sim a s mode power reset) = sim_paths a s
 paths_of (task.Replay a b s mode settles) = replay_paths a b s
@@ -30,6 +31,7 @@ paths_in (Some job) = paths_of job
 -- what is held at a path of the job lets the work go on to the next one: its circuit loads, or its clauses are spelled
 abbrev pub GoesOn : Task → Option (List ℕ) → Type 0
 GoesOn (task.Check a b settings assumed) = IsLoaded
+GoesOn (task.CheckSettles a b settings assumed) = IsLoaded
 GoesOn (task.Graph a mode) = IsLoaded
 GoesOn (task.Sim a s mode power reset) = IsLoaded
 GoesOn (task.Replay a b s mode settles) = IsLoaded

@@ -17,6 +17,7 @@ use job_base::{Finding, Status, StatusName, Stop, finish};
 use job_check::{Comparison, check};
 use job_circuit::job_replay::{Replay, ReplayReport, replay_files};
 use job_circuit::{Simulation, simulate, tell_graph};
+use job_settles::check_settles;
 use sec_base::{FilePath, Shelf, Sink, Word};
 use sec_jobs::job_cert::job_lrat::{Refutation, check_refutation};
 use sec_jobs::job_cert::{Certification, Wanted, certify};
@@ -48,6 +49,20 @@ fn find<S: Shelf>(alloc: Global, task: &Task, shelf: &mut S) -> Result<Finding, 
                 assumed: path_of(assumed),
             };
             check(alloc, &comparison, shelf)
+        }
+        Task::CheckSettles {
+            a,
+            b,
+            settings,
+            assumed,
+        } => {
+            let comparison = Comparison {
+                left: a.as_str(),
+                right: b.as_str(),
+                settings: *settings,
+                assumed: path_of(assumed),
+            };
+            check_settles(alloc, &comparison, shelf)
         }
         Task::Graph { a, mode } => tell_graph(alloc, a.as_str(), *mode, shelf),
         Task::Sim {

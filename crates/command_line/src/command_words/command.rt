@@ -72,6 +72,7 @@ fn words_of<'a>(which: Subcommand) -> (&'a str, &'a [Word<'a>])
                 Word::Conflicts,
                 Word::Flag("reset"),
                 Word::Option("assume"),
+                Word::Flag("settles"),
             ],
         ),
         Subcommand::Graph => ("graph", &[Word::Place("a"), MODE]),

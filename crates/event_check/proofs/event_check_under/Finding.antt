@@ -1,12 +1,19 @@
 -- What is found of the pairs of two circuits under an assumption, by what their comparison says.
-use Rattle.std.proofs.Common.{◌≡◌, ◌≤◌, ℕ, List, length, refl, sym, ap, subst, Result, Err}
+use Rattle.std.specs.List.{AllZip}
+use Rattle.std.proofs.Common.{◌≡◌, ◌≤◌, ℕ, Bool, true, List, length, refl, sym, ap, subst, Result, Err}
+use Rattle.circuit_theory.specs.Joined.{Either}
+use Rattle.circuit_theory.specs.Frame.{EventSide}
+use Rattle.flat_net.specs.View.{NetView}
 use Rattle.sec_setup.specs.declared.ports.pairs.SignalPair.{SignalPair}
 use Rattle.sec_setup.specs.ports.Pairs.{ArePairsOf}
 use Rattle.event_check.specs.event_answers.class_events.Made.{AreEnablesCounted}
 use Rattle.edbf_unfold.specs.class_queries.Enables.{both_of}
 use Rattle.edbf_unfold.specs.class_queries.Laws.{AreKept}
 use Rattle.event_nodes.specs.View.{EventCircuitView}
-use Rattle.event_form.specs.event_agreement.pair_events.View.{EventsView, IsEvents}
+use Rattle.event_form.specs.event_agreement.pair_events.View.{EventsView, IsEvents, side_of_both}
+use Rattle.event_form.proofs.Asking.{side_same}
+use Rattle.event_settles.specs.Cares.{CareFitsUnder}
+use Rattle.event_settles.specs.declared.cares.PairCare.{PairCare}
 use Rattle.event_form.specs.event_agreement.pair_events.Within.{IsCountedOnce}
 use Rattle.event_check.specs.event_answers.EventFindings.{EventFindings}
 use Rattle.event_check.specs.event_answers.EventPairs.{EventPairs}
@@ -48,8 +55,10 @@ module _ (e : EventsView) (n : Names) (x : Asked) (askable : AreAskable e n x) (
       (subst (λ count. IsAssumedBy p count premise.net premise.inputs premise.output premise.size) (sym (ap length asked.2)) premise.is)).verdict_is
 
   -- and it is what is found of the circuits
-  pub pairs_found : (is : IsEvents e) (k : AreEnablesCounted e) (few : e.count ≤ 500) → AreKept f.left f.right f.events → IsCountedOnce f → (found : Found) → IsNamedFound n findings f.count found → ArePairsFoundUnder e.left e.right n x p conflicts found
-  pairs_found is k few later_kept once found told = record {
+  pub pairs_found : (is : IsEvents e) (k : AreEnablesCounted e) (few : e.count ≤ 500) → AreKept f.left f.right f.events → IsCountedOnce f → (settles : Bool) (cares : List PairCare) →
+      (settles ≡ true → (m : NetView) (inputs : List ℕ) (output size : ℕ) → IsAssumedBy p (length c.names.now) m inputs output size → AllZip (CareFitsUnder (assumption_of m inputs output) (side_of_both f) conflicts) c.pairs.now cares) →
+      (found : Found) → IsNamedFound n findings f.count cares found → ArePairsFoundUnder e.left e.right n x p conflicts settles found
+  pairs_found is k few later_kept once settles cares own found told = record {
     unfolded = subst (AreUnfolded e.left e.right x.pairs) (sym told.classes_are) (subst (λ (ps : List SignalPair). AreUnfolded e.left e.right ps f.count) asked.0 (unfolded e is k few c.pairs.now f light.0 later_kept once));
     light = subst (IsLightAtNodes p.weight (both_of e.left e.right)) asked.0 light.1;
     compared = c;
@@ -58,18 +67,22 @@ module _ (e : EventsView) (n : Names) (x : Asked) (askable : AreAskable e n x) (
     fits = fits_first;
     pairs = told.pairs;
     verdict_is = told.verdict_is;
+    cares = λ asks m inputs output size by.
+        subst (AllZip (CareFitsUnder (assumption_of m inputs output) (side_of_both e) conflicts) x.pairs) (sym told.cares_are)
+        (subst (λ (ps : List SignalPair). AllZip (CareFitsUnder (assumption_of m inputs output) (side_of_both e) conflicts) ps cares) asked.0
+        (subst (λ (s : EventSide (Either ℕ ℕ)). AllZip (CareFitsUnder (assumption_of m inputs output) s conflicts) c.pairs.now cares) (sym (side_same e f light.0.later.left light.0.later.right)) (own asks m inputs output size by)));
   }
 
 -- why they can't be compared
-pub found_refused : {X : Type 0} (e : EventsView) (is : IsEvents e) (k : AreEnablesCounted e) (few : e.count ≤ 500) (n : Names) (x : Asked) (p : Premise) (conflicts : ℕ) (f : EventsView) → AreKept f.left f.right f.events → IsCountedOnce f →
+pub found_refused : {X : Type 0} (e : EventsView) (is : IsEvents e) (k : AreEnablesCounted e) (few : e.count ≤ 500) (n : Names) (x : Asked) (p : Premise) (conflicts : ℕ) (settles : Bool) (f : EventsView) → AreKept f.left f.right f.events → IsCountedOnce f →
     (pairs : List SignalPair) → pairs ≡ x.pairs → (error : EventUnderError) → (result : Result X EventUnderError) → result ≡ Err error → (result ≡ Err under_error.AssumptionTooLarge → ArePairsOver p.weight pairs e f) → AreRefusedUnder pairs e result →
-    FindsPairsUnder e.left e.right n x p conflicts (Err (refusal_under error))
-found_refused e is k few n x p conflicts f kept once pairs same under_error.TooManyEvents result told over stops =
+    FindsPairsUnder e.left e.right n x p conflicts settles (Err (refusal_under error))
+found_refused e is k few n x p conflicts settles f kept once pairs same under_error.TooManyEvents result told over stops =
     subst (λ (ps : List SignalPair). AreNotUnfolded e.left e.right ps (refusal_under under_error.TooManyEvents)) same (not_unfolded e is k few pairs form_error.TooManyEvents (stops form_error.TooManyEvents told))
-found_refused e is k few n x p conflicts f kept once pairs same (under_error.TooLarge side) result told over stops =
+found_refused e is k few n x p conflicts settles f kept once pairs same (under_error.TooLarge side) result told over stops =
     subst (λ (ps : List SignalPair). AreNotUnfolded e.left e.right ps (refusal_under (under_error.TooLarge side))) same (not_unfolded e is k few pairs (form_error.TooLarge side) (stops (form_error.TooLarge side) told))
-found_refused e is k few n x p conflicts f kept once pairs same under_error.AssumptionTooLarge result told over stops =
+found_refused e is k few n x p conflicts settles f kept once pairs same under_error.AssumptionTooLarge result told over stops =
     let h = over told in
     let u = subst (λ (ps : List SignalPair). AreUnfolded e.left e.right ps f.count) same (unfolded e is k few pairs f h.0 kept once) in
     (u.made, (u.within, subst (IsOverAtNodes p.weight (both_of e.left e.right)) same h.1))
-found_refused e is k few n x p conflicts f kept once pairs same under_error.NoMemory result told over stops = tt
+found_refused e is k few n x p conflicts settles f kept once pairs same under_error.NoMemory result told over stops = tt

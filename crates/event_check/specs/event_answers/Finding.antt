@@ -12,13 +12,15 @@ use Rattle.event_setup.specs.event_meaning.event_names.EventFormError.TheVariant
 use Rattle.event_setup.specs.event_meaning.event_names.event_fits.Named.{NamesVerdict}
 use Rattle.event_setup.specs.event_meaning.event_names.event_fits.Totals.{IsMapMade, IsWithinWith, PairsReachTooMany, PairsWeighTooMuch}
 use Rattle.event_setup.specs.declared.event_meaning.event_names.names.Names.{Names}
+use Rattle.event_settles.specs.declared.cares.PairCare.{PairCare}
 use Rattle.event_check.specs.declared.event_answers.outcomes.Found.{Found}
 
 -- what is found of the pairs, by the names of inputs and latches
-pub record IsNamedFound (n : Names) (x : EventFindings) (classes : ℕ) (f : Found) : Type 0 where
+pub record IsNamedFound (n : Names) (x : EventFindings) (classes : ℕ) (cares : List PairCare) (f : Found) : Type 0 where
   pub classes_are : f.classes ≡ classes
   pub pairs : f.pairs ≡ x.pairs
   pub verdict_is : NamesVerdict n.left n.right n.columns x.verdict f.verdict
+  pub cares_are : f.cares ≡ cares
 
 -- the class map is made, it has so many classes, and all pairs are unfolded within their numbers
 pub record AreUnfolded (a b : EventCircuitView) (pairs : List SignalPair) (classes : ℕ) : Type 0 where

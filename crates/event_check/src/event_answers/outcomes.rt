@@ -6,28 +6,40 @@ ghost use Rattle.event_setup.specs.event_meaning.event_names.Nameable.{CanBeName
 ghost use Rattle.event_check.specs.event_answers.Finding.{IsNamedFound};
 
 use event_comparison::EventFindings;
+use event_settles::PairCares;
 use event_setup::event_meaning::event_names::{Names, named_verdict};
 use flat_net::Net;
 use obligations::outcome::{LimitAt, Outcome, PairResults, Verdict};
 use sec_base::{NoMemory, Word, Words};
 use std::alloc::Global;
 
-/// What is found of two circuits: how many classes they have besides `always`, the results of their pairs, and the verdict.
+/// What is found of two circuits: how many classes they have besides `always`, the results of their pairs, the verdict, and where that is asked for
+/// what is found of the cares of the pairs.
 #[derive(Drop)]
 pub struct Found {
     pub classes: u32,
     pub pairs: PairResults,
     pub verdict: Verdict,
+    pub cares: PairCares,
+}
+
+/// The outcome of a comparison, and what is found of the cares of its pairs, in order; nothing where that isn't asked for, or where no pair is asked
+/// about.
+#[derive(Drop)]
+pub struct Settled {
+    pub outcome: Outcome,
+    pub cares: PairCares,
 }
 
 /// No pair is asked about, since the limit was met there.
 pub fn limit_found(alloc: Global, at: LimitAt) -> Found
-    ensures { result ≡ record { classes = 0; pairs = []; verdict = verdict.Limit at } }
+    ensures { result ≡ record { classes = 0; pairs = []; verdict = verdict.Limit at; cares = [] } }
 {
     Found {
         classes: 0,
         pairs: PairResults::new(alloc),
         verdict: Verdict::Limit(at),
+        cares: PairCares::new(alloc),
     }
 }
 
@@ -37,9 +49,10 @@ pub fn named_findings(
     names: &Names,
     findings: EventFindings,
     classes: u32,
+    cares: PairCares,
 ) -> Result<Found, NoMemory>
     requires { CanBeNamed names.now findings.verdict }
-    ensures { IfOk result (IsNamedFound names.now findings classes) }
+    ensures { IfOk result (IsNamedFound names.now findings classes cares) }
 {
     let EventFindings { pairs, verdict } = findings;
     let verdict = named_verdict(alloc, names, verdict)?;
@@ -47,6 +60,7 @@ pub fn named_findings(
         classes,
         pairs,
         verdict,
+        cares,
     })
 }
 
@@ -59,20 +73,27 @@ pub fn outcome_of(
     assumed: Option<Word>,
     exposed: Words,
     found: Found,
-) -> Outcome
-    ensures { result ≡ record { inputs = inputs; left_latches = length a.now.latches; right_latches = length b.now.latches; assumed = assumed; exposed = exposed; classes = found.classes; pairs = found.pairs; through = 0; verdict = found.verdict } }
+) -> Settled
+    ensures { result ≡ record { outcome = record { inputs = inputs; left_latches = length a.now.latches; right_latches = length b.now.latches; assumed = assumed; exposed = exposed; classes = found.classes; pairs = found.pairs; through = 0; verdict = found.verdict }; cares = found.cares } }
 {
     a.keeps();
     b.keeps();
-    Outcome {
+    let Found {
+        classes,
+        pairs,
+        verdict,
+        cares,
+    } = found;
+    let outcome = Outcome {
         inputs,
         left_latches: a.latches().len() as u32,
         right_latches: b.latches().len() as u32,
         assumed,
         exposed,
-        classes: found.classes,
-        pairs: found.pairs,
+        classes,
+        pairs,
         through: 0,
-        verdict: found.verdict,
-    }
+        verdict,
+    };
+    Settled { outcome, cares }
 }

@@ -7,8 +7,9 @@ ghost use Rattle.event_check.specs.event_answers.Reached.{AreClassed};
 ghost use Rattle.event_setup.specs.event_meaning.event_meaning_under.Answered.{ComparedInEventsUnder};
 ghost use Rattle.plain_check.specs.under_base.Refusals.{refusal_of};
 ghost use Rattle.event_check.specs.event_check_under.Circuits.{AreMatched};
+ghost use Rattle.event_check.specs.event_check_under.Settles.{SettlesInEventsUnder};
 
-use crate::event_answers::{Classed, Reached, limit_found, reach_pairs};
+use crate::event_answers::{Classed, Reached, Settled, limit_found, reach_pairs};
 use crate::event_check_under::circuits::{Circuits, outcome_under};
 use crate::event_check_under::event_answers_under::{
     CompareError, Premise, TakeError, Taken, take, widen,
@@ -40,6 +41,28 @@ pub fn compare_in_events_under(
     requires assumed { IsComparable c.now }
     ensures { ComparedInEventsUnder a.now b.now c.now settings.now result }
 {
+    match settle_in_events_under(alloc, a, b, c, settings, false) {
+        Ok(Settled { outcome, cares: _ }) => Ok(outcome),
+        Err(error) => Err(error),
+    }
+}
+
+/// Compares the circuits so, and with `settles` finds out of each pair, in order, whether both its sides have care together in some frame that meets `c` at
+/// each event node that has a variable of the pair. These queries come behind those of the pairs, each with at most as many conflicts.
+pub fn settle_in_events_under(
+    alloc: Global,
+    a: &Net,
+    b: &Net,
+    c: &Net,
+    settings: &Settings,
+    settles: bool,
+) -> Result<Settled, CompareError>
+    requires conflicts { settings.now.conflicts ≤ MAX_CONFLICTS }
+    requires left { IsComparable a.now }
+    requires right { IsComparable b.now }
+    requires assumed { IsComparable c.now }
+    ensures { SettlesInEventsUnder settles a.now b.now c.now settings.now result }
+{
     a.keeps();
     b.keeps();
     let shared = shared_names(alloc, a, b)?;
@@ -50,7 +73,9 @@ pub fn compare_in_events_under(
         shared: &shared,
     };
     match take(alloc, c, &shared, settings.conflicts) {
-        Ok(Taken::Met(premise)) => compare_met(alloc, &circuits, premise, settings),
+        Ok(Taken::Met(premise)) => {
+            compare_met(alloc, &circuits, premise, settings, settles)
+        }
         Ok(Taken::Limit(proof)) => {
             let found = limit_found(alloc, LimitAt::Assume(proof));
             Ok(outcome_under(&circuits, Words::new(alloc), found)?)
@@ -76,11 +101,12 @@ fn compare_met(
     circuits: &Circuits<'_>,
     premise: Premise,
     settings: &Settings,
-) -> Result<Outcome, CompareError>
+    settles: bool,
+) -> Result<Settled, CompareError>
     requires conflicts { settings.now.conflicts ≤ MAX_CONFLICTS }
     requires matched { AreMatched circuits.now }
     requires premise { IsPremiseOf circuits.now.shared.now circuits.now.assumed.now (length circuits.now.shared.now) premise }
-    ensures { ComparedInEventsUnder circuits.now.left.now circuits.now.right.now circuits.now.assumed.now settings.now result }
+    ensures { SettlesInEventsUnder settles circuits.now.left.now circuits.now.right.now circuits.now.assumed.now settings.now result }
 {
     let (left, right) = (circuits.left, circuits.right);
     left.keeps();
@@ -88,7 +114,7 @@ fn compare_met(
     match reach_pairs(alloc, left, right, circuits.shared, settings)? {
         Reached::Pairs(mut classed) => {
             let premise = widen(premise, classed.exposed.len())?;
-            compare_classed(alloc, circuits, &mut classed, &premise, settings)
+            compare_classed(alloc, circuits, &mut classed, &premise, settings, settles)
         }
         Reached::Limit(exposed, at) => {
             let found = limit_found(alloc, at);
@@ -104,12 +130,13 @@ fn compare_classed(
     classed: &mut Classed,
     premise: &Premise,
     settings: &Settings,
-) -> Result<Outcome, CompareError>
+    settles: bool,
+) -> Result<Settled, CompareError>
     requires conflicts { settings.now.conflicts ≤ MAX_CONFLICTS }
     requires matched { AreMatched circuits.now }
     requires classed { AreClassed circuits.now.left.now circuits.now.right.now settings.now classed.old }
     requires premise { IsPremiseOf circuits.now.shared.now circuits.now.assumed.now (length circuits.now.shared.now + length classed.old.exposed) premise.now }
-    ensures { ComparedInEventsUnder circuits.now.left.now circuits.now.right.now circuits.now.assumed.now settings.now result }
+    ensures { SettlesInEventsUnder settles circuits.now.left.now circuits.now.right.now circuits.now.assumed.now settings.now result }
 {
     circuits.left.keeps();
     circuits.right.keeps();
@@ -120,6 +147,7 @@ fn compare_classed(
         &classed.asked,
         premise,
         settings.conflicts,
+        settles,
     )?;
     let exposed = mem::replace(&mut classed.exposed, Words::new(alloc));
     Ok(outcome_under(circuits, exposed, found)?)

@@ -1,11 +1,11 @@
 -- The outcome by the pairs, or why they can't be unfolded.
 use Rattle.std.proofs.Common.{◌∙◌, ℕ, List, None, refl, sym, ap, subst, Ok}
-use Rattle.obligations.specs.declared.outcome.verdict.Outcome.{Outcome}
 use Rattle.plain_check.proofs.under_base.compare_base.Refusals.{refused_by}
-use Rattle.event_setup.specs.event_meaning.event_names.event_fits.Compared.{ComparedInEvents}
-use Rattle.event_check.proofs.event_answers.Told.{told_outcome, outcome_by}
+use Rattle.event_check.specs.event_answers.Settles.{SettlesInEvents}
+use Rattle.event_check.specs.declared.event_answers.outcomes.Settled.{Settled}
+use Rattle.event_check.proofs.event_answers.Told.{told_settled, settled_by}
 use Rattle.event_check.proofs.event_answers.Refusals.{pairs_refused}
-use Rattle.event_check.proofs.Answering.{pairs_compared}
+use Rattle.event_check.proofs.Answering.{cares_found, pairs_compared}
 use Rattle.event_check.proofs.comparison.compare_classed.Goals as goal
 
 pub compare_pairs-requires-clause-counted : goal.compare_pairs-requires-clause-counted
@@ -23,7 +23,7 @@ returns-in_err-found c =
     let b = c.args.b.now in
     let x = c.args.classed.now in
     let is = c.requires.classed in
-    refused_by (ComparedInEvents a b c.args.settings.now) c.from_residual.result c.in_err-found.field-0.0 c.from_residual.ensures.1
+    refused_by (SettlesInEvents c.args.settles a b c.args.settings.now) c.from_residual.result c.in_err-found.field-0.0 c.from_residual.ensures.1
     (pairs_refused a b c.args.settings.now c.requires.matches x.exposed x.separated.events.left x.separated.events.right is.reached x.asked.pairs is.listed c.in_err-found.field-0.0 c.in_err-found.ensures)
 
 pub returns : goal.returns
@@ -31,7 +31,10 @@ returns c =
     let a = c.args.a.now in
     let b = c.args.b.now in
     let x = c.args.classed.now in
-    let is = told_outcome a b c.args.inputs None c.replace-exposed.result c.in_ok-found.found c.in_ok-found.found c.outcome_of.result c.outcome_of.ensures c.requires.inputs refl in
-    let same = is ∙ ap (λ (names : List (List ℕ)). outcome_by a b None names c.in_ok-found.found) c.replace-exposed.ensures.value in
-    subst (λ (o : Outcome). ComparedInEvents a b c.args.settings.now (Ok o)) (sym same)
-    (pairs_compared a b c.args.settings.now c.keeps.ensures.sound c.keeps-2.ensures.sound c.requires.left c.requires.right c.requires.matches x c.requires.classed c.in_ok-found.found c.in_ok-found.ensures)
+    let f = c.in_ok-found.found in
+    let is = told_settled a b c.args.inputs None c.replace-exposed.result f f c.outcome_of.result c.outcome_of.ensures c.requires.inputs refl in
+    let same = is ∙ ap (λ (names : List (List ℕ)). settled_by a b None names f) c.replace-exposed.ensures.value in
+    subst (λ (y : Settled). SettlesInEvents c.args.settles a b c.args.settings.now (Ok y)) (sym same) (
+      pairs_compared a b c.args.settings.now c.keeps.ensures.sound c.keeps-2.ensures.sound c.requires.left c.requires.right c.requires.matches x c.requires.classed c.args.settles f c.in_ok-found.ensures,
+      cares_found a b c.args.settings.now c.keeps.ensures.sound c.keeps-2.ensures.sound c.requires.left c.requires.right c.requires.matches x c.requires.classed c.args.settles f c.in_ok-found.ensures,
+    )

@@ -1,5 +1,5 @@
 -- From what is found of both circuits under an assumption to the answer of their comparison.
-use Rattle.std.proofs.Common.{◌≡◌, ◌∙◌, ◌+◌, ◌++◌, ℕ, Bool, List, [], length, map, Some, refl, sym, ap, subst, arith, inl, inr, length-append}
+use Rattle.std.proofs.Common.{◌≡◌, ◌∙◌, ◌+◌, ◌++◌, ℕ, Bool, true, List, [], length, map, Some, refl, sym, ap, subst, arith, inl, inr, length-append}
 use Rattle.std.specs.Prelude.{◌⊎◌}
 use Rattle.std.specs.List.{Contains}
 use Rattle.circuit_theory.specs.Agree.{cut as agree_cut}
@@ -37,12 +37,13 @@ use Rattle.event_check.specs.event_answers.Reached.{AreClassed, StopsAtLimit}
 use Rattle.event_setup.specs.event_meaning.event_names.event_fits.Totals.{IsWithinWith}
 use Rattle.event_check.specs.declared.event_answers.outcomes.Found.{Found}
 use Rattle.event_check.specs.declared.event_answers.reaching.Classed.{Classed}
-use Rattle.event_check.proofs.event_answers.Told.{limit_at as found_limit, named, outcome_by}
+use Rattle.event_check.proofs.event_answers.Told.{limit_at as found_limit, known_pairs, named, outcome_by, unknown_pairs}
 use Rattle.event_setup.specs.event_meaning.event_meaning_under.Answered.{IsComparedInEventsUnder}
 use Rattle.event_setup.specs.event_meaning.event_meaning_under.Fitted.{EventOutcomeFitsUnder, HasCountsUnder, IsComparedByPairsUnder}
 use Rattle.event_setup.proofs.event_meaning.event_meaning_under.Saying.{cut_outcomes, different_outcomes, equal_outcomes}
 use Rattle.event_setup.proofs.event_meaning.event_meaning_under.Framing.{unshown_outcomes}
 use Rattle.event_check.specs.event_check_under.event_answers_under.Pairs.{ArePairsFoundUnder}
+use Rattle.event_check.specs.event_check_under.Settles.{CaresFitUnder}
 
 -- an assumption reads inputs of each circuit that has these inputs
 reads_same : {P : Type 0} (c : Assumption) (a d : Circuit P) (order : List ℕ) → d.inputs ≡ a.inputs → ReadsInputs c a order → ReadsInputs c d order
@@ -117,6 +118,10 @@ module _ (a b c : NetView) (settings : Settings) (sa : IsSound a) (sb : IsSound 
         fits_is_compared exposed (found_limit at)
         (record { counts = counts exposed (found_limit at); rest = rest (outcome_under exposed (found_limit at)) (stops (outcome_under exposed (found_limit at)) refl refl refl refl) })
 
+    -- where no pair is asked about there are no cares
+    pub no_cares : (exposed : List (List ℕ)) (at : LimitAt) → StopsAtLimit a b settings exposed at → CaresFitUnder a b c settings (outcome_under exposed (found_limit at)) []
+    no_cares exposed at stops = inl (unknown_pairs a b settings (outcome_under exposed (found_limit at)) (stops (outcome_under exposed (found_limit at)) refl refl refl refl), refl)
+
     -- what is found of the pairs, where the premise goes over the exposed latches, too
     module _ (x : Classed) (is : AreClassed a b settings x) (over : count ≡ length (shared_by a b) + length x.exposed) where
       abbrev left : EventCircuitView
@@ -142,8 +147,8 @@ module _ (a b c : NetView) (settings : Settings) (sa : IsSound a) (sb : IsSound 
             reads_same ac (agree_cut x.exposed (circuit_of a)) (circuit_of left.net) left.order cut.left_circuit.inputs
             (reads_cut a b c premise.assumed left.net x.exposed cut.left cut.left_cut cut.left_names cut.left_circuit left.order right.order distinct is.reached.circuits.left_columns.numbers)
 
-      pub pairs_compared : (f : Found) → ArePairsFoundUnder left right x.names x.asked p settings.conflicts f → IsComparedInEventsUnder a b c settings (outcome_under x.exposed f)
-      pairs_compared f k = fits_is_compared x.exposed f (record {
+      pub pairs_compared : (settles : Bool) (f : Found) → ArePairsFoundUnder left right x.names x.asked p settings.conflicts settles f → IsComparedInEventsUnder a b c settings (outcome_under x.exposed f)
+      pairs_compared settles f k = fits_is_compared x.exposed f (record {
         counts = counts x.exposed f;
         rest = inr (inr (record {
           left = left;
@@ -163,4 +168,19 @@ module _ (a b c : NetView) (settings : Settings) (sa : IsSound a) (sb : IsSound 
           pairs = k.pairs;
           verdict_is = named a b settings x is k.found f.verdict k.verdict_is;
         }));
+      })
+
+      -- and what is found of their cares is that of the outcome
+      pub cares_found : (settles : Bool) (f : Found) → ArePairsFoundUnder left right x.names x.asked p settings.conflicts settles f → settles ≡ true → CaresFitUnder a b c settings (outcome_under x.exposed f) f.cares
+      cares_found settles f k asks = inr (record {
+        known = known_pairs x.names.left x.names.right x.names.columns k.found.verdict f.verdict k.verdict_is;
+        met = met;
+        left = left;
+        right = right;
+        reached = is.reached;
+        reads = reads k.compared k.asked;
+        classes = is.counted.classes;
+        pairs = x.asked.pairs;
+        listed = is.listed;
+        each = k.cares asks c premise.assumed.order premise.assumed.shape.output.signal.0 (length c.drivers) (premised k.compared k.asked);
       })

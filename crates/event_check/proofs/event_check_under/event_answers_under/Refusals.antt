@@ -1,5 +1,5 @@
 -- Why circuits aren't compared under an assumption.
-use Rattle.std.proofs.Common.{◌≡◌, ℕ, List, map, subst, inl, inr, Err}
+use Rattle.std.proofs.Common.{◌≡◌, ℕ, Bool, List, map, subst, inl, inr, Err}
 use Rattle.flat_net.specs.View.{NetView}
 use Rattle.sec_base.specs.declared.settings.Settings.{Settings}
 use Rattle.sec_setup.specs.declared.error.SetupError.{SetupError}
@@ -72,12 +72,12 @@ module _ (a b c : NetView) (settings : Settings) (met : IsMet a b c) (x : Classe
     ),
   )
 
-  pub pairs_refused_under : (conflicts : ℕ) (e : CompareError) → FindsPairsUnder x.separated.events.left x.separated.events.right x.names x.asked p conflicts (Err e) → ComparedInEventsUnder a b c settings (Err e)
-  pairs_refused_under conflicts (refused.Interface name) h = absurd h
-  pairs_refused_under conflicts (refused.Cyclic side names) h = absurd h
-  pairs_refused_under conflicts (refused.Unpaired side names) h = absurd h
-  pairs_refused_under conflicts (refused.TooLarge side) h = (met, pairs_refused a b settings met.matches x.exposed x.separated.events.left x.separated.events.right is.reached x.asked.pairs is.listed (refused.TooLarge side) h)
-  pairs_refused_under conflicts refused.TooManyEvents h = (met, pairs_refused a b settings met.matches x.exposed x.separated.events.left x.separated.events.right is.reached x.asked.pairs is.listed refused.TooManyEvents h)
-  pairs_refused_under conflicts (refused.Assume fault) h = too_large fault h
-  pairs_refused_under conflicts (refused.Vacuous by) h = absurd h
-  pairs_refused_under conflicts refused.NoMemory h = tt
+  pub pairs_refused_under : (conflicts : ℕ) (settles : Bool) (e : CompareError) → FindsPairsUnder x.separated.events.left x.separated.events.right x.names x.asked p conflicts settles (Err e) → ComparedInEventsUnder a b c settings (Err e)
+  pairs_refused_under conflicts settles (refused.Interface name) h = absurd h
+  pairs_refused_under conflicts settles (refused.Cyclic side names) h = absurd h
+  pairs_refused_under conflicts settles (refused.Unpaired side names) h = absurd h
+  pairs_refused_under conflicts settles (refused.TooLarge side) h = (met, pairs_refused a b settings met.matches x.exposed x.separated.events.left x.separated.events.right is.reached x.asked.pairs is.listed (refused.TooLarge side) h)
+  pairs_refused_under conflicts settles refused.TooManyEvents h = (met, pairs_refused a b settings met.matches x.exposed x.separated.events.left x.separated.events.right is.reached x.asked.pairs is.listed refused.TooManyEvents h)
+  pairs_refused_under conflicts settles (refused.Assume fault) h = too_large fault h
+  pairs_refused_under conflicts settles (refused.Vacuous by) h = absurd h
+  pairs_refused_under conflicts settles refused.NoMemory h = tt

@@ -5,6 +5,7 @@ use Rattle.sec_setup.specs.declared.ports.pairs.SignalPair.{SignalPair}
 use Rattle.event_setup.specs.event_meaning.event_meaning_under.CompareError.{CompareError}
 use Rattle.event_check.specs.event_answers.Asked.{IsPairOf}
 use Rattle.event_check.specs.event_answers.Finding.{AreNotUnfolded, IsNamedFound, refusal_of}
+use Rattle.event_comparison.proofs.Comparing.{pairs_later}
 use Rattle.event_check.proofs.event_answers.Finding.{not_unfolded}
 use Rattle.event_check.proofs.Finding.{found_named, pairs_found}
 use Rattle.event_check.proofs.pairs.compare_pairs.Goals as goal
@@ -18,6 +19,13 @@ compare_events-requires-clause-compared c = c.requires.askable.compared _ (c.as_
 pub compare_events-requires-clause-within : goal.compare_events-requires-clause-within
 compare_events-requires-clause-within c = c.requires.counted.limits
 
+pub cares_of-requires-clause-pairs : goal.cares_of-requires-clause-pairs
+cares_of-requires-clause-pairs c =
+    pairs_later c.args.separated.now.events c.compare_events.new.events c.in-Ok.ensures.counted.later _ (subst (All (IsPairOf c.args.separated.now.events)) (sym c.as_slice.ensures) c.requires.askable.within)
+
+pub cares_of-requires-clause-within : goal.cares_of-requires-clause-within
+cares_of-requires-clause-within c = c.in-Ok.ensures.counted.within
+
 pub named_findings-requires : goal.named_findings-requires
 named_findings-requires c =
     found_named c.args.separated.now.events c.args.names.now c.args.asked.now c.requires.askable _ (c.as_slice.ensures, c.as_slice-2.ensures, refl, refl) c.keeps.ensures.kept c.compare_events.new.events c.args.conflicts c.in-Ok.findings
@@ -26,8 +34,8 @@ named_findings-requires c =
 pub returns-in_ok-found-in-Ok : goal.returns-in_ok-found-in-Ok
 returns-in_ok-found-in-Ok c =
     pairs_found c.args.separated.now.events c.args.names.now c.args.asked.now c.requires.askable _ (c.as_slice.ensures, c.as_slice-2.ensures, refl, refl) c.keeps.ensures.kept c.compare_events.new.events c.args.conflicts c.in-Ok.findings
-    c.in-Ok.ensures.counted c.in-Ok.ensures.fits c.keeps.ensures.events c.requires.counted c.requires.separated.few c.keeps-in-Ok.ensures.kept c.keeps-in-Ok.ensures.once c.in_ok-found-in-Ok.found
-    (subst (λ count. IsNamedFound c.args.names.now c.in-Ok.findings count c.in_ok-found-in-Ok.found) c.classes.ensures c.in_ok-found-in-Ok.ensures)
+    c.in-Ok.ensures.counted c.in-Ok.ensures.fits c.keeps.ensures.events c.requires.counted c.requires.separated.few c.keeps-in-Ok.ensures.kept c.keeps-in-Ok.ensures.once c.args.settles c.in_ok-cares-in-Ok.cares c.in_ok-cares-in-Ok.ensures c.in_ok-found-in-Ok.found
+    (subst (λ count. IsNamedFound c.args.names.now c.in-Ok.findings count c.in_ok-cares-in-Ok.cares c.in_ok-found-in-Ok.found) c.classes-classes.ensures c.in_ok-found-in-Ok.ensures)
 
 pub returns-in-Err : goal.returns-in-Err
 returns-in-Err c =

@@ -14,6 +14,12 @@ use Rattle.sec_run.proofs.calls.find.Goals as goal
 pub check-requires-clause-uncut : goal.check-requires-clause-uncut
 check-requires-clause-uncut g c = (subst IsAllowed c.in-Check.is c.requires).1
 
+pub check_settles-requires-clause-always : goal.check_settles-requires-clause-always
+check_settles-requires-clause-always g c = (subst IsAllowed c.in-CheckSettles.is c.requires).1
+
+pub check_settles-requires-clause-conflicts : goal.check_settles-requires-clause-conflicts
+check_settles-requires-clause-conflicts g c = (subst IsAllowed c.in-CheckSettles.is c.requires).0
+
 pub check-requires-clause-plain : goal.check-requires-clause-plain
 check-requires-clause-plain g c = (subst IsAllowed c.in-Check.is c.requires).2
 
@@ -37,4 +43,11 @@ returns-in-Check-clause-served g c serves fault =
     c.check.ensures.served
     (same_paths (g.S.Shelf.serves c.args.shelf.now) all_paths c.in-Check.a c.in-Check.b _ _ c.in-Check.assumed _ c.as_str.ensures c.as_str-in-Check.ensures c.path_of.ensures
     (subst (λ (job : Task). All (g.S.Shelf.serves c.args.shelf.now) (paths_of job)) c.in-Check.is serves))
+    fault
+
+pub returns-in-CheckSettles-clause-served : goal.returns-in-CheckSettles-clause-served
+returns-in-CheckSettles-clause-served g c serves fault =
+    c.check_settles.ensures.served
+    (same_paths (g.S.Shelf.serves c.args.shelf.now) all_paths c.in-CheckSettles.a c.in-CheckSettles.b _ _ c.in-CheckSettles.assumed _ c.as_str-in-CheckSettles.ensures c.as_str-in-CheckSettles-2.ensures c.path_of-in-CheckSettles.ensures
+    (subst (λ (job : Task). All (g.S.Shelf.serves c.args.shelf.now) (paths_of job)) c.in-CheckSettles.is serves))
     fault

@@ -4,9 +4,10 @@ use Rattle.plain_check.proofs.under_base.compare_base.Refusals.{refused_by}
 use Rattle.assume_queries.specs.assume_sequences.assume_taken.Premises.{IsPremiseOf}
 use Rattle.event_check.specs.event_answers.Reached.{ReachesPairs}
 use Rattle.event_check.specs.declared.event_answers.reaching.Reached.{Reached}
-use Rattle.event_check.proofs.event_answers.Told.{limit_at, told_outcome}
-use Rattle.event_setup.specs.event_meaning.event_meaning_under.Answered.{ComparedInEventsUnder, IsComparedInEventsUnder}
-use Rattle.event_check.proofs.event_check_under.event_answers_under.Answering.{limit_compared, met}
+use Rattle.event_check.proofs.event_answers.Told.{limit_at, told_settled}
+use Rattle.event_check.specs.event_check_under.Settles.{SettlesInEventsUnder}
+use Rattle.event_check.specs.declared.event_answers.outcomes.Settled.{Settled}
+use Rattle.event_check.proofs.event_check_under.event_answers_under.Answering.{limit_compared, met, no_cares}
 use Rattle.event_check.proofs.event_check_under.event_answers_under.Refusals.{refused_under}
 use Rattle.plain_check.specs.under_base.Met.{shared_by}
 use Rattle.event_check.proofs.event_check_under.comparison.compare_met.Goals as goal
@@ -20,7 +21,7 @@ returns-in_err-classed c =
     let m = c.requires.matched in
     let premise = subst (λ (names : List (List ℕ)). IsPremiseOf names x.assumed.now (length names) c.args.premise) m.shared c.requires.premise in
     let is_met = met a b x.assumed.now s c.keeps.ensures.sound c.keeps-2.ensures.sound m.left m.right m.matches (length (shared_by a b)) c.args.premise premise in
-    refused_by (ComparedInEventsUnder a b x.assumed.now s) c.from_residual.result c.in_err-classed.field-0.0 c.from_residual.ensures.1
+    refused_by (SettlesInEventsUnder c.args.settles a b x.assumed.now s) c.from_residual.result c.in_err-classed.field-0.0 c.from_residual.ensures.1
     (refused_under a b x.assumed.now s c.in_err-classed.field-0.0 is_met c.in_err-classed.ensures)
 
 pub compare_classed-requires-clause-classed : goal.compare_classed-requires-clause-classed
@@ -46,7 +47,10 @@ returns-in_ok-outcome_under-in-Limit c =
     let shape = premise.assumed.shape in
     let stops = subst (λ (r : Reached). ReachesPairs a b s (Ok r)) c.in-Limit.is c.in_ok-classed.ensures in
     let is =
-    told_outcome a b (length x.shared.now) (Some shape.output.name) c.in-Limit.exposed c.limit_found-found.result (limit_at c.in-Limit.at) c.in_ok-outcome_under-in-Limit.field-0
+    told_settled a b (length x.shared.now) (Some shape.output.name) c.in-Limit.exposed c.limit_found-found.result (limit_at c.in-Limit.at) c.in_ok-outcome_under-in-Limit.field-0
     (c.in_ok-outcome_under-in-Limit.ensures shape.output shape.outputs) (ap length m.shared) c.limit_found-found.ensures
     in
-    inr (subst (IsComparedInEventsUnder a b x.assumed.now s) (sym is) (limit_compared a b x.assumed.now s c.keeps.ensures.sound c.keeps-2.ensures.sound m.left m.right m.matches (length (shared_by a b)) c.args.premise premise c.in-Limit.exposed c.in-Limit.at stops))
+    subst (λ (y : Settled). SettlesInEventsUnder c.args.settles a b x.assumed.now s (Ok y)) (sym is) (
+      inr (limit_compared a b x.assumed.now s c.keeps.ensures.sound c.keeps-2.ensures.sound m.left m.right m.matches (length (shared_by a b)) c.args.premise premise c.in-Limit.exposed c.in-Limit.at stops),
+      λ asks. no_cares a b x.assumed.now s c.keeps.ensures.sound c.keeps-2.ensures.sound m.left m.right m.matches (length (shared_by a b)) c.args.premise premise c.in-Limit.exposed c.in-Limit.at stops,
+    )

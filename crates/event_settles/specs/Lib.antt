@@ -1,0 +1,2 @@
+pub mod Cares
+pub mod Deciding

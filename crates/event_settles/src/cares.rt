@@ -1,0 +1,25 @@
+//! What is found of the cares of pairs.
+
+use obligations::outcome::{PairName, Proof};
+use sec_base::Seq;
+
+/// Whether some frame has care for both sides of a pair.
+#[derive(Drop)]
+pub enum Care {
+    /// Some frame has.
+    Met,
+    /// None has.
+    Never,
+    /// The query wasn't decided within the number of conflicts; its clauses, and the log of the search.
+    Limit(Proof),
+}
+
+/// What is found of the care of one pair.
+#[derive(Drop)]
+pub struct PairCare {
+    pub name: PairName,
+    pub care: Care,
+}
+
+/// What is found of the cares of pairs, in their order.
+pub type PairCares = Seq<PairCare>;
