@@ -1,7 +1,7 @@
 # shellcheck shell=bash disable=SC2154
 # The answers of a run, and how they are told. Read by sec-verilog.
 statuses=() reports=() files=()
-clocks='' start='' exposed=''
+clocks='' start='' exposed='' settled=''
 
 # One answer more. What is refused, or can't be read or written, is the end.
 answered() {
@@ -18,6 +18,7 @@ notes() {
   if grep -q '^verdict' "$folder/report"; then
     echo "start: $start"
     [ -z "$exposed" ] || echo "states: $exposed"
+    [ -z "$settled" ] || echo "settled: $settled"
   fi
   it=$(sum_of timeless)
   if [ -n "$clocks" ]; then
@@ -96,6 +97,7 @@ compare() {
   fi
   from_any_power_up
   look_at_exposed
+  [ "$status" -ne 0 ] || look_at_settling
   answered
   start='from any power-up, where outputs are settled'
   if [ "$initial" -eq 0 ]; then

@@ -41,7 +41,7 @@ cyclic() {
 
 # What a report answers, in a word or two.
 answer_of() {
-  sed -n 's/^verdict \([a-z-]*\).*/\1/p; /^refused /p; /^cyclic /p; /^unpaired /p; /^limit /p' "$1" | head -n 1
+  sed -n 's/^verdict \([a-z-]*\( never .*\)\{0,1\}\).*/\1/p; /^refused /p; /^cyclic /p; /^unpaired /p; /^limit /p' "$1" | head -n 1
 }
 
 # How strong an answer is, by its status; the least number is that of the strongest.
@@ -55,10 +55,15 @@ strength() {
   esac
 }
 
-# Asks check, and sets `status` and `report`: ask NAME WORDS..
+# Asks check, and whether each pair has what makes it settle, and sets `status` and `report`: ask NAME WORDS..
 ask() {
+  local words=("${check[@]}" "${@:2}")
+  case " ${words[*]} " in
+    *' --settles '*) ;;
+    *) words+=(--settles) ;;
+  esac
   report=$scratch/$1.$number status=0
-  sec_to "$report" check "$a" "$b" "${check[@]}" "${@:2}" || status=$?
+  sec_to "$report" check "$a" "$b" "${words[@]}" || status=$?
 }
 
 # Asks from any power-up. Where it is left to this script, --expose comes first, which mostly is quick, and then the event mode.
