@@ -9,7 +9,7 @@ inputs() {
         if ($at != "\\" && !index(clocks, " of " $at " ")) print $at
       more = $NF == "\\"
     }
-    $1 == ".latch" { exit }' "$folder/$old_name.blif"
+    $1 == ".latch" || $1 == ".end" { exit }' "$folder/$old_name.blif"
 }
 
 # Whether the inputs that --reset-input names are there.
