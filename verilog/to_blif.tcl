@@ -57,9 +57,8 @@ proc cells_with_x {scratch} {
     }
   }
   # What a multiplexer before such a net reads feeds it as well.
-  while {$made ne ""} {
-    set net [lindex $made 0]
-    set made [lrange $made 1 end]
+  for {set at 0} {$at < [llength $made]} {incr at} {
+    set net [lindex $made $at]
     if {[info exists feeds($net)]} continue
     set feeds($net) 1
     if {[info exists reads($net)]} { lappend made {*}[regexp -all -inline {\S+_Y} $reads($net)] }
