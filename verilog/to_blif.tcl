@@ -91,13 +91,13 @@ proc places_of {cells scratch} {
 
 # Each bit that is read and that nothing drives becomes an input of its own, `undriven:NET`, so that no tool chooses its value.
 # Returns the names of these bits.
-proc expose_undriven {top scratch} {
+proc expose_undriven {scratch} {
   yosys tee -q -o $scratch check
   set nets {}
   foreach line [lines_of $scratch] {
     # TOP.\NET, or TOP.\NET [BIT]
-    if {[regexp {^Warning: Wire (.*) is used but has no driver} $line -> wire]} {
-      lappend nets [string map {" " ""} [string range $wire [string length $top.] end]]
+    if {[regexp {^Warning: Wire .*?\.([\\$].*) is used but has no driver} $line -> net]} {
+      lappend nets [string map {" " ""} $net]
     }
   }
   set names {}
@@ -141,7 +141,7 @@ if {$x eq "1"} { yosys setundef -one }
 yosys opt_expr
 yosys opt_clean
 foreach place [places_of $cells $scratch] { puts $out "x $place" }
-foreach name [expose_undriven $top $scratch] { puts $out "undriven $name" }
+foreach name [expose_undriven $scratch] { puts $out "undriven $name" }
 close $out
 yosys synth -run coarse: -flatten -nofsm -noshare -noabc -top $top
 yosys async2sync {t:$_ALDFF*} {t:$_DFFSR*} {t:$_SR_*} {t:$_DLATCH*}
