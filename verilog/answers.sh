@@ -1,24 +1,28 @@
 # shellcheck shell=bash disable=SC2154
 # The answers of a run, and how they are told. Read by sec-verilog.
-statuses=() reports=() files=()
-clocks='' start='' exposed=''
+statuses=() reports=() files=() pairs=() starts=()
+clocks='' exposed='' settled=''
 
 # One answer more. What is refused, or can't be read or written, is the end.
 answered() {
-  statuses+=("$status") reports+=("$report") files+=("$a" "$b")
+  statuses+=("$status") reports+=("$report") files+=("$a" "$b") pairs+=("$number")
   case $status in
     0 | 1 | 2 | 3 | 9) ;;
     *) finish ;;
   esac
 }
 
-# What was taken for granted, a line each, six at most.
+# From where a pair of files was compared, and what the answer rests on: told_of START
+told_of() {
+  echo "start: $1"
+  [ -z "$exposed" ] || echo "states: $exposed"
+  [ -z "$settled" ] || echo "settled: $settled"
+}
+
+# What was taken for granted of the pair of files with a number, a line each, six at most.
 notes() {
   local it
-  if grep -q '^verdict' "$folder/report"; then
-    echo "start: $start"
-    [ -z "$exposed" ] || echo "states: $exposed"
-  fi
+  [ -z "${starts[$1]}" ] || echo "${starts[$1]}"
   it=$(sum_of timeless)
   if [ -n "$clocks" ]; then
     echo "$clocks"
@@ -56,7 +60,7 @@ finish() {
     done
     cat "${reports[decides]}"
   } > "$folder/report" || exit 73
-  notes > "$folder/notes" || exit 73
+  notes "${pairs[decides]}" > "$folder/notes" || exit 73
   cat "$folder/report" || exit 7
   sed 's/^/sec-verilog: /' "$folder/notes" >&2
   if grep -q '^verdict different\|^verdict not-shown cut' "${reports[decides]}"; then
@@ -73,7 +77,6 @@ finish() {
 look_at_exposed() {
   local count
   count=$(sed -n 's/^exposed \([0-9]*\).*/\1/p' "$report")
-  exposed=''
   if [ "${count:-0}" -gt 0 ]; then
     exposed="the exposed flip-flops ($count) are taken to be equal at first; whether they become so isn't asked"
   fi
@@ -82,33 +85,39 @@ look_at_exposed() {
   esac
 }
 
-# Asks what is to be asked of two designs. Sets `start` to what was asked, and from where.
+# Asks from the initial values behind an answer from any power-up, and sets `start` to both.
+and_from_initial_values() {
+  local from
+  from=$(answer_of "$report")
+  started "$a" "$scratch/old.$number.blif"
+  started "$b" "$scratch/new.$number.blif"
+  from_initial_values "$scratch/old.$number.blif" "$scratch/new.$number.blif"
+  start="$from from any power-up, where outputs are settled; $(answer_of "$report") from the initial values, by $way"
+  [ "$(sum_of free)" -eq 0 ] || start+=", with the $(sum_of free) flip-flops at 0 that have none"
+}
+
+# Asks what is to be asked of two designs.
 compare() {
-  local initial free from
-  a=$folder/$old_name.blif b=$folder/$new_name.blif
-  initial=$(sum_of started) free=$(sum_of free)
+  local start
+  a=$folder/$old_name.blif b=$folder/$new_name.blif exposed='' settled=''
   if [ -n "$is_reset" ]; then
     from_initial_values "$a" "$b"
     start="from the initial values, by $way"
-    [ "$free" -eq 0 ] || start+="; the $free flip-flops that have none begin with 0 or 1, each by itself"
-    answered
-    return
-  fi
-  from_any_power_up
-  look_at_exposed
-  answered
-  start='from any power-up, where outputs are settled'
-  if [ "$initial" -eq 0 ]; then
-    start+='; no flip-flop has an initial value'
-  elif [ -n "$any_start" ]; then
-    start+="; the $initial initial values don't count (--any-start)"
+    [ "$(sum_of free)" -eq 0 ] || start+="; the $(sum_of free) flip-flops that have none begin with 0 or 1, each by itself"
   else
-    from=$(answer_of "$report")
-    started "$a" "$scratch/old.$number.blif"
-    started "$b" "$scratch/new.$number.blif"
-    from_initial_values "$scratch/old.$number.blif" "$scratch/new.$number.blif"
-    start="$from from any power-up, where outputs are settled; $(answer_of "$report") from the initial values, by $way"
-    [ "$free" -eq 0 ] || start+=", with the $free flip-flops at 0 that have none"
-    answered
+    from_any_power_up
+    look_at_exposed
+    [ "$status" -ne 0 ] || look_at_settling
+    start='from any power-up, where outputs are settled'
+    if [ "$(sum_of started)" -eq 0 ]; then
+      start+='; no flip-flop has an initial value'
+    elif [ -n "$any_start" ]; then
+      start+="; the $(sum_of started) initial values don't count (--any-start)"
+    else
+      answered
+      and_from_initial_values
+    fi
   fi
+  ! grep -q '^verdict' "${reports[@]}" "$report" || starts[number]=$(told_of "$start")
+  answered
 }

@@ -46,6 +46,7 @@ script() {
   done
   echo "set top $(quoted "$top")"
   echo "set x {$x}"
+  echo "set scratch $(quoted "$scratch/yosys")"
   for it in resets.v blif:"$name.blif" facts:"$name.facts"; do
     echo "set ${it%%[.:]*} $(quoted "$folder/${it#*:}")"
   done
@@ -67,21 +68,32 @@ latches() {
     }' "$1"
 }
 
-# Brings one design to BLIF: to_blif NAME TOP X FILE..
-to_blif() {
-  local name=$1
-  script "$@" > "$folder/$name.tcl" || exit 73
-  if ! yosys -Q -T -c "$folder/$name.tcl" > "$folder/$name.log" 2>&1 < /dev/null || [ ! -s "$folder/$name.blif" ]; then
-    grep -h -B 1 '^ERROR\|: ERROR' "$folder/$name.log" | grep -v '^--$\|^$\|TCL interpreter' >&2 || tail -n 5 "$folder/$name.log" >&2
-    rm -f "$folder/$name.blif" "$folder/$name.facts"
-    stop 65 "yosys refuses the ${name%.x?} design"
+# Runs Yosys on one design, and tells what it warns of: by_yosys NAME TOP X FILE..
+by_yosys() {
+  local name=$1 at=$folder/$1 side=${1%.x?}
+  script "$@" > "$at.tcl" || exit 73
+  if ! yosys -Q -T -c "$at.tcl" > "$at.log" 2>&1 < /dev/null || [ ! -s "$at.blif" ]; then
+    grep -h -B 1 '^ERROR\|: ERROR' "$at.log" | grep -v '^--$\|^$\|TCL interpreter' >&2 || tail -n 5 "$at.log" >&2
+    rm -f "$at.blif" "$at.facts"
+    stop 65 "yosys refuses the $side design"
   fi
-  latches "$folder/$name.blif" >> "$folder/$name.facts" || exit 73
   # What a selection doesn't find is no news, and what has no driver is told behind the report.
-  grep -h '^Warning' "$folder/$name.log" | grep -v 'did not match any\|is used but has no driver' | sed "s/^/sec-verilog: ${name%.x?}: /" >&2
-  if grep -q '^Replacing .*([$]_\(DLATCH\|SR\|ALDFF\|DFFSR\)' "$folder/$name.log"; then
-    say "${name%.x?}: latches, or asynchronous loads, are compared at the clock's edges alone"
+  grep -h '^Warning' "$at.log" | grep -v 'did not match any\|is used but has no driver' | sed "s/^/sec-verilog: $side: /" >&2
+  if grep -q '^Replacing .*([$]_\(DLATCH\|SR\|ALDFF\|DFFSR\)' "$at.log"; then
+    say "$side: latches, or asynchronous loads, are compared at the clock's edges alone"
   fi
+}
+
+# Brings one design to BLIF: to_blif NAME TOP X FILE.. One file that is BLIF stays as it is.
+to_blif() {
+  case $#,$4 in
+    4,*.blif)
+      cp "$4" "$folder/$1.blif" || stop 6 "$4 can't be read"
+      : > "$folder/$1.facts"
+      ;;
+    *) by_yosys "$@" ;;
+  esac
+  latches "$folder/$1.blif" >> "$folder/$1.facts" || exit 73
 }
 
 # The values of a fact of one design, a line each: facts NAME WORD

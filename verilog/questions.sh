@@ -19,14 +19,13 @@ sec_to() {
   return "$status"
 }
 
-# Whether sec takes the words of check, which is asked before Yosys runs.
+# Whether sec takes the words of check, which is asked before Yosys runs. The first call builds the program, and tells how far it is.
 ask_for_words() {
   : > "$scratch/empty"
+  sec_to "$scratch/words" graph "$scratch/empty"
+  [ $? -ne 70 ] || exit 70
   sec_to "$scratch/words" check "$scratch/empty" "$scratch/empty" "${check[@]}" 2> "$scratch/said"
-  case $? in
-    5) stop 5 "sec check refuses these words: ${check[*]}" ;;
-    70) cat "$scratch/said" >&2 && exit 70 ;;
-  esac
+  [ $? -ne 5 ] || stop 5 "sec check refuses these words: ${check[*]}"
 }
 
 # Whether both designs are without feedback, in a mode.
@@ -41,7 +40,7 @@ cyclic() {
 
 # What a report answers, in a word or two.
 answer_of() {
-  sed -n 's/^verdict \([a-z-]*\).*/\1/p; /^refused /p; /^cyclic /p; /^unpaired /p; /^limit /p' "$1" | head -n 1
+  sed -n 's/^verdict \([a-z-]*\( never .*\)\{0,1\}\).*/\1/p; /^refused /p; /^cyclic /p; /^unpaired /p; /^limit /p' "$1" | head -n 1
 }
 
 # How strong an answer is, by its status; the least number is that of the strongest.
@@ -55,15 +54,20 @@ strength() {
   esac
 }
 
-# Asks check, and sets `status` and `report`: ask NAME WORDS..
+# Asks check, and whether each pair has what makes it settle, and sets `status` and `report`: ask NAME WORDS..
 ask() {
+  local words=("${check[@]}" "${@:2}")
+  case " ${words[*]} " in
+    *' --settles '*) ;;
+    *) words+=(--settles) ;;
+  esac
   report=$scratch/$1.$number status=0
-  sec_to "$report" check "$a" "$b" "${check[@]}" "${@:2}" || status=$?
+  sec_to "$report" check "$a" "$b" "${words[@]}" || status=$?
 }
 
 # Asks from any power-up. Where it is left to this script, --expose comes first, which mostly is quick, and then the event mode.
 from_any_power_up() {
-  local event=() first second printed
+  local event=() first second
   if [ -n "$is_given" ] || ! cyclic; then
     ask check
     return
@@ -82,13 +86,16 @@ from_any_power_up() {
     say "there is feedback: --expose"
     return
   fi
-  first=$status printed=second
+  first=$status
+  say "there is feedback; --expose: $(answer_of "$report"); ${event[*]} is tried, too"
   ask event "${event[@]}"
   second=$(answer_of "$report")
-  if [ "$(strength "$status")" -ge "$(strength "$first")" ]; then
-    report=$scratch/expose.$number status=$first printed=first
+  if [ "$(strength "$status")" -lt "$(strength "$first")" ]; then
+    say "${event[*]}: $second"
+  else
+    say "${event[*]}: $second; the answer of --expose is taken"
+    report=$scratch/expose.$number status=$first
   fi
-  say "there is feedback; --expose: $(answer_of "$scratch/expose.$number"); ${event[*]}: $second; the $printed is taken"
 }
 
 # A file with the initial value 0 where a flip-flop has none: started FROM TO

@@ -1,4 +1,5 @@
-# What sec-verilog tells Yosys of a design, behind the lines that read its files and set `top`, `blif`, `facts`, `resets` and `x`.
+# What sec-verilog tells Yosys of a design, behind the lines that read its files and set `top`, `blif`, `facts`, `resets`,
+# `scratch` and `x`.
 # It writes the design to the file `blif`, and to `facts` what it takes for granted: a line `x PLACE` for each place of the Verilog that
 # gives x or z, and a line `undriven NET` for each bit that something reads and nothing drives.
 
@@ -24,57 +25,79 @@ proc written_in {range} {
   return $found
 }
 
-# The places of a cell that gives x, by its ranges, parted by `|`. Where none has an x written, the last range itself: what is assigned in
-# some cases alone is x in the others.
-proc places_of {ranges} {
-  set found {}
-  foreach range [split $ranges |] {
-    lappend found {*}[written_in $range]
-    set whole [regsub {:(\d+)\.\d+-(\d+)\.\d+$} $range {:\1-\2}]
-  }
-  if {$found eq ""} { lappend found [regsub {:(\d+)-\1$} $whole {:\1}] }
-  return $found
+# Whether Yosys made a net by itself, of what isn't written to a memory, or of a signal whose bits are assigned one by one.
+proc is_made {net} {
+  return [regexp {\$(memwr|bitselwrite|lookahead)} $net]
 }
 
-# The places that give x or z, by the cells of a flat design without processes.
-proc assigned_x {scratch} {
+# The cells of a flat design without processes that give x: for each its name, its ranges in the Verilog, parted by `|`, and whether it only
+# feeds nets that Yosys made.
+proc cells_with_x {scratch} {
   yosys tee -q -o $scratch dump
-  set kind ""
+  set cell ""
   set src ""
+  set found {}
+  set made {}
   foreach line [lines_of $scratch] {
     if {[regexp {^ *attribute \\src "(.*)"$} $line -> src]} continue
-    if {[regexp {^  cell (\S+) } $line -> kind]} {
+    if {[regexp {^  cell (\S+) (\S+)$} $line -> kind cell]} {
+      array set pins {{\A} "" {\B} "" {\D} "" {\S} "" {\Y} "" {\Q} ""}
       set at $src
-      set is_x 0
-    } elseif {$kind ne "" && [regexp {^    connect (\S+) (.*)$} $line -> port signal]} {
-      if {$port eq {\Y}} { set net $signal }
+    } elseif {$cell ne "" && [regexp {^    connect (\S+) (.*)$} $line -> pin signal]} {
+      set pins($pin) $signal
+    } elseif {$line eq "  end" && $cell ne ""} {
+      set net $pins(\\Y)$pins(\\Q)
+      set read "$pins(\\A) $pins(\\B) $pins(\\D) $pins(\\S)"
+      if {$kind in {{$mux} {$pmux}}} { set reads($net) $read }
       # A comparison with x, as of `===`, assigns none.
-      if {$port in {{\A} {\B} {\D} {\S}} && $kind ni {{$eqx} {$nex}} && [regexp {\d'[01xz]*[xz]} $signal]} { set is_x 1 }
-    } elseif {$line eq "  end"} {
-      if {$kind ne "" && $is_x} { set of_net($net) $at }
-      set kind ""
-    } elseif {[regexp {^  connect (.*) (\S+)$} $line -> left right] && [string match {*$memwr$*} $left]} {
-      # What isn't written to a memory, and where.
-      set unwritten($right) 1
+      if {[regexp {\d'[01xz]*[xz]} $read] && $kind ni {{$eqx} {$nex}}} { lappend found $cell $at $net }
+      set cell ""
+    } elseif {[regexp {^  connect (.*) (\S+)$} $line -> net signal] && [is_made $net]} {
+      lappend made $signal
     }
   }
+  # What a multiplexer before such a net reads feeds it as well.
+  for {set at 0} {$at < [llength $made]} {incr at} {
+    set net [lindex $made $at]
+    if {[info exists feeds($net)]} continue
+    set feeds($net) 1
+    if {[info exists reads($net)]} { lappend made {*}[regexp -all -inline {\S+_Y} $reads($net)] }
+  }
+  set cells {}
+  foreach {cell at net} $found {
+    lappend cells $cell $at [expr {[is_made $net] || [info exists feeds($net)]}]
+  }
+  return $cells
+}
+
+# The places at which cells that are still there give x: where an x is written, and the whole range of a cell that has none written, since
+# what is assigned in some cases alone is x in the others.
+proc places_of {cells scratch} {
+  yosys tee -q -o $scratch select -list t:*
+  foreach line [lines_of $scratch] { set is_there([lindex [split $line /] end]) 1 }
   set found {}
-  foreach {net at} [array get of_net] {
-    if {[info exists unwritten($net)]} continue
-    lappend found {*}[places_of $at]
+  foreach {cell ranges is_made} $cells {
+    if {![info exists is_there([lindex [split [string trimleft $cell \\] /] end])]} continue
+    set written {}
+    foreach range [split $ranges |] {
+      lappend written {*}[written_in $range]
+      set whole [regsub {:(\d+)\.\d+-(\d+)\.\d+$} $range {:\1-\2}]
+    }
+    if {$written eq "" && !$is_made} { lappend found [regsub {:(\d+)-\1$} $whole {:\1}] }
+    lappend found {*}$written
   }
   return [lsort -dictionary -unique $found]
 }
 
 # Each bit that is read and that nothing drives becomes an input of its own, `undriven:NET`, so that no tool chooses its value.
 # Returns the names of these bits.
-proc expose_undriven {top scratch} {
+proc expose_undriven {scratch} {
   yosys tee -q -o $scratch check
   set nets {}
   foreach line [lines_of $scratch] {
     # TOP.\NET, or TOP.\NET [BIT]
-    if {[regexp {^Warning: Wire (.*) is used but has no driver} $line -> wire]} {
-      lappend nets [string map {" " ""} [string range $wire [string length $top.] end]]
+    if {[regexp {^Warning: Wire .*?\.([\\$].*) is used but has no driver} $line -> net]} {
+      lappend nets [string map {" " ""} $net]
     }
   }
   set names {}
@@ -112,14 +135,14 @@ yosys hierarchy -check -top $top
 yosys proc
 yosys flatten
 set out [open $facts w]
-foreach place [assigned_x $facts.scratch] { puts $out "x $place" }
+set cells [cells_with_x $scratch]
 if {$x eq "0"} { yosys setundef -zero }
 if {$x eq "1"} { yosys setundef -one }
 yosys opt_expr
 yosys opt_clean
-foreach name [expose_undriven $top $facts.scratch] { puts $out "undriven $name" }
+foreach place [places_of $cells $scratch] { puts $out "x $place" }
+foreach name [expose_undriven $scratch] { puts $out "undriven $name" }
 close $out
-file delete $facts.scratch
 yosys synth -run coarse: -flatten -nofsm -noshare -noabc -top $top
 yosys async2sync {t:$_ALDFF*} {t:$_DFFSR*} {t:$_SR_*} {t:$_DLATCH*}
 yosys dfflegalize -cell {$_DFF_?_} 01 -cell {$_DFF_???_} 01

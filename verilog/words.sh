@@ -1,6 +1,6 @@
 # shellcheck shell=bash disable=SC2034
 # The words of sec-verilog. Read by it.
-old=() new=() check=() parameters=() reading=() defines=() values=('')
+old=() new=() check=() parameters=() reading=() defines=() values=('') reset_inputs=()
 side=old top='' new_top='' sv='' keep='' wrong='' any_clock='' any_start=''
 
 # What is wrong first is told: complain WHY
@@ -36,12 +36,13 @@ read_words() {
         usage
         exit 0
         ;;
-      --top | --new-top | --keep | -P | -D | -I) value "$1" $# "${2:-}" ;;
+      --top | --new-top | --keep | --reset-input | -P | -D | -I) value "$1" $# "${2:-}" ;;
     esac
     case $1 in
       --top) top=${2:-} && shift ;;
       --new-top) new_top=${2:-} && shift ;;
       --keep) keep=${2:-} && shift ;;
+      --reset-input) reset_inputs+=("${2:-}") && shift ;;
       -P) parameters+=("${2:-}") && shift ;;
       -D) defines+=("${2:-}") && shift ;;
       -I) reading+=("-I${2:-}") && shift ;;
@@ -73,6 +74,13 @@ look_at_words() {
     case $it in
       ?*=*) ;;
       *) complain "-P wants NAME=VALUE, and not $it" ;;
+    esac
+  done
+  for it in "${reset_inputs[@]}"; do
+    case $it in
+      -* | '' | *' '* | =*) complain "--reset-input wants an input, or NAME=0 or NAME=1, and not $it" ;;
+      *=[01]) ;;
+      *=*) complain "--reset-input wants 0 or 1 behind the =, and not $it" ;;
     esac
   done
   case "$any_start ${check[*]} " in
