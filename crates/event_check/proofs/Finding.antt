@@ -1,6 +1,6 @@
 -- What is found of the pairs of two circuits, by what their comparison says.
-use Rattle.std.proofs.Common.{◌≡◌, ◌∙◌, ◌≤◌, ℕ, Bool, true, List, sym, subst}
-use Rattle.std.specs.List.{All, AllZip}
+use Rattle.std.proofs.Common.{◌≡◌, ◌≤◌, ℕ, Bool, true, List, sym, subst}
+use Rattle.std.specs.List.{AllZip}
 use Rattle.circuit_theory.specs.Joined.{Either}
 use Rattle.circuit_theory.specs.Frame.{EventSide}
 use Rattle.sec_setup.specs.declared.ports.pairs.SignalPair.{SignalPair}

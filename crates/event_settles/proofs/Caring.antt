@@ -1,5 +1,5 @@
 -- What is decided of the care of a pair's query says which frames have care for the pair.
-use Rattle.std.proofs.Common.{◌≡◌, ◌≢◌, ◌∙◌, ◌<◌, ℕ, suc, Bool, true, false, List, [], ◌∷◌, length, get_or, slice_get, Some, refl, sym, subst, arith, inl, Result, Ok, Err}
+use Rattle.std.proofs.Common.{◌≡◌, ◌∙◌, ◌<◌, ℕ, suc, Bool, true, false, List, [], ◌∷◌, length, get_or, slice_get, Some, refl, sym, subst, arith, inl, Result, Ok, Err}
 use Rattle.std.specs.Prelude.{◌↔◌, IfOk}
 use Rattle.std.specs.List.{All, AllZip, Contains}
 use Rattle.std.proofs.lemmas.List.Elements.{All-nil, All-cons, All-contains}
@@ -13,8 +13,6 @@ use Rattle.circuit_theory.specs.EventFrames.{AreNodeVariables, IsPairTree, frame
 use Rattle.circuit_theory.specs.Frame.{EventSide}
 use Rattle.base_tables.specs.Table.{AreDistinct}
 use Rattle.aig.specs.declared.node.Node.{Node}
-use Rattle.aig.specs.declared.node.Node.TheVariants.{Input}
-use Rattle.aig.specs.Cone.{IsReached}
 use Rattle.aig.specs.Graph.{IsGraph}
 use Rattle.aig.specs.Values.{value}
 use Rattle.obligations.specs.outcome.Proof.{Proof}
@@ -32,7 +30,7 @@ use Rattle.event_form.proofs.event_agreement.FrameBits.{bits_take_frame}
 use Rattle.event_form.proofs.event_agreement.PairQueries.{is_query, within, are_variables, care_value}
 use Rattle.assume_laws.specs.Assume.{Assumption}
 use Rattle.assume_laws.specs.Sequences.{IsPairTreeUnder}
-use Rattle.event_under.specs.Asked.{variable_in, variables_in, AsksUnder, AreAskedUnder, IsAskedUnder}
+use Rattle.event_under.specs.Asked.{variable_in, variables_in, AreAskedUnder, IsAskedUnder}
 use Rattle.event_under.proofs.Bits.{bits_take, assignment_in, takes_assignment}
 use Rattle.event_settles.proofs.Decisions.{reached_among}
 use Rattle.event_settles.specs.declared.cares.Care.{Care}
@@ -99,10 +97,10 @@ module _ (s : EventSide (Either ℕ ℕ)) (w : EventGraphView) (cut : Bool) (p :
     are_variables = are_variables s w (Left p.left.0) (Right p.right.0) k.query is k.asks;
     each = length-map (variable_of w) k.query.vars;
     named = λ v here. (
-      let below : v < length w.places = All-contains (λ u. u < length w.places) k.query.vars v (within s w (Left p.left.0) (Right p.right.0) k.query is k.asks) here in
-      let many = length-map {Y = ℕ × List ℕ} (λ (z : ℕ × ℕ). (z.0, path_of w.children z.1)) w.places in
-      (get_or (named_places w) v (0, []), slice_get-get_or (named_places w) v (0, []) (omega (arith, below, many)), Contains-map (variable_of w) k.query.vars v here)
-      );
+        let below : v < length w.places = All-contains (λ u. u < length w.places) k.query.vars v (within s w (Left p.left.0) (Right p.right.0) k.query is k.asks) here in
+        let many = length-map {Y = ℕ × List ℕ} (λ (z : ℕ × ℕ). (z.0, path_of w.children z.1)) w.places in
+        (get_or (named_places w) v (0, []), slice_get-get_or (named_places w) v (0, []) (omega (arith, below, many)), Contains-map (variable_of w) k.query.vars v here)
+        );
     care_is = care_value s w (Left p.left.0) (Right p.right.0) k.query is k.asks;
     takes = λ bits. bits_take_frame w is k.query.vars bits (within s w (Left p.left.0) (Right p.right.0) k.query is k.asks);
   }
@@ -127,9 +125,9 @@ module _ (a : Assumption) (s : EventSide (Either ℕ ℕ)) (w : EventGraphView) 
     are_variables = k.asks.are_variables;
     each = length-map (variable_in places) k.query.vars;
     named = λ v here. (
-      let below : v < length places = All-contains (λ z. z < length places) k.query.vars v k.asks.within here in
-      (get_or places v (0, []), slice_get-get_or places v (0, []) below, Contains-map (variable_in places) k.query.vars v here)
-      );
+        let below : v < length places = All-contains (λ z. z < length places) k.query.vars v k.asks.within here in
+        (get_or places v (0, []), slice_get-get_or places v (0, []) below, Contains-map (variable_in places) k.query.vars v here)
+        );
     care_is = k.asks.care_value;
     takes = λ bits. bits_take places distinct k.query.vars bits k.asks.within;
   }

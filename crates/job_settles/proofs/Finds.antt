@@ -1,8 +1,7 @@
 -- What the parts of the work on the files of a comparison with cares find.
 use Rattle.std.specs.Prelude.{IfSome, IsErrOf}
-use Rattle.std.proofs.Common.{◌≡◌, ℕ, List, refl, sym, ap, subst, inl, inr, Option, Some, None, Result, Ok, Err}
-use Rattle.std.specs.Prelude.{◌⊎◌}
-use Rattle.sec_base.specs.base_shelves.Outside.{Rose, SameHeld, NoneFell}
+use Rattle.std.proofs.Common.{ℕ, List, refl, sym, subst, inl, inr, Option, Some, None, Result, Ok, Err}
+use Rattle.sec_base.specs.base_shelves.Outside.{SameHeld, NoneFell}
 use Rattle.sec_base.specs.declared.settings.Settings.{Settings}
 use Rattle.flat_net.specs.View.{NetView}
 use Rattle.sec_base.specs.declared.base_shelves.whole_file.FetchError.TheVariants as fetch_error
@@ -29,10 +28,10 @@ use Rattle.job_base.specs.sec_files.Loading.{Loads}
 use Rattle.job_base.specs.sec_files.job_files.Ends.{load_end}
 use Rattle.job_base.specs.sec_files.job_files.Reading.{Held, ReadFailed}
 use Rattle.job_base.proofs.sec_files.job_files.Loading.{later_fails}
-use Rattle.job_check.specs.check_meaning.check_found.Check.{Check, all_paths, check_paths}
-use Rattle.job_check.specs.check_meaning.check_found.Ends.{compare_end, EndsBeside, EndsBoth, FoundOf}
+use Rattle.job_check.specs.check_meaning.check_found.Check.{Check, check_paths}
+use Rattle.job_check.specs.check_meaning.check_found.Ends.{compare_end, EndsBeside, FoundOf}
 use Rattle.job_check.specs.check_meaning.check_found.Found.{IsFoundOf}
-use Rattle.job_check.proofs.check_meaning.check_found.Finds.{beside_end, left_ends, no_fault_compared}
+use Rattle.job_check.proofs.check_meaning.check_found.Finds.{beside_end, no_fault_compared}
 use Rattle.job_settles.specs.Found.{IsSettledBy, IsSettlesFound, IsSettledEnd, SettlesFound, SettlesBeside, SettlesBoth, settled_finding}
 use Rattle.job_settles.specs.Settled.{SettledIn, SettledUnderIn}
 

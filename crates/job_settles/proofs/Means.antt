@@ -28,14 +28,14 @@ use Rattle.job_base.specs.declared.finding.Judgement.TheVariants as judgement
 use Rattle.job_base.specs.declared.status.StatusName.{StatusName}
 use Rattle.job_base.specs.declared.status.StatusName.TheVariants as status
 use Rattle.job_base.specs.sec_files.job_files.Reading.{Held}
-use Rattle.job_check.specs.check_meaning.Answer.{CheckMeans, IsAnswer, IsCheckComplete}
+use Rattle.job_check.specs.check_meaning.Answer.{IsAnswer, IsCheckComplete}
 use Rattle.job_check.specs.check_meaning.check_found.Check.{Check}
 use Rattle.job_check.specs.check_meaning.check_found.Found.{IsAnsweredBy}
 use Rattle.job_check.proofs.check_meaning.Complete.{check_complete}
 use Rattle.job_check.proofs.check_meaning.Means.{check_means}
 use Rattle.job_settles.specs.Answer.{Settles, SettlesMeans, TextsSayNever}
 use Rattle.job_settles.specs.Found.{IsSettledBy, IsSettledFinding, IsSettlesFound}
-use Rattle.job_settles.specs.Report.{equal_judgement, first_limit, first_never, first_where, is_limit, is_never, judged_by, settles_judgement}
+use Rattle.job_settles.specs.Report.{first_limit, first_never, first_where, is_limit, is_never, judged_by, settles_judgement}
 use Rattle.job_settles.specs.Settled.{SettledIn, SettledUnderIn}
 use Rattle.job_settles.proofs.Settling.{settled_says, settled_says_under}
 

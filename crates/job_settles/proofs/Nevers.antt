@@ -1,7 +1,7 @@
 -- Where no frame of the cut circuits has care for both sides of a pair, the pair is settled in both circuits in no two runs with equal inputs.
-use Rattle.std.proofs.Common.{◌≡◌, ◌≢◌, ◌∙◌, ◌++◌, ℕ, Bool, false, List, [], ◌∷◌, length, map, Option, Some, None, refl, sym, ap, subst, inl, inr}
-use Rattle.std.specs.Prelude.{◌↔◌, ◌⊎◌}
-use Rattle.std.specs.List.{All, AllZip, Contains}
+use Rattle.std.proofs.Common.{◌∙◌, ◌++◌, ℕ, Bool, false, List, [], length, map, Option, None, sym, ap, subst, inl, inr}
+use Rattle.std.specs.Prelude.{◌↔◌}
+use Rattle.std.specs.List.{All, Contains}
 use Rattle.circuit_theory.specs.Agree.{cut}
 use Rattle.circuit_theory.specs.Circuit.{Circuit, Equation, Named, Holds, Meets}
 use Rattle.circuit_theory.specs.Classes.{HasClasses}

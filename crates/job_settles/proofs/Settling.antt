@@ -1,14 +1,13 @@
 -- What a comparison with cares answers says of the circuits of both nets.
-use Rattle.std.proofs.Common.{◌≡◌, ◌≢◌, ℕ, Bool, true, false, List, [], ◌∷◌, map, refl, sym, ap, subst, inl, inr, Result, Ok, Err}
-use Rattle.std.specs.Prelude.{◌⊎◌}
+use Rattle.std.proofs.Common.{◌≡◌, ◌≢◌, ℕ, true, List, [], ◌∷◌, map, refl, subst, inl, inr, Result, Ok, Err}
 use Rattle.std.specs.List.{AllZip}
 use Rattle.circuit_theory.specs.declared.Mode.{Mode}
 use Rattle.circuit_theory.specs.declared.Mode.TheVariants.{Plain, Event}
 use Rattle.flat_net.specs.Sound.{IsSound}
-use Rattle.flat_net.specs.View.{NetView, circuit_of}
+use Rattle.flat_net.specs.View.{NetView}
 use Rattle.sec_base.specs.declared.settings.Settings.{Settings}
 use Rattle.sec_setup.specs.declared.ports.pairs.SignalPair.{SignalPair}
-use Rattle.sec_setup.specs.ports.Pairs.{NamedPair, named_pairs, places_of}
+use Rattle.sec_setup.specs.ports.Pairs.{NamedPair, places_of}
 use Rattle.obligations.specs.declared.outcome.verdict.Outcome.{Outcome}
 use Rattle.obligations.specs.outcome.Report.{knows_pairs}
 use Rattle.edbf_unfold.specs.class_queries.Enables.{both_of}
@@ -16,14 +15,10 @@ use Rattle.event_check.specs.event_answers.Settles.{CaresFit, SettlesInEvents}
 use Rattle.event_check.specs.event_check_under.Settles.{CaresFitUnder, SettlesInEventsUnder}
 use Rattle.event_check.specs.declared.event_answers.outcomes.Settled.{Settled}
 use Rattle.event_settles.specs.Cares.{CareFits, CareFitsUnder, CareIs}
-use Rattle.event_settles.specs.declared.cares.Care.{Care}
-use Rattle.event_settles.specs.declared.cares.Care.TheVariants as care
 use Rattle.event_settles.specs.declared.cares.PairCare.{PairCare}
 use Rattle.event_setup.specs.event_meaning.event_meaning_under.Answered.{ComparedInEventsUnder}
 use Rattle.event_setup.specs.event_meaning.event_meaning_under.CompareError.{CompareError}
 use Rattle.event_setup.specs.event_meaning.event_meaning_under.Taken.{assumed_by}
-use Rattle.event_setup.specs.event_meaning.event_meaning_under.Met.{IsMet}
-use Rattle.assume_laws.specs.Assume.{Assumption}
 use Rattle.job_settles.specs.Found.{CanTell}
 use Rattle.job_settles.specs.Says.{SaysNever, SaysNeverOfAll, SaysNeverUnder, SaysNeverOfAllUnder}
 use Rattle.job_settles.specs.Settled.{SettledIn, SettledUnderIn}
@@ -77,11 +72,11 @@ module _ (a b : NetView) (s : Settings) (o : Outcome) (cares : List PairCare) (s
   never_of_all_under c (inr k) some = (
     k.met,
     subst (λ (ps : List (NamedPair ℕ ℕ)). AllZip (SaysNeverUnder (assumed_by k.met.assumed) a b) ps cares) k.listed
-    (zip_places (CareFitsUnder (assumed_by k.met.assumed) (both_of k.left k.right) s.conflicts) (SaysNeverUnder (assumed_by k.met.assumed) a b)
-    (λ p x h. record {
-      named = h.name_is;
-      never = λ e. event_never_under a b s.expose o.exposed k.left k.right sa sb k.reached.circuits k.classes (assumed_by k.met.assumed) k.reads p.left.0 p.right.0 (subst (CareIs _ _ s.conflicts) e h.care_is);
-    }) k.pairs cares k.each),
+        (zip_places (CareFitsUnder (assumed_by k.met.assumed) (both_of k.left k.right) s.conflicts) (SaysNeverUnder (assumed_by k.met.assumed) a b)
+        (λ p x h. record {
+          named = h.name_is;
+          never = λ e. event_never_under a b s.expose o.exposed k.left k.right sa sb k.reached.circuits k.classes (assumed_by k.met.assumed) k.reads p.left.0 p.right.0 (subst (CareIs _ _ s.conflicts) e h.care_is);
+        }) k.pairs cares k.each),
   )
 
 -- what is said where the comparison has this answer

@@ -1,9 +1,6 @@
 -- What the status of a comparison with the cares of its pairs says of the texts.
 use Rattle.std.specs.Prelude.{◌≡◌, ℕ, List, Option, All}
-use Rattle.circuit_theory.specs.declared.Mode.{Mode}
-use Rattle.circuit_theory.specs.declared.Mode.TheVariants.{Plain, Event}
 use Rattle.sec_base.specs.base_shelves.Outside.{Takes}
-use Rattle.flat_net.specs.View.{NetView}
 use Rattle.obligations.specs.outcome.Proof.{Proof}
 use Rattle.obligations.specs.outcome.Report.{report_text}
 use Rattle.obligations.specs.declared.outcome.verdict.Outcome.{Outcome}

@@ -1,8 +1,6 @@
 -- What is said of the circuits of two nets where some pairs have no care.
-use Rattle.std.specs.Prelude.{◌≡◌, ◌≢◌, ℕ, List, [], length, slice_get, Some}
+use Rattle.std.specs.Prelude.{◌≡◌, ◌≢◌, ℕ, List, []}
 use Rattle.std.specs.List.{AllZip}
-use Rattle.circuit_theory.specs.declared.Mode.{Mode}
-use Rattle.circuit_theory.specs.declared.Mode.TheVariants.{Plain, Event}
 use Rattle.flat_net.specs.View.{NetView, circuit_of}
 use Rattle.sec_setup.specs.ports.Pairs.{NamedPair, named_pairs}
 use Rattle.assume_laws.specs.Assume.{Assumption}

@@ -55,7 +55,14 @@ fn text_of(
     put(&mut text, &whole.as_slice()[..length])?;
     put_cares(&mut text, cares)?;
     let verdict = &whole.as_slice()[length..];
-    put_verdict(alloc, &mut text, &outcome.verdict, cares, settings.conflicts, verdict)?;
+    put_verdict(
+        alloc,
+        &mut text,
+        &outcome.verdict,
+        cares,
+        settings.conflicts,
+        verdict,
+    )?;
     Ok(Seq::from_vec(text))
 }
 

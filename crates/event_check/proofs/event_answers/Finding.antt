@@ -1,5 +1,5 @@
 -- What is found of the pairs of two circuits, by what is counted of them.
-use Rattle.std.proofs.Common.{◌≡◌, ◌∙◌, ◌≤◌, ℕ, List, length, refl, sym, subst, Err}
+use Rattle.std.proofs.Common.{◌≡◌, ◌∙◌, ◌≤◌, List, length, refl, sym, Err}
 use Rattle.circuit_theory.proofs.Lists.{length-map}
 use Rattle.flat_net.specs.View.{circuit_of, named}
 use Rattle.sec_setup.specs.declared.ports.pairs.SignalPair.{SignalPair}

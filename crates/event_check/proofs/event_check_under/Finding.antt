@@ -1,6 +1,6 @@
 -- What is found of the pairs of two circuits under an assumption, by what their comparison says.
 use Rattle.std.specs.List.{AllZip}
-use Rattle.std.proofs.Common.{◌≡◌, ◌≤◌, ℕ, Bool, true, List, length, refl, sym, ap, subst, Result, Err}
+use Rattle.std.proofs.Common.{◌≡◌, ◌≤◌, ℕ, Bool, true, List, length, sym, ap, subst, Result, Err}
 use Rattle.circuit_theory.specs.Joined.{Either}
 use Rattle.circuit_theory.specs.Frame.{EventSide}
 use Rattle.flat_net.specs.View.{NetView}

@@ -73,9 +73,7 @@ pub fn settle_in_events_under(
         shared: &shared,
     };
     match take(alloc, c, &shared, settings.conflicts) {
-        Ok(Taken::Met(premise)) => {
-            compare_met(alloc, &circuits, premise, settings, settles)
-        }
+        Ok(Taken::Met(premise)) => { compare_met(alloc, &circuits, premise, settings, settles) }
         Ok(Taken::Limit(proof)) => {
             let found = limit_found(alloc, LimitAt::Assume(proof));
             Ok(outcome_under(&circuits, Words::new(alloc), found)?)

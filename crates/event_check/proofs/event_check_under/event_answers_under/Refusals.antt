@@ -1,5 +1,5 @@
 -- Why circuits aren't compared under an assumption.
-use Rattle.std.proofs.Common.{◌≡◌, ℕ, Bool, List, map, subst, inl, inr, Err}
+use Rattle.std.proofs.Common.{◌≡◌, ℕ, Bool, subst, inl, inr, Err}
 use Rattle.flat_net.specs.View.{NetView}
 use Rattle.sec_base.specs.declared.settings.Settings.{Settings}
 use Rattle.sec_setup.specs.declared.error.SetupError.{SetupError}

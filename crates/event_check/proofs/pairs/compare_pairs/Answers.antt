@@ -2,7 +2,6 @@
 use Rattle.std.proofs.Common.{List, refl, sym, subst}
 use Rattle.std.specs.List.{All}
 use Rattle.sec_setup.specs.declared.ports.pairs.SignalPair.{SignalPair}
-use Rattle.event_setup.specs.event_meaning.event_meaning_under.CompareError.{CompareError}
 use Rattle.event_check.specs.event_answers.Asked.{IsPairOf}
 use Rattle.event_check.specs.event_answers.Finding.{AreNotUnfolded, IsNamedFound, refusal_of}
 use Rattle.event_comparison.proofs.Comparing.{pairs_later}

@@ -1,7 +1,7 @@
 use Rattle.std.proofs.Common.{ℕ, List, Option, Some, refl, ap, sym, subst, inl, inr}
 use Rattle.std.specs.Prelude.{option_map}
 use Rattle.job_settles.specs.Found.{SettlesBoth}
-use Rattle.job_settles.proofs.Finds.{both_before, no_fault_settled}
+use Rattle.job_settles.proofs.Finds.{both_before}
 use Rattle.job_settles.proofs.Settling.{can_tell}
 use Rattle.job_settles.proofs.job.settle_with.Goals as goal
 

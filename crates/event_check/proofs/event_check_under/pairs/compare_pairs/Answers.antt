@@ -1,5 +1,5 @@
 -- What is found, or why the pairs can't be compared.
-use Rattle.std.proofs.Common.{length, refl, sym, subst, Err}
+use Rattle.std.proofs.Common.{refl, sym, subst, Err}
 use Rattle.std.specs.List.{All}
 use Rattle.event_setup.specs.event_meaning.event_meaning_under.CompareError.{CompareError}
 use Rattle.event_check.specs.event_answers.Asked.{IsPairOf}
