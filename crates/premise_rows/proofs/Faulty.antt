@@ -1,5 +1,5 @@
 -- A text that is told and isn't accepted has no verdict.
-use Rattle.std.proofs.Common.{◌≡◌, ℕ, List, Option, Some, None, Result, Ok}
+use Rattle.std.proofs.Common.{◌≡◌, ℕ, List, Option, Some, None, Ok}
 use Rattle.obligations.specs.declared.outcome.verdict.Outcome.{Outcome}
 use Rattle.job_base.specs.sec_files.Loading.{Loads, IsAccepted}
 use Rattle.job_base.specs.sec_files.job_files.Reading.{Held}

@@ -33,7 +33,7 @@ use Rattle.cycle_sim.specs.Runs.{initial_or, reset_bits}
 use Rattle.cycle_sim.proofs.Starts.{same_reset_bits, has_start, start_there}
 use Rattle.circuit_report.specs.sim_report.Checks.{word_bits, power_of}
 use Rattle.circuit_report.specs.sim_report.Report.{Shown, sim_text, IsSimulated, IsShown, IsSimReport}
-use Rattle.circuit_report.proofs.sim_report.Reports.{one_report}
+use Rattle.circuit_report.proofs.sim_report.Reports.{one_report, simulation_exists}
 use Rattle.premise_rows.specs.job_rows.OneReport.{AreOneGraph, GraphReportsAreOne, SimReportsAreOne}
 
 -- the latches of a net, as its circuit's

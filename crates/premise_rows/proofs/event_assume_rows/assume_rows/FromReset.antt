@@ -6,6 +6,7 @@ use Rattle.std.proofs.lemmas.List.Sums.{sum_by-cons}
 use Rattle.std.proofs.lemmas.Nat.{mul-le}
 use Rattle.std.proofs.lemmas.Option.{slice_get_within}
 use Rattle.circuit_theory.specs.Interface.{Ports, shared_inputs}
+use Rattle.circuit_theory.specs.Query.{HasLeaf}
 use Rattle.circuit_theory.proofs.Lists.{Contains-head, Contains-tail, at_of, length-map}
 use Rattle.circuit_laws.specs.reset_laws.Weight.{ResetVisits}
 use Rattle.circuit_laws.proofs.Counting.{fewer}
@@ -44,13 +45,13 @@ up_to (suc n) = suc n ∷ up_to n
 last_or : (k n : ℕ) → k ≤ suc n → (suc n ≡ k) ⊎ (k ≤ n)
 last_or k n h = grind arith
 
+among_by : (n k : ℕ) → (k ≤ n → Contains (up_to n) k) → (suc n ≡ k) ⊎ (k ≤ n) → Contains (suc n ∷ up_to n) k
+among_by n k rest (inl e) = subst (Contains (suc n ∷ up_to n)) e (Contains-head (suc n) (up_to n))
+among_by n k rest (inr l) = Contains-tail (suc n) k (up_to n) (rest l)
+
 among_them : (n k : ℕ) → k ≤ n → Contains (up_to n) k
 among_them zero k h = subst (Contains (0 ∷ [])) (let e : 0 ≡ k = omega (arith, h) in e) (Contains-head 0 [])
-among_them (suc n) k h = by (last_or k n h)
-  where
-    by : (suc n ≡ k) ⊎ (k ≤ n) → Contains (suc n ∷ up_to n) k
-    by (inl e) = subst (Contains (suc n ∷ up_to n)) e (Contains-head (suc n) (up_to n))
-    by (inr l) = Contains-tail (suc n) k (up_to n) (among_them n k l)
+among_them (suc n) k h = among_by n k (λ l. among_them n k l) (last_or k n h)
 
 -- lists of no more than m elements each
 few_sum : (n m : ℕ) (each : List (List ℕ)) → length each ≤ n → ((ks : List ℕ) → Contains each ks → length ks ≤ m) → sum_by length each ≤ times n m
@@ -66,9 +67,9 @@ few_sum (suc n) m (ks ∷ each) few h =
 read_before : (n : Numbered) (x : NamedPair ℕ ℕ) (t k : ℕ) → IsReadIn n x t k → k ≤ t
 read_before n x t k r = by r.read.1
   where
-    by : _ → k ≤ t
-    by (inl leaf) = let v = leaf_visits n.a n.left n.left_base x.left t (record { input = r.read.0; at = k }) r.left_unfolds ResetVisits.itself leaf in (shifted n.a x.left t v.2).0
-    by (inr leaf) = let v = leaf_visits n.b n.right n.right_base x.right t (record { input = r.read.0; at = k }) r.right_unfolds ResetVisits.itself leaf in (shifted n.b x.right t v.2).0
+    by : HasLeaf (record { input = r.read.0; at = k }) r.left_tree ⊎ HasLeaf (record { input = r.read.0; at = k }) r.right_tree → k ≤ t
+    by (inl h) = let v = leaf_visits n.a n.left n.left_base x.left t (record { input = r.read.0; at = k }) r.left_unfolds ResetVisits.itself h in (shifted n.a x.left t v.2).0
+    by (inr h) = let v = leaf_visits n.b n.right n.right_base x.right t (record { input = r.read.0; at = k }) r.right_unfolds ResetVisits.itself h in (shifted n.b x.right t v.2).0
 
 module _ (a b : NetView) (left : IsSmall small_late a) (right : IsSmall small_early b) where
   shared_are : shared_by a b ≡ codes "a" ∷ codes "b" ∷ []

@@ -41,7 +41,7 @@ few_kept {X} {Y} f (x ∷ []) few = by (f x)
     by (Some y) = omega arith
 few_kept f (x ∷ y ∷ xs) few = absurd (omega (arith, few))
 
-few_pairs : (c d : Circuit ℕ) → length c.outputs ≤ 1 → length (named_pairs [] c d) ≤ 1
+pub few_pairs : (c d : Circuit ℕ) → length c.outputs ≤ 1 → length (named_pairs [] c d) ≤ 1
 few_pairs c d few = few_kept (λ (o : Named ℕ). pair_called (pair.Output o.name) (Some o.place) (place_named d.outputs o.name)) c.outputs few
 
 -- the weight of an assumption at one place at most

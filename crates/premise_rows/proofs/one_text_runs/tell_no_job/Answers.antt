@@ -1,5 +1,6 @@
 -- The one finding is that no words are no job, and there is room for its report.
 use Rattle.std.proofs.Common.{◌≡◌, [], None, Some, ℕ, sym, subst, arith}
+use Rattle.clap.proofs.OnLiterals.{clap_on_literals}
 use Rattle.sec_base.specs.base_shelves.MemSink.{SinkState, Accepts}
 use Rattle.job_base.specs.declared.finding.Finding.{Finding}
 use Rattle.job_base.specs.declared.finding.Finding.TheVariants as finding
@@ -13,6 +14,7 @@ has_room : Accepts (record { taken = []; room = 14; fail_at = None; keep = 0; ca
 has_room = (omega arith, no_number _)
 
 pub returns : goal.returns
+unfolding clap_on_literals
 returns c is =
     let cut = c.run.ensures.accepted is in
     let words : cut.finding ≡ finding.Words = cut.found in
