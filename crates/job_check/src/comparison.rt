@@ -105,7 +105,10 @@ fn compare_assuming<S: Shelf>(
 }
 
 /// What is found by a comparison.
-pub fn compare_end(settings: Settings, compared: Result<Outcome, CompareError>) -> Result<Finding, Stop>
+pub fn compare_end(
+    settings: Settings,
+    compared: Result<Outcome, CompareError>,
+) -> Result<Finding, Stop>
     ensures { result ≡ compare_end settings compared }
 {
     match compared {
