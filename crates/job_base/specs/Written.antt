@@ -59,6 +59,7 @@ unrefuted_proofs (unrefuted.Limit conflicts proof) = proof ∷ []
 abbrev pub judgement_status : Judgement → StatusName
 judgement_status judgement.Equal = status.Equal
 judgement_status judgement.NotShown = status.NotShown
+judgement_status judgement.Different = status.Different
 judgement_status judgement.Limit = status.Limit
 
 -- the status of a finding

@@ -62,13 +62,14 @@ fn unrefuted_status(unrefuted: &Unrefuted) -> StatusName
     }
 }
 
-/// The status of what is said of two circuits by blocks of their latches.
+/// The status of what is said of two circuits by blocks of their latches, or by a search.
 fn judgement_status(judgement: Judgement) -> StatusName
     ensures { result ≡ judgement_status judgement }
 {
     match judgement {
         Judgement::Equal => StatusName::Equal,
         Judgement::NotShown => StatusName::NotShown,
+        Judgement::Different => StatusName::Different,
         Judgement::Limit => StatusName::Limit,
     }
 }

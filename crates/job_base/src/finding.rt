@@ -92,13 +92,15 @@ pub enum Unrefuted {
     Limit(u32, Proof),
 }
 
-/// What is said of two circuits whose latches are put into blocks.
+/// What is said of two circuits whose latches are put into blocks, or that are searched for a difference.
 #[derive(Clone, Copy)]
 pub enum Judgement {
-    /// Each output agrees for all values that are constant on the blocks.
+    /// Each output agrees: for all values that are constant on the blocks, or in every cycle.
     Equal,
-    /// Some output differs for values that are constant on the blocks.
+    /// Some output differs for values that are constant on the blocks; or none differs in the cycles that were searched.
     NotShown,
+    /// A printed sequence makes an output differ.
+    Different,
     /// A query wasn't decided within the number of conflicts.
     Limit,
 }
@@ -127,7 +129,8 @@ pub enum Finding {
     Undecided(Side, Word, Proof),
     /// The clauses of a pair of outputs aren't refuted.
     Unrefuted(Unrefuted),
-    /// What is said of two circuits by blocks of their latches, the proofs of the queries that met the limit, and the report.
+    /// What is said of two circuits by blocks of their latches or by a search, the proofs of the queries that met the limit, and the
+    /// report.
     Judged(Judgement, Proofs, Text),
 }
 
