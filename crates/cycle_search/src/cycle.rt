@@ -1,8 +1,10 @@
 //! The pairs in one cycle, where all earlier ones are unfolded.
 
-ghost use Rattle.std.specs.Prelude.{◌≡◌, ◌≤◌, length, map, All, IfOk, OnOk};
-ghost use Rattle.cycle_search.specs.Settings.{IsSetting};
+ghost use Rattle.std.specs.Prelude.{◌+◌, ◌≤◌, map, IfOk, OnOk};
+ghost use Rattle.sec_setup.specs.ports.Pairs.{places_of};
+ghost use Rattle.reset_form.specs.reset_asked.Numbers.{numbered};
 ghost use Rattle.reset_form.specs.reset_functions.Bases.{AreBases};
+ghost use Rattle.cycle_search.specs.Settings.{IsSetting};
 ghost use Rattle.cycle_search.specs.Cycles.{IsUnfoldedBefore, Compared, AreFunctionsIn, IsFoundIn};
 
 use crate::asked::ask;

@@ -1,12 +1,11 @@
 //! Whether the cycles so far are as many as the pairs are deep.
 
-ghost use Rattle.std.specs.Prelude.{◌≡◌, ◌<◌, ◌≤◌, true, false, length, All, IsTrue};
+ghost use Rattle.std.specs.Prelude.{◌≡◌, ◌↔◌, ◌<◌, true, length};
 ghost use Rattle.circuit_theory.specs.declared.Mode.TheVariants.{Plain};
 ghost use Rattle.flat_net.specs.View.{circuit_of};
-ghost use Rattle.sec_setup.specs.declared.ports.pairs.SignalPair.{SignalPair};
 ghost use Rattle.latch_graph.specs.signal_graph.Graph.{IsGraphIn};
 ghost use Rattle.cycle_search.specs.Settings.{IsSetting};
-ghost use Rattle.cycle_search.specs.Depths.{HasDepthUpTo, AreDeepUpTo, Decides};
+ghost use Rattle.cycle_search.specs.Depths.{HasDepthUpTo, AreDeepUpTo};
 
 use flat_net::{Net, Signal};
 use latch_graph::LatchGraph;
@@ -15,7 +14,7 @@ use sec_setup::Setup;
 /// Whether each pair has a depth, and none is greater than this cycle.
 pub(crate) fn reaches_depths(setup: &Setup<'_>, cycle: u32) -> bool
     requires { IsSetting setup.now }
-    ensures { Decides result (AreDeepUpTo setup.now cycle) }
+    ensures { (result ≡ true) ↔ AreDeepUpTo setup.now cycle }
 {
     setup.left.keeps();
     setup.right.keeps();
@@ -33,7 +32,7 @@ pub(crate) fn reaches_depths(setup: &Setup<'_>, cycle: u32) -> bool
 fn reaches_depth(net: &Net, graph: &LatchGraph, s: Signal, cycle: u32) -> bool
     requires graph { IsGraphIn Plain net.now graph.now }
     requires signal { s.0 < length net.now.drivers }
-    ensures { Decides result (HasDepthUpTo (circuit_of net.now) s.0 cycle) }
+    ensures { (result ≡ true) ↔ HasDepthUpTo (circuit_of net.now) s.0 cycle }
 {
     match graph.depth(s) {
         Some(depth) => depth <= cycle,

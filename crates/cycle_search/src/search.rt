@@ -1,10 +1,9 @@
 //! The search.
 
-ghost use Rattle.std.specs.Prelude.{◌≡◌, ◌≤◌, IfOk, IfErr};
+ghost use Rattle.std.specs.Prelude.{◌≡◌, ◌≤◌, false};
 ghost use Rattle.flat_net.specs.Comparable.{IsComparable};
-ghost use Rattle.reset_form.specs.reset_functions.Bases.{AreBases};
 ghost use Rattle.cycle_search.specs.Settings.{IsSetting};
-ghost use Rattle.cycle_search.specs.Searches.{AreSearched, Searches, IsSearchedIn, SearchesIn};
+ghost use Rattle.cycle_search.specs.Searches.{Searches, SearchesIn, IsAgreed, IsVerdictOf};
 ghost use Rattle.cycle_search.specs.Refusals.{mismatch_of};
 
 use crate::cycle::{InCycle, begin, compare_cycle};
@@ -93,6 +92,8 @@ fn search(
 
 /// Whether the search ends in this cycle: some pair isn't equal there, or the cycle is as great as each pair's depth.
 fn ends(setup: &Setup<'_>, found: &InCycle, last: u32) -> bool
+    requires { IsSetting setup.now }
+    ensures { result ≡ false → found.now.verdict ≡ ResetVerdict.Equal }
 {
     match found.verdict {
         ResetVerdict::Equal => reaches_depths(setup, last),
@@ -107,6 +108,10 @@ fn searched_of(
     last: u32,
     stopped: Option<Side>,
 ) -> Searched
+    requires { IsSetting setup.now }
+    ensures pairs { result.pairs ≡ found.pairs }
+    ensures last { result.last ≡ last }
+    ensures verdict { IsVerdictOf setup.now last stopped found.verdict result.verdict }
 {
     let InCycle { pairs, verdict } = found;
     let verdict = match verdict {
@@ -123,6 +128,8 @@ fn searched_of(
 
 /// The verdict where all pairs agree in all cycles up to the last.
 fn agreed(setup: &Setup<'_>, last: u32, stopped: Option<Side>) -> SearchVerdict
+    requires { IsSetting setup.now }
+    ensures { IsAgreed setup.now last stopped result }
 {
     if reaches_depths(setup, last) {
         SearchVerdict::Equal
