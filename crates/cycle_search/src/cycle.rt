@@ -73,9 +73,11 @@ pub(crate) fn begin<'a>(
         &setup.orders.right,
         bases.right,
     )?;
+    let aig = Aig::new(alloc)?;
+    let places = PlaceTable::new(alloc);
     let functions = Functions {
-        aig: Aig::new(alloc)?,
-        places: PlaceTable::new(alloc),
+        aig,
+        places,
         left: Vec::new(alloc),
         right: Vec::new(alloc),
     };
@@ -93,40 +95,42 @@ pub(crate) fn compare_cycle(
     alloc: Global,
     setup: &Setup<'_>,
     bases: Bases,
-    unfolding: &mut Unfolding<'_>,
+    unfolded: &mut Unfolding<'_>,
     cycle: u32,
     conflicts: u32,
 ) -> Result<InCycle, ResetError>
     requires setup { IsSetting setup.now }
     requires bases { AreBases setup.now bases }
-    requires before { IsUnfoldedBefore setup.now bases cycle unfolding.old }
+    requires before { IsUnfoldedBefore setup.now bases cycle unfolded.old }
     requires conflicts { conflicts ≤ MAX_CONFLICTS }
     ensures compared { Compared setup.now bases cycle conflicts result }
-    ensures after { OnOk result (IsUnfoldedBefore setup.now bases (cycle + 1) unfolding.new) }
+    ensures after { OnOk result (IsUnfoldedBefore setup.now bases (cycle + 1) unfolded.new) }
 {
+    setup.left.keeps();
+    setup.right.keeps();
     let left = unfold_side(
         alloc,
         Side::A,
         setup.pairs.as_slice(),
         cycle,
-        &mut unfolding.left,
-        &mut unfolding.functions.aig,
-        &mut unfolding.functions.places,
+        &mut unfolded.left,
+        &mut unfolded.functions.aig,
+        &mut unfolded.functions.places,
     )?;
     let right = unfold_side(
         alloc,
         Side::B,
         setup.pairs.as_slice(),
         cycle,
-        &mut unfolding.right,
-        &mut unfolding.functions.aig,
-        &mut unfolding.functions.places,
+        &mut unfolded.right,
+        &mut unfolded.functions.aig,
+        &mut unfolded.functions.places,
     )?;
     let found = decide_cycle(
         alloc,
         setup,
         bases,
-        &unfolding.functions,
+        &unfolded.functions,
         left.as_slice(),
         right.as_slice(),
         cycle,

@@ -1,6 +1,7 @@
 //! The search.
 
-ghost use Rattle.std.specs.Prelude.{◌≡◌, ◌≤◌, false};
+ghost use Rattle.std.specs.Prelude.{◌≡◌, ◌≤◌, true, false};
+ghost use Rattle.cycle_search.specs.Depths.{AreDeepUpTo};
 ghost use Rattle.flat_net.specs.Comparable.{IsComparable};
 ghost use Rattle.cycle_search.specs.Settings.{IsSetting};
 ghost use Rattle.cycle_search.specs.Searches.{Searches, SearchesIn, IsAgreed, IsVerdictOf};
@@ -73,13 +74,13 @@ fn search(
     ensures { SearchesIn setup.now cycles conflicts result }
 {
     let bases = bases_of(setup)?;
-    let mut unfolding = begin(alloc, setup, bases)?;
-    let mut found = compare_cycle(alloc, setup, bases, &mut unfolding, 0, conflicts)?;
+    let mut unfolded = begin(alloc, setup, bases)?;
+    let mut found = compare_cycle(alloc, setup, bases, &mut unfolded, 0, conflicts)?;
     for last in 0..cycles {
         if ends(setup, &found, last) {
             return Ok(searched_of(setup, found, last, None));
         }
-        match compare_cycle(alloc, setup, bases, &mut unfolding, last + 1, conflicts) {
+        match compare_cycle(alloc, setup, bases, &mut unfolded, last + 1, conflicts) {
             Ok(next) => found = next,
             Err(ResetError::TooLarge(side)) => {
                 return Ok(searched_of(setup, found, last, Some(side)));
@@ -93,7 +94,8 @@ fn search(
 /// Whether the search ends in this cycle: some pair isn't equal there, or the cycle is as great as each pair's depth.
 fn ends(setup: &Setup<'_>, found: &InCycle, last: u32) -> bool
     requires { IsSetting setup.now }
-    ensures { result ≡ false → found.now.verdict ≡ ResetVerdict.Equal }
+    ensures goes_on { result ≡ false → found.now.verdict ≡ ResetVerdict.Equal }
+    ensures deep { result ≡ true → found.now.verdict ≡ ResetVerdict.Equal → AreDeepUpTo setup.now last }
 {
     match found.verdict {
         ResetVerdict::Equal => reaches_depths(setup, last),

@@ -4,8 +4,8 @@ ghost use Rattle.std.specs.Prelude.{◌≡◌, [], ◌∷◌, ◌++◌, length, 
 ghost use Rattle.std.specs.Fmt.{decimal};
 ghost use Rattle.std.specs.List.{flat_map};
 ghost use Rattle.witness_report.specs.Text.{row_line};
-ghost use Rattle.obligations.specs.outcome.Report.{answer_word, pair_text, pair_front, witness_text, reset_witness_text};
-ghost use Rattle.cycle_search.specs.search_report.Report.{counts_text, pair_line, stop_line, values_text, verdict_text};
+ghost use Rattle.obligations.specs.outcome.Report.{answer_word, pair_text};
+ghost use Rattle.cycle_search.specs.search_report.Report.{pair_line, stop_line, values_text, powers_text, different_text, verdict_text};
 
 use crate::found::{SearchVerdict, Searched};
 use obligations::outcome::{PairName, PairResult, ResetWitness, Witness};
@@ -14,7 +14,7 @@ use std::alloc::Global;
 use witness_report::write_stimulus;
 
 /// Puts the number behind what stands before it.
-pub(crate) fn put_count(
+fn put_count(
     alloc: Global,
     text: &mut Vec<u8>,
     front: &[u8],
@@ -24,6 +24,19 @@ pub(crate) fn put_count(
 {
     put(text, front)?;
     put_number(alloc, text, number)
+}
+
+/// Puts the number behind what stands before it, and ends the line.
+fn put_count_line(
+    alloc: Global,
+    text: &mut Vec<u8>,
+    front: &[u8],
+    number: u64,
+) -> Result<(), NoMemory>
+    ensures { OnOk result (text.new.items ≡ text.old.items ++ (front.now ++ decimal number ++ 10 ∷ [])) }
+{
+    put_count(alloc, text, front, number)?;
+    put(text, b"\n")
 }
 
 /// Puts the name of a pair behind what stands before it: an output's, or `next` and a latch's.
@@ -85,16 +98,15 @@ fn put_stop(
 ) -> Result<(), NoMemory>
     ensures { OnOk result (text.new.items ≡ text.old.items ++ stop_line last side) }
 {
-    let front = match side {
-        None => return Ok(()),
-        Some(Side::A) => "too-large A cycle ",
-        Some(Side::B) => "too-large B cycle ",
-    };
-    put_count(alloc, text, front.as_bytes(), u64::from(last) + 1)?;
-    put(text, b"\n")
+    match side {
+        None => Ok(()),
+        Some(Side::A) => put_count_line(alloc, text, b"too-large A cycle ", u64::from(last) + 1),
+        Some(Side::B) => put_count_line(alloc, text, b"too-large B cycle ", u64::from(last) + 1),
+    }
 }
 
 /// Puts the cycle of a difference and the values of both sides.
+#[tactic(auto, unfolding(crate::specs::search_report::Report::values_text))]
 fn put_values(alloc: Global, text: &mut Vec<u8>, witness: &Witness) -> Result<(), NoMemory>
     ensures { OnOk result (text.new.items ≡ text.old.items ++ values_text witness.now) }
 {
@@ -120,12 +132,20 @@ fn put_power(text: &mut Vec<u8>, front: &[u8], power: &[bool]) -> Result<(), NoM
 
 /// Puts a sequence from the initial values that shows a difference, and then the power-ups of both circuits.
 fn put_witness(alloc: Global, text: &mut Vec<u8>, shown: &ResetWitness) -> Result<(), NoMemory>
-    ensures { OnOk result (text.new.items ≡ text.old.items ++ (codes "verdict different " ++ reset_witness_text shown.now)) }
+    ensures { OnOk result (text.new.items ≡ text.old.items ++ different_text shown.now) }
 {
     put_name(text, b"verdict different ", &shown.witness.pair)?;
     put_values(alloc, text, &shown.witness)?;
     let stimulus = write_stimulus(alloc, &shown.witness.stimulus)?;
     put(text, stimulus.as_slice())?;
+    put_powers(text, shown)
+}
+
+/// Puts the power-ups of both circuits.
+#[tactic(auto, unfolding(crate::specs::search_report::Report::powers_text))]
+fn put_powers(text: &mut Vec<u8>, shown: &ResetWitness) -> Result<(), NoMemory>
+    ensures { OnOk result (text.new.items ≡ text.old.items ++ powers_text shown.now) }
+{
     put_power(text, b"power A ", shown.left_power.as_slice())?;
     put_power(text, b"power B ", shown.right_power.as_slice())
 }
@@ -142,15 +162,38 @@ pub(crate) fn put_verdict(
     match &searched.verdict {
         SearchVerdict::Equal => put(text, b"verdict equal\n"),
         SearchVerdict::Different(witness) => put_witness(alloc, text, witness),
-        SearchVerdict::NoDifference(side) => {
-            put_stop(alloc, text, searched.last, *side)?;
-            put_count(alloc, text, b"verdict not-shown cycles ", u64::from(searched.last))?;
-            put(text, b"\n")
-        }
-        SearchVerdict::Limit(name) => {
-            put_name(text, b"verdict limit ", name)?;
-            put_count(alloc, text, b" conflicts ", u64::from(conflicts))?;
-            put(text, b"\n")
-        }
+        SearchVerdict::NoDifference(side) => put_agreed(alloc, text, searched.last, *side),
+        SearchVerdict::Limit(name) => put_limit(alloc, text, name, conflicts),
     }
+}
+
+/// Puts the verdict that no pair differs in the cycles up to the last.
+fn put_agreed(
+    alloc: Global,
+    text: &mut Vec<u8>,
+    last: u32,
+    side: Option<Side>,
+) -> Result<(), NoMemory>
+    ensures { OnOk result (text.new.items ≡ text.old.items ++ (stop_line last side ++ (codes "verdict not-shown cycles " ++ decimal last ++ 10 ∷ []))) }
+{
+    put_stop(alloc, text, last, side)?;
+    put_count_line(
+        alloc,
+        text,
+        b"verdict not-shown cycles ",
+        u64::from(last),
+    )
+}
+
+/// Puts the verdict that the query of this pair wasn't decided.
+fn put_limit(
+    alloc: Global,
+    text: &mut Vec<u8>,
+    name: &PairName,
+    conflicts: u32,
+) -> Result<(), NoMemory>
+    ensures { OnOk result (text.new.items ≡ text.old.items ++ (codes "verdict limit " ++ pair_text name.now ++ (codes " conflicts " ++ decimal conflicts ++ 10 ∷ []))) }
+{
+    put_name(text, b"verdict limit ", name)?;
+    put_count_line(alloc, text, b" conflicts ", u64::from(conflicts))
 }

@@ -1,13 +1,13 @@
 //! The whole report.
 
 ghost use Rattle.std.specs.Prelude.{◌≡◌, ◌++◌, length, codes, IfOk, OnOk};
-ghost use Rattle.cycle_search.specs.search_report.Report.{counts_text, search_text};
+ghost use Rattle.cycle_search.specs.search_report.Report.{counts_text, cycles_text, search_text};
 
 use crate::found::Searched;
-use crate::search_report::text::{put_count, put_pairs, put_verdict};
+use crate::search_report::text::{put_pairs, put_verdict};
 use base_tables::NameTable;
 use flat_net::Net;
-use sec_base::{NoMemory, Seq, Text, put};
+use sec_base::{NoMemory, Seq, Text, put, put_number};
 use sec_setup::ports::inputs_beside;
 use std::alloc::Global;
 
@@ -27,26 +27,37 @@ pub fn report(
 {
     let inputs = inputs_beside(alloc, a, b)?;
     let mut text = Vec::new(alloc);
-    put_counts(alloc, &mut text, &inputs, a, b, cycles)?;
+    put_counts(alloc, &mut text, &inputs, a, b)?;
+    put_cycles(alloc, &mut text, cycles)?;
     put_pairs(alloc, &mut text, searched.pairs.as_slice())?;
     put_verdict(alloc, &mut text, conflicts, searched)?;
     Ok(Seq::from_vec(text))
 }
 
-/// Puts how many inputs are shared and how many latches A and B have, and how both are compared.
+/// Puts how many inputs are shared and how many latches A and B have.
 fn put_counts(
     alloc: Global,
     text: &mut Vec<u8>,
     inputs: &NameTable,
     a: &Net,
     b: &Net,
-    cycles: u32,
 ) -> Result<(), NoMemory>
-    ensures { OnOk result (text.new.items ≡ text.old.items ++ counts_text (length inputs.now) (length a.now.latches) (length b.now.latches) cycles) }
+    ensures { OnOk result (text.new.items ≡ text.old.items ++ counts_text (length inputs.now) (length a.now.latches) (length b.now.latches)) }
 {
-    put_count(alloc, text, b"inputs ", u64::from(inputs.len()))?;
-    put_count(alloc, text, b"\nlatches ", a.latches().len() as u64)?;
-    put_count(alloc, text, b" ", b.latches().len() as u64)?;
-    put_count(alloc, text, b"\nreset\ncycles ", u64::from(cycles))?;
+    put(text, b"inputs ")?;
+    put_number(alloc, text, u64::from(inputs.len()))?;
+    put(text, b"\nlatches ")?;
+    put_number(alloc, text, a.latches().len() as u64)?;
+    put(text, b" ")?;
+    put_number(alloc, text, b.latches().len() as u64)?;
+    put(text, b"\n")
+}
+
+/// Puts how both are compared.
+fn put_cycles(alloc: Global, text: &mut Vec<u8>, cycles: u32) -> Result<(), NoMemory>
+    ensures { OnOk result (text.new.items ≡ text.old.items ++ cycles_text cycles) }
+{
+    put(text, b"reset\ncycles ")?;
+    put_number(alloc, text, u64::from(cycles))?;
     put(text, b"\nexposed 0\n")
 }
