@@ -1,10 +1,10 @@
 //! What follows for the words. The functions do nothing: each contract is a law.
 
 ghost use Rattle.command_line.specs.Allowed.{JobsAreAllowed};
-ghost use Rattle.command_line.specs.Known.{TakenWordsAreJob, CheckIsTaken, GraphIsTaken, SimIsTaken, ReplayIsTaken, GenIsTaken, LratIsTaken, CertIsTaken, InductIsTaken, ResetIsTaken, AssumedIsTaken, AssumedIsRefused, OtherModeIsNoJob, OtherFormIsNoJob, ResetIsNoJob};
+ghost use Rattle.command_line.specs.Known.{TakenWordsAreJob, CheckIsTaken, GraphIsTaken, SimIsTaken, ReplayIsTaken, GenIsTaken, LratIsTaken, CertIsTaken, InductIsTaken, ResetIsTaken, CyclesAreTaken, AssumedIsTaken, AssumedIsRefused, OtherModeIsNoJob, OtherFormIsNoJob, ResetIsNoJob, CyclesAreNoJob};
 
 /// Words that `clap`'s definition for the command takes are a job wherever their mode is `plain` or `event` and `--reset` stands
-/// neither with `event` nor with `--expose`, or they name the subcommand `gen`, `lrat` or `induct`, which have no mode, or `cert` with
+/// neither with `event` nor with `--expose`, and `--cycles` only with `--reset` and without `--assume`, or they name the subcommand `gen`, `lrat` or `induct`, which have no mode, or `cert` with
 /// the form `cnf` or `lrat`. So `job` never refuses such words.
 pub fn taken_words_are_job()
     ensures { TakenWordsAreJob }
@@ -15,7 +15,7 @@ pub fn jobs_are_allowed()
     ensures { JobsAreAllowed }
 {}
 
-/// Words of each subcommand that meet the premises of `taken_words_are_job`, some with `--reset` or `--assume`.
+/// Words of each subcommand that meet the premises of `taken_words_are_job`, some with `--reset`, `--cycles` or `--assume`.
 pub fn words_are_taken()
     ensures of_check { CheckIsTaken }
     ensures of_graph { GraphIsTaken }
@@ -26,6 +26,7 @@ pub fn words_are_taken()
     ensures of_cert { CertIsTaken }
     ensures of_induct { InductIsTaken }
     ensures of_reset { ResetIsTaken }
+    ensures of_cycles { CyclesAreTaken }
     ensures of_assumed { AssumedIsTaken }
 {}
 
@@ -34,9 +35,11 @@ pub fn refused_words_are_no_job()
     ensures { AssumedIsRefused }
 {}
 
-/// Words that are taken and are no job: they have another mode or another form, or `--reset` beside what refuses it.
+/// Words that are taken and are no job: they have another mode or another form, or `--reset` or `--cycles` beside what refuses
+/// it.
 pub fn taken_words_are_no_job()
     ensures of_mode { OtherModeIsNoJob }
     ensures of_form { OtherFormIsNoJob }
     ensures of_clash { ResetIsNoJob }
+    ensures of_cycles { CyclesAreNoJob }
 {}

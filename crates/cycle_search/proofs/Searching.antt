@@ -84,13 +84,10 @@ module _ (s : Setup) (b : Bases) where
     within = omega (arith, le, last_is);
     before = subst Before (sym last_is) before;
     pairs_fit = subst (λ (k : ℕ). AllZip (ResultIn (numbered s b) conflicts k) (map places_of s.pairs) r.pairs) (sym last_is) (subst (AllZip (ResultIn (numbered s b) conflicts last) (map places_of s.pairs)) (sym pairs_are) is.pairs_fit);
-    verdict_is = subst (λ (k : ℕ). Fits k r.pairs r.verdict) (sym last_is) (subst (λ (rs : List PairResult). Fits last rs r.verdict) (sym pairs_are) (go found.verdict refl is.verdict_is verdict));
+    verdict_is = subst (λ (k : ℕ). VerdictFits (numbered s b) s.left.now s.right.now cycles k (map places_of s.pairs) r.pairs r.verdict) (sym last_is) (subst (λ (rs : List PairResult). VerdictFits (numbered s b) s.left.now s.right.now cycles last (map places_of s.pairs) rs r.verdict) (sym pairs_are) (go found.verdict refl is.verdict_is verdict));
   }
     where
-      abbrev Fits : ℕ → List PairResult → SearchVerdict → Type 0
-      Fits k rs v = VerdictFits (numbered s b) s.left.now s.right.now cycles k (map places_of s.pairs) rs v
-
-      go : (v : ResetVerdict) → found.verdict ≡ v → VerdictIn (numbered s b) last (map places_of s.pairs) found.pairs v → IsVerdictOf s last stopped v r.verdict → Fits last found.pairs r.verdict
+      go : (v : ResetVerdict) → found.verdict ≡ v → VerdictIn (numbered s b) last (map places_of s.pairs) found.pairs v → IsVerdictOf s last stopped v r.verdict → VerdictFits (numbered s b) s.left.now s.right.now cycles last (map places_of s.pairs) found.pairs r.verdict
       go found_verdict.Equal e all (inl h) = subst (VerdictFits (numbered s b) s.left.now s.right.now cycles last (map places_of s.pairs) found.pairs) (sym h.0) (all, deep_all last h.1)
       go found_verdict.Equal e all (inr h) = subst (VerdictFits (numbered s b) s.left.now s.right.now cycles last (map places_of s.pairs) found.pairs) (sym h.0) (all, (λ k. h.1 (all_deep last k)), ends e h.1)
       go (found_verdict.Different w) e d is = subst (VerdictFits (numbered s b) s.left.now s.right.now cycles last (map places_of s.pairs) found.pairs) (sym is) d
