@@ -35,6 +35,8 @@ pub fn search_cycles(
     requires conflicts { conflicts ≤ MAX_CONFLICTS }
     ensures { Searches a.now b.now cycles conflicts result }
 {
+    a.keeps();
+    b.keeps();
     let shared = match shared_names(alloc, a, b) {
         Ok(shared) => shared,
         Err(error) => return Err(mismatch_of(error)),

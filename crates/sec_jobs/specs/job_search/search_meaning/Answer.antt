@@ -1,5 +1,5 @@
 -- What the status says of two texts whose circuits are searched for a difference, and when they can be compared so.
-use Rattle.std.specs.Prelude.{◌≡◌, ℕ, List, [], Option, Some, Contains, IsSomeAnd, None}
+use Rattle.std.specs.Prelude.{◌≡◌, ℕ, List, [], Option, Contains, IsSomeAnd, None}
 use Rattle.circuit_theory.specs.Circuit.{Circuit}
 use Rattle.circuit_theory.specs.Interface.{first_mismatch}
 use Rattle.circuit_theory.specs.declared.Side.{Side}
@@ -14,14 +14,12 @@ use Rattle.outcome_fits.specs.ResetLimits.{IsUndecidedAt}
 use Rattle.outcome_fits.specs.ResetOutcome.{Numbered, AgreeBefore}
 use Rattle.sec_setup.specs.ports.Pairs.{NamedPair, named_pairs}
 use Rattle.plain_check.specs.under_base.compare_base.Says.{MakesResetsDiffer}
-use Rattle.reset_form.specs.reset_functions.Pairs.{IsLight}
 use Rattle.job_base.specs.declared.status.StatusName.{StatusName}
 use Rattle.job_base.specs.declared.status.StatusName.TheVariants as status
-use Rattle.job_base.specs.sec_files.Loading.{Loads, SpellsCircuit}
-use Rattle.job_base.specs.sec_files.job_files.Ends.{IsAccepted}
+use Rattle.job_base.specs.sec_files.Loading.{IsAccepted, Loads, SpellsCircuit}
 use Rattle.cycle_search.specs.declared.found.Searched.{Searched}
 use Rattle.cycle_search.specs.declared.found.SearchVerdict.TheVariants as verdict
-use Rattle.cycle_search.specs.Outputs.{IsOutputUpTo}
+use Rattle.cycle_search.specs.Outputs.{IsOneTooLarge}
 use Rattle.cycle_search.specs.search_report.Report.{search_text}
 use Rattle.cycle_search.specs.Searches.{IsNumbering, AreSearched}
 use Rattle.sec_jobs.specs.job_induct.induct_meaning.Answer.{OfTexts}
@@ -95,8 +93,7 @@ pub record CanBeSearched (x y : List ℕ) : Type 0 where
   pub left : IsAccepted x
   pub right : IsAccepted y
   pub match : (a b : NetView) → Loads x a → Loads y b → first_mismatch (ports_of a) (ports_of b) ≡ None
-  pub left_light : (a : NetView) → Loads x a → IsLight a (IsOutputUpTo a 0)
-  pub right_light : (b : NetView) → Loads y b → IsLight b (IsOutputUpTo b 0)
+  pub light : (a b : NetView) → Loads x a → Loads y b → (side : Side) → IsOneTooLarge a b 0 side → ⊥
 
 -- both texts are told and can be searched
 abbrev pub CanSearch : Option (List ℕ) → Option (List ℕ) → Type 0
