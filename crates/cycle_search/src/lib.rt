@@ -7,8 +7,8 @@ mod cycle;
 mod depths;
 mod found;
 mod outputs;
-pub mod search_report;
 mod search;
+pub mod search_report;
 mod setting;
 mod shown;
 

@@ -106,12 +106,7 @@ fn ends(setup: &Setup<'_>, found: &InCycle, last: u32) -> bool
 }
 
 /// What is found where this is found in the last cycle.
-fn searched_of(
-    setup: &Setup<'_>,
-    found: InCycle,
-    last: u32,
-    stopped: Option<Side>,
-) -> Searched
+fn searched_of(setup: &Setup<'_>, found: InCycle, last: u32, stopped: Option<Side>) -> Searched
     requires { IsSetting setup.now }
     ensures pairs { result.pairs ≡ found.pairs }
     ensures last { result.last ≡ last }

@@ -14,12 +14,7 @@ use std::alloc::Global;
 use witness_report::write_stimulus;
 
 /// Puts the number behind what stands before it.
-fn put_count(
-    alloc: Global,
-    text: &mut Vec<u8>,
-    front: &[u8],
-    number: u64,
-) -> Result<(), NoMemory>
+fn put_count(alloc: Global, text: &mut Vec<u8>, front: &[u8], number: u64) -> Result<(), NoMemory>
     ensures { OnOk result (text.new.items ≡ text.old.items ++ (front.now ++ decimal number)) }
 {
     put(text, front)?;
@@ -177,12 +172,7 @@ fn put_agreed(
     ensures { OnOk result (text.new.items ≡ text.old.items ++ (stop_line last side ++ (codes "verdict not-shown cycles " ++ decimal last ++ 10 ∷ []))) }
 {
     put_stop(alloc, text, last, side)?;
-    put_count_line(
-        alloc,
-        text,
-        b"verdict not-shown cycles ",
-        u64::from(last),
-    )
+    put_count_line(alloc, text, b"verdict not-shown cycles ", u64::from(last))
 }
 
 /// Puts the verdict that the query of this pair wasn't decided.

@@ -42,7 +42,7 @@ returns-then-not-reaches_depth c =
       λ e. absurd (let q : false ≡ true = e in cc),
       λ deep.
           absurd (elim c.then-not-reaches_depth.branch [
-            then-not-reaches_depth-via-then-not-reaches_depth w ↦ clash c.reaches_depth.result (c.reaches_depth.ensures.1 (deep x member).0) w.if-not-reaches_depth.true
+            | then-not-reaches_depth-via-then-not-reaches_depth w ↦ clash c.reaches_depth.result (c.reaches_depth.ensures.1 (deep x member).0) w.if-not-reaches_depth.true
             | then-not-reaches_depth-via-else-not-reaches_depth+then-not-reaches_depth-2 w ↦ clash w.reaches_depth-else-not-reaches_depth.result (w.reaches_depth-else-not-reaches_depth.ensures.1 (deep x member).1) w.if-not-reaches_depth-2.true
           ]),
     )

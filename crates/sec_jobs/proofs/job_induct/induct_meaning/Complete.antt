@@ -1,13 +1,12 @@
 -- Where two circuits can be compared by blocks, they are.
 use Rattle.std.specs.Prelude.{IfSome, IsSomeAnd}
-use Rattle.std.proofs.Common.{◌≡◌, ℕ, List, sym, ◌∙◌, arith, Option, Some}
+use Rattle.std.proofs.Common.{◌≡◌, ℕ, List, sym, subst, ◌∙◌, arith, Option, Some}
 use Rattle.std.proofs.lemmas.Option.{none-some}
 use Rattle.circuit_theory.specs.declared.Side.TheVariants.{A, B}
 use Rattle.job_base.specs.sec_files.Loading.{Loads, IsTooLong, HasFault, HasDesignFault, HasRecordFault}
 use Rattle.job_base.specs.declared.finding.File.TheVariants as file
 use Rattle.job_base.specs.declared.finding.LineFault.TheVariants as line_fault
 use Rattle.job_base.specs.declared.finding.Judgement.{Judgement}
-use Rattle.job_base.specs.declared.finding.Judgement.TheVariants as judgement
 use Rattle.job_base.specs.declared.finding.Refusal.{Refusal}
 use Rattle.job_base.specs.declared.finding.Refusal.TheVariants as refusal
 use Rattle.job_base.specs.declared.finding.Finding.{Finding}
@@ -15,6 +14,9 @@ use Rattle.job_base.specs.declared.finding.Finding.TheVariants as finding
 use Rattle.job_base.specs.Written.{status_of, judgement_status}
 use Rattle.job_base.proofs.sec_files.job_files.Accepted.{is_short, has_no_fault, is_sound, has_good_records}
 use Rattle.job_base.proofs.sec_files.job_files.Reading.{some_and, if_told}
+use Rattle.induct.specs.declared.induction.InductVerdict.{InductVerdict}
+use Rattle.induct.specs.declared.induction.InductVerdict.TheVariants as verdict
+use Rattle.sec_jobs.specs.job_induct.induct_meaning.Judged.{judgement_of}
 use Rattle.sec_jobs.specs.job_induct.induct_meaning.Found.{IsInductRefusal, IsInductFound}
 use Rattle.sec_jobs.specs.job_induct.induct_meaning.Answer.{CanBeJudged, IsInductAnswer, IsInductComplete}
 
@@ -59,10 +61,11 @@ module _ (left right : Option (List ℕ)) (x y : List ℕ) (is : left ≡ Some x
   stands refusal.Vacuous h = h
   stands (refusal.Pair name) h = h
 
-  judged : (j : Judgement) → IsInductAnswer (judgement_status j)
-  judged judgement.Equal = tt
-  judged judgement.NotShown = tt
-  judged judgement.Limit = tt
+  judged : (v : InductVerdict) → IsInductAnswer (judgement_status (judgement_of v))
+  judged verdict.Equal = tt
+  judged (verdict.NotShown pair l r vars bits) = tt
+  judged (verdict.Limit pair) = tt
+  judged (verdict.SplitLimit l r proof) = tt
 
   answered : (conflicts : ℕ) (f : Finding) → IsInductFound conflicts left right f → IsInductAnswer (status_of f)
   answered conflicts finding.Words h = absurd h
@@ -75,7 +78,7 @@ module _ (left right : Option (List ℕ)) (x y : List ℕ) (is : left ≡ Some x
   answered conflicts (finding.Replayed differences) h = absurd h
   answered conflicts (finding.Undecided side name proof) h = absurd h
   answered conflicts (finding.Unrefuted u) h = absurd h
-  answered conflicts (finding.Judged j proofs text) h = judged j
+  answered conflicts (finding.Judged j proofs text) h = subst (λ (k : Judgement). IsInductAnswer (judgement_status k)) (sym h.said.judgement_is) (judged h.said.made.verdict)
 
 -- what is found has the status of a verdict
 pub induct_complete : (conflicts : ℕ) (left right : Option (List ℕ)) (f : Finding) → IsInductFound conflicts left right f → IsInductComplete left right (status_of f)

@@ -136,14 +136,16 @@ module _ (conflicts : ℕ) (before now : Option (List ℕ)) (a b : NetView) (j :
       }
 
 -- a verdict is none of the other statuses
-not_different : (j : Judgement) → judgement_status j ≡ status.Different → ⊥
-not_different judgement.Equal q = cc
-not_different judgement.NotShown q = cc
-not_different judgement.Limit q = cc
+not_different : (v : InductVerdict) → judgement_status (judgement_of v) ≡ status.Different → ⊥
+not_different verdict.Equal q = cc
+not_different (verdict.NotShown pair left right vars bits) q = cc
+not_different (verdict.Limit pair) q = cc
+not_different (verdict.SplitLimit left right proof) q = cc
 
 not_done : (j : Judgement) → judgement_status j ≡ status.Done → ⊥
 not_done judgement.Equal q = cc
 not_done judgement.NotShown q = cc
+not_done judgement.Different q = cc
 not_done judgement.Limit q = cc
 
 module _ (conflicts : ℕ) (left right before now : Option (List ℕ)) where
@@ -152,7 +154,7 @@ module _ (conflicts : ℕ) (left right before now : Option (List ℕ)) where
       IsWrittenAs before now (finding.Judged j kept text) proofs name → InductMeans conflicts left right before now proofs name
   judged_means j kept text h proofs status.Equal w =
       of_texts left right h.a h.b (λ x y. BlocksAgree x y conflicts before now) h.left_loads h.right_loads (λ x y l r. agree conflicts before now h.a h.b j kept text h.said w.2 x y l r w.1)
-  judged_means j kept text h proofs status.Different w = not_different j w.1
+  judged_means j kept text h proofs status.Different w = not_different h.said.made.verdict (ap judgement_status (sym h.said.judgement_is) ∙ w.1)
   judged_means j kept text h proofs status.NotShown w =
       of_texts left right h.a h.b (λ x y. BlocksNotShown x y conflicts before now) h.left_loads h.right_loads (λ x y l r. not_shown conflicts before now h.a h.b j kept text h.said w.2 x y l r w.1)
   judged_means j kept text h proofs status.Limit w =
