@@ -1,5 +1,5 @@
 -- Words that `clap` takes, with a mode that fits, are a job.
-use Rattle.std.proofs.Common.{◌≡◌, ◌&&◌, ◌||◌, not, Bool, cond, true, false, List, [], ◌∷◌, length, Option, Some, None, is_some, refl, sym, ap, subst, ◌∙◌, arith, true≢false, codes}
+use Rattle.std.proofs.Common.{◌≡◌, ℕ, ◌&&◌, ◌||◌, not, Bool, cond, true, false, List, [], ◌∷◌, length, Option, Some, None, is_some, refl, sym, ap, subst, ◌∙◌, arith, true≢false, codes}
 use Rattle.std.specs.Prelude.{⊤, ◌==◌, find, option_map, option_and_then, IfSome}
 use Rattle.std.specs.List.{list_any}
 use Rattle.std.specs.Option.{option_map_or}
@@ -47,6 +47,9 @@ checked_job a b s assumed None fits = refl
 checked_job a b s (Some c) (Some w) fits = absurd (true≢false (fits w refl).2)
 checked_job a b s None (Some w) fits = let f = fits w refl in let n = number_known most_cycles w f.0 in rw (f.1, n) refl
 
+abbrev settings_of : List Row → ℕ → Mode → Settings
+settings_of rows n m = record { mode = m; expose = is_set (codes "expose") rows; conflicts = n; reset = is_set (codes "reset") rows }
+
 -- what stands of each subcommand makes its task
 check_job : (rows : List Row) (a b n : Text) → first_of (codes "a") rows ≡ Some a → first_of (codes "b") rows ≡ Some b → first_of (codes "conflicts") rows ≡ Some n → value_kinds false most_conflicts n ≡ [] →
     ((w : Text) → first_of (codes "cycles") rows ≡ Some w → value_kinds false most_cycles w ≡ []) → (is_some (mode_in rows) && cycles_fit rows) ≡ true → is_some (check_in rows) ≡ true
@@ -58,11 +61,7 @@ check_job rows a b n ea eb en passes few known = by (mode_in rows) refl both.0
     conflicts : conflicts_in rows ≡ Some (digits_value 10 (without_leading_plus n))
     conflicts = ap (option_and_then (number_of most_conflicts)) en ∙ number_known most_conflicts n passes
 
-    settings : Mode → Settings
-    settings m = record { mode = m; expose = is_set (codes "expose") rows; conflicts = digits_value 10 (without_leading_plus n); reset = is_set (codes "reset") rows }
-
-    fits : (m : Mode) (w : Text) → first_of (codes "cycles") rows ≡ Some w → (value_kinds false most_cycles w ≡ []) × ((settings m).reset ≡ true) × (is_some (first_of (codes "assume") rows) ≡ false)
-    unfolding settings
+    fits : (m : Mode) (w : Text) → first_of (codes "cycles") rows ≡ Some w → (value_kinds false most_cycles w ≡ []) × (is_set (codes "reset") rows ≡ true) × (is_some (first_of (codes "assume") rows) ≡ false)
     fits m w e = (few w e, at.0, not_holds (is_some (first_of (codes "assume") rows)) at.1)
       where
         at : (is_set (codes "reset") rows ≡ true) × (not (is_some (first_of (codes "assume") rows)) ≡ true)
@@ -73,9 +72,8 @@ check_job rows a b n ea eb en passes few known = by (mode_in rows) refl both.0
             given (Some x) k h = h
 
     by : (m : Option Mode) → mode_in rows ≡ m → is_some m ≡ true → is_some (check_in rows) ≡ true
-    unfolding settings
     by None e h = absurd (true≢false (sym h))
-    by (Some m) e h = rw (ea, eb, e, conflicts) (checked_job a b (settings m) (first_of (codes "assume") rows) (first_of (codes "cycles") rows) (fits m))
+    by (Some m) e h = rw (ea, eb, e, conflicts) (checked_job a b (settings_of rows (digits_value 10 (without_leading_plus n)) m) (first_of (codes "assume") rows) (first_of (codes "cycles") rows) (fits m))
 
 graph_job : (rows : List Row) (a : Text) → first_of (codes "a") rows ≡ Some a → is_some (mode_in rows) ≡ true → is_some (graph_in rows) ≡ true
 graph_job rows a ea mode = by (mode_in rows) refl mode

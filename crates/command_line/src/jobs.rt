@@ -6,8 +6,7 @@ ghost use Rattle.clap.specs.Words.{fault_of, first_of, found_of, rows_of, subcom
 ghost use Rattle.clap.specs.ValueTests.{accepts};
 ghost use Rattle.clap.specs.declared.builder.value_parser.ValueParser.TheVariants as parser;
 ghost use Rattle.command_line.specs.command_words.Command.{sec_app};
-ghost use Rattle.command_line.specs.Jobs.{job_of, task_in, check_in, graph_in, sim_in, replay_in, gen_in, lrat_in, cert_in, induct_in, form_in, mode_of, mode_in, refuses_reset, is_set, number_of, conflicts_in, settings_in, search_in};
-ghost use Rattle.command_line.specs.declared.task.Task.TheVariants as task;
+ghost use Rattle.command_line.specs.Jobs.{job_of, task_in, check_in, graph_in, sim_in, replay_in, gen_in, lrat_in, cert_in, induct_in, form_in, mode_of, mode_in, refuses_reset, is_set, number_of, conflicts_in, settings_in, checked_in, search_in};
 
 use crate::command_words::sec_command;
 use crate::task::Task;
@@ -178,6 +177,7 @@ fn check_in(alloc: Global, matches: &ArgMatches<'_>) -> Result<Option<Task>, NoM
     }
 }
 
+/// The check of two circuits.
 fn checked_in(
     alloc: Global,
     a: &str,
@@ -185,7 +185,7 @@ fn checked_in(
     settings: Settings,
     assumed: Option<&str>,
 ) -> Result<Option<Task>, NoMemory>
-    ensures { IfOk result (λ task. task ≡ Some (task.Check a.now b.now settings (option_map (λ w. w.now) assumed.entry))) }
+    ensures { IfOk result (λ task. task ≡ checked_in a.now b.now settings (option_map (λ w. w.now) assumed.entry) None) }
 {
     let assumed = path_of(alloc, assumed)?;
     let (a, b) = paths_of(alloc, a, b)?;
