@@ -1,6 +1,6 @@
 -- The functions of the pairs' signals in a cycle while the graph and the table grow, and what is unfolded besides what was before.
-use Rattle.std.proofs.Common.{◌≡◌, ◌∙◌, ◌+◌, ◌<◌, ℕ, List, [], ◌∷◌, ◌++◌, length, take, slice_get, Some, refl, sym, ap, subst, arith, inl, inr}
-use Rattle.std.specs.Prelude.{◌⊎◌, ◌↔◌}
+use Rattle.std.proofs.Common.{◌≡◌, ◌∙◌, ◌+◌, ℕ, List, [], ◌∷◌, ◌++◌, take, slice_get, Some, sym, ap, subst, arith, inl, inr}
+use Rattle.std.specs.Prelude.{◌⊎◌}
 use Rattle.std.specs.List.{AllZip, Contains}
 use Rattle.std.proofs.lemmas.List.Elements.{Contains-append_left, Contains-push, Contains-push_cases}
 use Rattle.circuit_theory.specs.declared.Side.{Side}
@@ -17,7 +17,7 @@ use Rattle.sec_setup.specs.declared.ports.pairs.SignalPair.{SignalPair}
 use Rattle.reset_form.specs.reset_unfold.Places.{starts_of}
 use Rattle.reset_form.specs.reset_functions.Pairs.{IsTooLarge}
 use Rattle.reset_form.proofs.reset_unfold.Known.{unfolded_later}
-use Rattle.cycle_search.specs.Outputs.{side_of, IsFunctionIn, IsSideOf, IsDoneOrIn, HasDoneIn}
+use Rattle.cycle_search.specs.Outputs.{side_of, IsFunctionIn, IsDoneOrIn, HasDoneIn}
 
 -- functions stay those of their signals
 pub functions_later : (n : NetView) (order : List ℕ) (base : ℕ) (g h : List Node) (places more : List (ℕ × ℕ)) → Grows g h → Adds (λ p. Unit {0}) places more → (side : Side) (cycle : ℕ) (pairs : List SignalPair) (us : List Unfolded) →

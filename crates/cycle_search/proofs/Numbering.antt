@@ -1,7 +1,7 @@
 -- What is found by what two nets are compared by is found of the nets.
-use Rattle.std.proofs.Common.{◌≡◌, ◌∙◌, ℕ, ◌<◌, List, [], map, length, Result, Ok, Err, None, sym, ap, subst, arith}
+use Rattle.std.proofs.Common.{◌≡◌, ℕ, ◌<◌, List, map, length, Result, Ok, Err, sym, ap, subst, arith}
 use Rattle.std.specs.Prelude.{IsErrAnd}
-use Rattle.std.specs.List.{All, Contains}
+use Rattle.std.specs.List.{All}
 use Rattle.std.proofs.lemmas.List.Elements.{All-contains}
 use Rattle.circuit_theory.specs.Circuit.{Circuit}
 use Rattle.circuit_theory.specs.Cone.{latches_of}
@@ -13,12 +13,11 @@ use Rattle.circuit_laws.specs.reset_laws.Reset.{AreBased}
 use Rattle.circuit_laws.proofs.reset_laws.reset_nets.Starts.{nets_have_starts}
 use Rattle.flat_net.specs.Sound.{IsSound}
 use Rattle.flat_net.specs.View.{NetView, circuit_of, ports_of}
-use Rattle.outcome_fits.specs.ResetOutcome.{Numbered}
 use Rattle.sec_setup.specs.declared.error.SetupError.{SetupError}
 use Rattle.sec_setup.specs.declared.error.SetupError.TheVariants as unset
 use Rattle.sec_setup.specs.declared.setup.Setup.{Setup}
 use Rattle.sec_setup.specs.Matching.{InterfacesMatch, InterfaceFails}
-use Rattle.sec_setup.specs.ports.Pairs.{NamedPair, named_pairs, places_of}
+use Rattle.sec_setup.specs.ports.Pairs.{NamedPair, places_of}
 use Rattle.reset_form.specs.declared.reset_functions.bases.Bases.{Bases}
 use Rattle.reset_form.specs.declared.reset_functions.error.ResetError.{ResetError}
 use Rattle.reset_form.specs.declared.reset_functions.error.ResetError.TheVariants as reset

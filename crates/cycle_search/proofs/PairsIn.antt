@@ -1,21 +1,21 @@
 -- What is found of the queries of a cycle is what is said of the pairs there.
-use Rattle.std.proofs.Common.{◌≡◌, ◌≢◌, ℕ, zero, suc, ◌+◌, ◌<◌, ◌≤◌, true, false, Bool, List, [], ◌∷◌, map, length, get_or, slice_get, Option, Some, None, refl, sym, ◌∙◌, ap, subst, arith, inl, inr}
+use Rattle.std.proofs.Common.{◌≡◌, ◌≢◌, ℕ, zero, suc, ◌<◌, ◌≤◌, true, false, Bool, List, [], ◌∷◌, map, length, get_or, slice_get, Option, Some, None, refl, sym, ◌∙◌, ap, subst, arith, inl, inr}
 use Rattle.std.specs.Prelude.{◌⊎◌}
 use Rattle.std.specs.List.{All, AllZip, Contains}
 use Rattle.std.proofs.lemmas.List.Elements.{All-map}
 use Rattle.std.proofs.lemmas.Option.{slice_get_within, same_Some, get_or_from_slice_get}
 use Rattle.circuit_theory.specs.declared.Side.TheVariants.{A, B}
-use Rattle.circuit_theory.specs.Tree.{Tree, tree_value}
+use Rattle.circuit_theory.specs.Tree.{tree_value}
 use Rattle.circuit_theory.specs.Query.{Variable, bits_of, pair_query, same_shift}
 use Rattle.circuit_theory.specs.Query as query
-use Rattle.circuit_theory.proofs.Lists.{All-from_each, Contains-map, Contains-map_from, at_of, of_at, length-map, zip_length, zip_right}
+use Rattle.circuit_theory.proofs.Lists.{All-from_each, Contains-map, at_of, of_at, length-map, zip_length, zip_right}
 use Rattle.circuit_theory.proofs.Numbers.{slice_get-map}
-use Rattle.flat_net.specs.View.{NetView, circuit_of}
+use Rattle.flat_net.specs.View.{circuit_of}
 use Rattle.flat_net.proofs.Nets.{some_at}
 use Rattle.flat_net.proofs.Places.{All-at}
 use Rattle.sec_base.specs.declared.basics.PairAnswer.{PairAnswer}
 use Rattle.sec_base.specs.declared.basics.PairAnswer.TheVariants as answer
-use Rattle.circuit_laws.specs.reset_laws.Reset.{HaveEqualResets, IsResetWitness}
+use Rattle.circuit_laws.specs.reset_laws.Reset.{IsResetWitness}
 use Rattle.aig.specs.Values.{value}
 use Rattle.cbf_unfold.specs.declared.unfold_places.signal_function.Unfolded.{Unfolded}
 use Rattle.cbf_unfold.specs.shift_variables.Variables.{variable_of, variables_of}
@@ -36,7 +36,7 @@ use Rattle.witness_report.specs.declared.witness.PairName.{PairName}
 use Rattle.sec_setup.specs.declared.ports.pairs.SignalPair.{SignalPair}
 use Rattle.sec_setup.specs.declared.setup.Setup.{Setup}
 use Rattle.sec_setup.specs.ports.Pairs.{outputs_of, places_of}
-use Rattle.outcome_fits.specs.ResetOutcome.{AgreeAt, DifferAt, IsFirstLimit}
+use Rattle.outcome_fits.specs.ResetOutcome.{AgreeAt}
 use Rattle.reset_form.specs.declared.reset_asked.findings.ResetVerdict.{ResetVerdict}
 use Rattle.reset_form.specs.declared.reset_functions.bases.Bases.{Bases}
 use Rattle.reset_form.specs.declared.reset_functions.functions.Functions.{Functions}

@@ -1,5 +1,5 @@
 -- What is found cycle after cycle is what the search finds.
-use Rattle.std.proofs.Common.{◌≡◌, ◌∙◌, ℕ, ◌+◌, ◌<◌, ◌≤◌, max, List, [], ◌∷◌, map, length, Option, Some, None, Result, Ok, Err, refl, sym, ap, subst, arith, inl, inr}
+use Rattle.std.proofs.Common.{◌≡◌, ℕ, ◌+◌, ◌<◌, ◌≤◌, max, List, map, Option, Some, None, refl, sym, subst, arith, inl, inr}
 use Rattle.std.specs.Prelude.{◌⊎◌}
 use Rattle.std.specs.List.{All, AllZip, Contains}
 use Rattle.std.proofs.lemmas.List.Elements.{All-contains}
@@ -12,7 +12,6 @@ use Rattle.sec_base.specs.declared.basics.PairAnswer.TheVariants as answer
 use Rattle.pair_decide.specs.declared.query.Proof.{Proof}
 use Rattle.obligations.specs.declared.outcome.verdict.PairResult.{PairResult}
 use Rattle.outcome_fits.specs.ResetOutcome.{Numbered, AgreeAt, AgreeBefore}
-use Rattle.sec_setup.specs.declared.ports.pairs.SignalPair.{SignalPair}
 use Rattle.sec_setup.specs.declared.setup.Setup.{Setup}
 use Rattle.sec_setup.specs.ports.Pairs.{NamedPair, places_of}
 use Rattle.reset_form.specs.declared.reset_functions.bases.Bases.{Bases}
@@ -21,7 +20,6 @@ use Rattle.reset_form.specs.declared.reset_asked.findings.ResetVerdict.TheVarian
 use Rattle.reset_form.specs.reset_asked.Numbers.{numbered}
 use Rattle.cycle_search.specs.declared.cycle.InCycle.{InCycle}
 use Rattle.cycle_search.specs.declared.found.Searched.{Searched}
-use Rattle.cycle_search.specs.declared.found.SearchVerdict.{SearchVerdict}
 use Rattle.cycle_search.specs.Cycles.{AnswerIn, ResultIn, VerdictIn, IsFoundIn}
 use Rattle.cycle_search.specs.Depths.{AreDeepUpTo}
 use Rattle.cycle_search.specs.Searches.{HaveDepthsUpTo, EndsAt, VerdictFits, AreFoundUpTo, IsVerdictOf}

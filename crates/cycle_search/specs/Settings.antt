@@ -1,5 +1,5 @@
 -- What two circuits are compared by in cycles, whatever their latches read.
-use Rattle.std.specs.Prelude.{◌≡◌, List, [], map}
+use Rattle.std.specs.Prelude.{◌≡◌, [], map}
 use Rattle.circuit_theory.specs.declared.Mode.TheVariants.{Plain}
 use Rattle.circuit_theory.specs.Interface.{shared_inputs}
 use Rattle.base_tables.specs.Table.{AreDistinct}

@@ -1,10 +1,8 @@
 -- Nothing is unfolded.
-use Rattle.std.proofs.Common.{◌≡◌, ◌∙◌, ℕ, ◌<◌, List, [], ◌∷◌, length, refl, sym, ap, subst, arith}
-use Rattle.std.specs.Prelude.{◌↔◌}
+use Rattle.std.proofs.Common.{◌≡◌, ℕ, List, [], length, ap, subst, arith}
 use Rattle.std.specs.List.{Contains}
 use Rattle.circuit_theory.specs.declared.Side.{Side}
 use Rattle.circuit_theory.specs.declared.Side.TheVariants.{A, B}
-use Rattle.aig.specs.declared.node.Node.{Node}
 use Rattle.sec_setup.specs.declared.ports.pairs.SignalPair.{SignalPair}
 use Rattle.reset_form.proofs.reset_functions.Parts.{is_order}
 use Rattle.cycle_search.specs.Outputs.{HasDoneBefore}

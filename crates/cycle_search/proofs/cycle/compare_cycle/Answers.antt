@@ -1,8 +1,6 @@
 -- A's functions stay while B is unfolded, and a refusal is that of a circuit's outputs in the cycles up to this one.
-use Rattle.std.proofs.Common.{◌≡◌, ◌∙◌, ℕ, ◌+◌, ◌<◌, ◌≤◌, List, length, Ok, Err, refl, sym, ap, subst, arith, rules, inl, inr}
-use Rattle.std.specs.Prelude.{◌⊎◌, ◌↔◌}
-use Rattle.std.specs.List.{All, AllZip, Contains}
-use Rattle.circuit_theory.specs.declared.Side.{Side}
+use Rattle.std.proofs.Common.{◌≡◌, ◌∙◌, ◌<◌, List, length, Err, sym, subst, arith, rules}
+use Rattle.std.specs.List.{All, Contains}
 use Rattle.circuit_theory.specs.declared.Side.TheVariants.{A, B}
 use Rattle.circuit_theory.proofs.Lists.{All-from_each}
 use Rattle.flat_net.specs.View.{NetView}

@@ -1,6 +1,5 @@
 -- The parts fit together.
-use Rattle.std.proofs.Common.{◌≡◌, ◌∙◌, List, ℕ, length, sym, ap, subst}
-use Rattle.std.specs.List.{All}
+use Rattle.std.proofs.Common.{◌∙◌, List, length, sym, ap, subst}
 use Rattle.circuit_theory.proofs.Lists.{All-from_each, at_of, zip_length}
 use Rattle.circuit_theory.specs.declared.Side.TheVariants.{A, B}
 use Rattle.cbf_unfold.specs.declared.unfold_places.signal_function.Unfolded.{Unfolded}
@@ -15,7 +14,7 @@ use Rattle.sec_setup.specs.declared.ports.pairs.SignalPair.{SignalPair}
 use Rattle.reset_form.proofs.reset_asked.CycleQueries.{in_order}
 use Rattle.reset_form.proofs.reset_asked.PairCycles.{AreSoundFunctions}
 use Rattle.cycle_search.specs.Asked.{AreAskedIn}
-use Rattle.cycle_search.specs.Outputs.{side_of, IsFunctionIn}
+use Rattle.cycle_search.specs.Outputs.{IsFunctionIn}
 use Rattle.cycle_search.specs.Shown.{CanBeShownIn, IsShownIn}
 use Rattle.cycle_search.proofs.PairsIn.{queries_are, pairs_fit, can_be_shown, verdict_in}
 use Rattle.cycle_search.proofs.cycle.decide_cycle.Goals as goal

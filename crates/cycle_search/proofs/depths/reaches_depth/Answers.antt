@@ -1,8 +1,7 @@
 -- A signal has one depth, or none.
-use Rattle.std.proofs.Common.{◌≡◌, ℕ, ◌+◌, ◌≤◌, true, false, suc, arith}
+use Rattle.std.proofs.Common.{◌≡◌, true, false, suc, arith}
 use Rattle.std.proofs.lemmas.Bool.{leb-true, le-leb}
 use Rattle.circuit_theory.specs.declared.Mode.TheVariants.{Plain}
-use Rattle.flat_net.specs.View.{circuit_of}
 use Rattle.latch_graph.proofs.Skipping.{mode_depth, mode_no_depth}
 use Rattle.cycle_search.proofs.depths.reaches_depth.Goals as goal
 

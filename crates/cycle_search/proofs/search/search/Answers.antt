@@ -1,5 +1,5 @@
 -- Cycle after cycle, up to the last.
-use Rattle.std.proofs.Common.{◌≡◌, ℕ, ◌+◌, ◌≤◌, map, refl, sym, subst, arith, Err, Some, None}
+use Rattle.std.proofs.Common.{◌≡◌, ℕ, ◌+◌, map, refl, subst, arith, Err, Some, None}
 use Rattle.circuit_theory.specs.declared.Side.{Side}
 use Rattle.sec_setup.specs.ports.Pairs.{places_of}
 use Rattle.reset_form.specs.reset_asked.Numbers.{numbered}

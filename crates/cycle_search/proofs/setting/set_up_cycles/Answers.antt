@@ -1,5 +1,5 @@
 -- The parts of a setting fit together.
-use Rattle.std.proofs.Common.{◌≡◌, ◌∙◌, ℕ, List, length, refl, sym, subst, arith}
+use Rattle.std.proofs.Common.{◌≡◌, ◌∙◌, ℕ, List, refl, sym, subst, arith}
 use Rattle.base_tables.specs.Table.{AreDistinct}
 use Rattle.sec_setup.proofs.ports.Numbering.{few_shared}
 use Rattle.cycle_search.proofs.Uncut.{names_once, left_columns, right_columns, pairs_are_own, pairs_are_named}

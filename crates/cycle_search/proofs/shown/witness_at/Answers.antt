@@ -1,5 +1,5 @@
 -- The obligation and the query are those of the difference.
-use Rattle.std.proofs.Common.{◌≡◌, ◌∙◌, ◌*◌, ◌<◌, ◌≤◌, ℕ, List, length, slice_get, Result, Ok, Err, IfOk, Some, sym, ap, subst}
+use Rattle.std.proofs.Common.{◌≡◌, ◌∙◌, ◌*◌, ◌<◌, ℕ, List, length, slice_get, Result, Ok, Err, IfOk, Some, sym, ap, subst}
 use Rattle.std.proofs.lemmas.Option.{get_or_from_slice_get}
 use Rattle.pair_decide.specs.declared.query.Query.{Query}
 use Rattle.obligations.specs.declared.obligation.Obligation.{Obligation}

@@ -1,5 +1,5 @@
 -- Piece after piece.
-use Rattle.std.proofs.Common.{◌≡◌, ℕ, List, ◌++◌, codes, OnOk, sym, ap, ◌∙◌}
+use Rattle.std.proofs.Common.{◌≡◌, ℕ, List, ◌++◌, codes, ap, ◌∙◌}
 use Rattle.std.proofs.lemmas.List.{append_assoc}
 use Rattle.witness_report.specs.Text.{stimulus_text}
 use Rattle.obligations.specs.outcome.Report.{pair_text}
