@@ -1,5 +1,5 @@
 -- What each job of the words keeps.
-use Rattle.std.specs.Prelude.{◌≡◌, ℕ, ◌≤◌, true, false, List, Some}
+use Rattle.std.specs.Prelude.{◌≡◌, ◌≤◌, true, false, List, Some}
 use Rattle.clap.specs.Words.{Text}
 use Rattle.circuit_theory.specs.declared.Mode.TheVariants.{Plain}
 use Rattle.sec_base.specs.declared.limits.TheConstants.{MAX_CONFLICTS}
