@@ -103,17 +103,19 @@ started() {
   awk '$1 == ".latch" && NF % 2 { print $0, 0; next } $1 == ".latch" && $NF !~ /^[01]$/ { $NF = 0 } { print }' "$1" > "$2" || exit 73
 }
 
-# Asks from the initial values of two files, and sets `way` too. By induct no inputs are assumed, so an answer of equal says more.
+# Asks from the initial values of two files, and sets `way` too. By induct no inputs are assumed, so an answer of equal says more. With
+# --cycles a given number of cycles is asked about, with feedback too.
 from_initial_values() {
-  local words=()
+  local words=() cycles=()
+  mapfile -t cycles < <(valued --cycles)
   report=$scratch/initial.$number status=0
-  if cyclic; then
+  if [ "${#cycles[@]}" -eq 0 ] && cyclic; then
     way=induct
     mapfile -t words < <(valued --conflicts)
     sec_to "$report" induct "$1" "$2" "${words[@]}" || status=$?
   else
     way='check --reset'
     mapfile -t words < <(valued --conflicts --assume)
-    sec_to "$report" check "$1" "$2" "${words[@]}" --reset || status=$?
+    sec_to "$report" check "$1" "$2" "${words[@]}" --reset "${cycles[@]}" || status=$?
   fi
 }

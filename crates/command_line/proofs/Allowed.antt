@@ -10,8 +10,8 @@ use Rattle.circuit_theory.specs.declared.Mode.TheVariants.{Plain, Event}
 use Rattle.sec_base.specs.declared.settings.Settings.{Settings}
 use Rattle.command_line.specs.declared.task.Task.{Task}
 use Rattle.command_line.specs.declared.task.Task.TheVariants as task
-use Rattle.command_line.specs.command_words.Command.{sec_app, most_conflicts, any_number}
-use Rattle.command_line.specs.Jobs.{task_in, check_in, compared_in, graph_in, sim_in, replay_in, settle_in, gen_in, lrat_in, cert_in, induct_in, form_in, settings_in, conflicts_in, mode_in, mode_of, refuses_reset, number_of, is_set, with_word}
+use Rattle.command_line.specs.command_words.Command.{sec_app, most_conflicts, most_cycles, any_number}
+use Rattle.command_line.specs.Jobs.{task_in, check_in, compared_in, checked_in, graph_in, sim_in, replay_in, settle_in, gen_in, lrat_in, cert_in, induct_in, form_in, settings_in, conflicts_in, mode_in, mode_of, refuses_reset, number_of, is_set, with_word}
 use Rattle.command_line.specs.Allowed.{IsAllowed, JobsAreAllowed}
 
 some_is : {X : Type 0} {x y : X} → Some x ≡ Some y → x ≡ y
@@ -105,14 +105,29 @@ allowed_compared : (settles : Bool) (a b : Text) (s : Settings) (assumed : Optio
 allowed_compared false a b s assumed h always = h
 allowed_compared true a b s assumed h always = (h.0, always refl)
 
+few_cycles : (word : Text) (n : ℕ) → number_of most_cycles word ≡ Some n → n ≤ 1000
+few_cycles word n e =
+    let number = where_true (accepts false most_cycles word) (Some (digits_value 10 (without_leading_plus word))) n e in
+    subst (λ (k : ℕ). k ≤ 1000) (some_is number.1) (accepts-Accepts false most_cycles word number.0).3
+
+-- a check, or a search
+allowed_checked : (settles : Bool) (a b : Text) (s : Settings) (assumed cycles : Option Text) → AreAllowed s → (settles ≡ true → s.reset ≡ false) → (job : Task) → checked_in settles a b s assumed cycles ≡ Some job → IsAllowed job
+allowed_checked settles a b s assumed None allowed always job e = subst IsAllowed (some_is e) (allowed_compared settles a b s assumed allowed always)
+allowed_checked settles a b s (Some c) (Some word) allowed always job e = absurd (cc)
+allowed_checked settles a b s None (Some word) allowed always job e =
+    let set = where_true s.reset (option_map (λ n. task.Search a b n s.conflicts) (number_of most_cycles word)) job e in
+    let cycles = map_some (λ n. task.Search a b n s.conflicts) (number_of most_cycles word) job set.1 in
+    subst IsAllowed cycles.2 (allowed.0, few_cycles word cycles.0 cycles.1)
+
 allowed_check : (rows : List Row) (job : Task) → check_in rows ≡ Some job → IsAllowed job
 allowed_check rows job e =
     let assumed : Option Text = first_of (codes "assume") rows in
     let settles : Bool = is_set (codes "settles") rows in
-    let a = and_then_some (λ x. with_word (codes "b") rows (λ y. option_map (λ s. compared_in settles x y s assumed) (settings_in rows))) (first_of (codes "a") rows) job e in
-    let b = and_then_some (λ y. option_map (λ s. compared_in settles a.0 y s assumed) (settings_in rows)) (first_of (codes "b") rows) job a.2 in
-    let settings = map_some (λ s. compared_in settles a.0 b.0 s assumed) (settings_in rows) job b.2 in
-    subst IsAllowed settings.2 (allowed_compared settles a.0 b.0 settings.0 assumed (allowed_settings rows settings.0 settings.1) (settles_always rows settings.0 settings.1))
+    let cycles : Option Text = first_of (codes "cycles") rows in
+    let a = and_then_some (λ x. with_word (codes "b") rows (λ y. option_and_then (λ s. checked_in settles x y s assumed cycles) (settings_in rows))) (first_of (codes "a") rows) job e in
+    let b = and_then_some (λ y. option_and_then (λ s. checked_in settles a.0 y s assumed cycles) (settings_in rows)) (first_of (codes "b") rows) job a.2 in
+    let settings = and_then_some (λ s. checked_in settles a.0 b.0 s assumed cycles) (settings_in rows) job b.2 in
+    allowed_checked settles a.0 b.0 settings.0 assumed cycles (allowed_settings rows settings.0 settings.1) (settles_always rows settings.0 settings.1) job settings.2
 
 allowed_graph : (rows : List Row) (job : Task) → graph_in rows ≡ Some job → IsAllowed job
 allowed_graph rows job e =

@@ -1,5 +1,5 @@
 -- Words that `clap` takes, with a mode that fits, are a job.
-use Rattle.std.proofs.Common.{◌≡◌, ◌&&◌, ◌||◌, not, Bool, cond, true, false, List, [], ◌∷◌, length, Option, Some, None, is_some, refl, sym, ap, subst, ◌∙◌, arith, true≢false, codes}
+use Rattle.std.proofs.Common.{◌≡◌, ℕ, ◌&&◌, ◌||◌, not, Bool, cond, true, false, List, [], ◌∷◌, length, Option, Some, None, is_some, refl, sym, ap, subst, ◌∙◌, arith, true≢false, codes}
 use Rattle.std.specs.Prelude.{⊤, ◌==◌, find, option_map, option_and_then, IfSome}
 use Rattle.std.specs.List.{list_any}
 use Rattle.std.specs.Option.{option_map_or}
@@ -7,6 +7,7 @@ use Rattle.std.specs.Str.{bytes_eq}
 use Rattle.std.specs.Str.Parse.{digits_value, without_leading_plus}
 use Rattle.std.proofs.lemmas.Slice.Eq.{bytes_eq-Decides}
 use Rattle.circuit_theory.specs.declared.Mode.{Mode}
+use Rattle.sec_base.specs.declared.settings.Settings.{Settings}
 use Rattle.clap.specs.Facts.{explicit_source}
 use Rattle.clap.specs.Takes.{is_given}
 use Rattle.clap.specs.Kinds.{Kinds, or_else, value_kinds}
@@ -15,11 +16,11 @@ use Rattle.clap.specs.ValueTests.{accepts}
 use Rattle.clap.specs.Walk.{Row, Rule, Text, Walk, answers_to, finished, first_of, nothing_held, rows_after, settled, walk, walk_from}
 use Rattle.clap.specs.Simple.{App, Shape, built, built_leaf, entered, help_shape, inherited, label_of, marked_built, names_of, rows_at, subcommand_of, with_leaf_noted}
 use Rattle.clap.specs.declared.builder.value_parser.ValueParser.{ValueParser}
-use Rattle.command_line.specs.command_words.Command.{sec_app, check_app, graph_app, sim_app, replay_app, settle_app, gen_app, lrat_app, cert_app, induct_app, most_conflicts, any_number}
-use Rattle.command_line.specs.Jobs.{cert_in, check_in, conflicts_in, form_in, gen_in, graph_in, induct_in, job_of, lrat_in, mode_in, number_of, replay_in, settle_in, sim_in, task_in}
-use Rattle.command_line.specs.Known.{HasFitMode, mode_fits}
+use Rattle.command_line.specs.command_words.Command.{sec_app, check_app, graph_app, sim_app, replay_app, settle_app, gen_app, lrat_app, cert_app, induct_app, most_conflicts, most_cycles, any_number}
+use Rattle.command_line.specs.Jobs.{cert_in, check_in, checked_in, conflicts_in, form_in, gen_in, graph_in, induct_in, is_set, job_of, lrat_in, mode_in, number_of, replay_in, settle_in, sim_in, task_in}
+use Rattle.command_line.specs.Known.{HasFitMode, cycles_fit, cycles_given, mode_fits}
 use Rattle.command_line.proofs.Taken.{else_first, else_next, EachRule, IsNotHelp, IsOwn, no_help_walk}
-use Rattle.command_line.proofs.Leaves.{IsRead, first_good, leaf_read, second_check}
+use Rattle.command_line.proofs.Leaves.{IsRead, first_good, first_has, leaf_read, second_check}
 
 -- a number that the parser takes
 number_known : (p : ValueParser) (w : Text) → value_kinds false p w ≡ [] → number_of p w ≡ Some (digits_value 10 (without_leading_plus w))
@@ -29,16 +30,50 @@ number_known p w e = by (accepts false p w) refl
     by true is = rw is refl
     by false is = absurd (let none : value_kinds false p w ≡ [] = e in cc)
 
+some_is : {X : Type 0} {x y : X} → Some x ≡ Some y → x ≡ y
+some_is q = cc
+
+both_hold : (b c : Bool) → (b && c) ≡ true → (b ≡ true) × (c ≡ true)
+both_hold true c e = (refl, e)
+both_hold false c e = absurd (true≢false (sym e))
+
+not_holds : (b : Bool) → not b ≡ true → b ≡ false
+not_holds true e = absurd (true≢false (sym e))
+not_holds false e = refl
+
+-- a check, or a search whose cycles fit
+checked_job : (settles : Bool) (a b : Text) (s : Settings) (assumed cycles : Option Text) → ((w : Text) → cycles ≡ Some w → (value_kinds false most_cycles w ≡ []) × (s.reset ≡ true) × (is_some assumed ≡ false)) → is_some (checked_in settles a b s assumed cycles) ≡ true
+checked_job settles a b s assumed None fits = refl
+checked_job settles a b s (Some c) (Some w) fits = absurd (true≢false (fits w refl).2)
+checked_job settles a b s None (Some w) fits = let f = fits w refl in let n = number_known most_cycles w f.0 in rw (f.1, n) refl
+
+abbrev settings_of : List Row → ℕ → Mode → Settings
+settings_of rows n m = record { mode = m; expose = is_set (codes "expose") rows; conflicts = n; reset = is_set (codes "reset") rows }
+
 -- what stands of each subcommand makes its task
-check_job : (rows : List Row) (a b n : Text) → first_of (codes "a") rows ≡ Some a → first_of (codes "b") rows ≡ Some b → first_of (codes "conflicts") rows ≡ Some n → value_kinds false most_conflicts n ≡ [] → is_some (mode_in rows) ≡ true → is_some (check_in rows) ≡ true
-check_job rows a b n ea eb en passes mode = by (mode_in rows) refl mode
+check_job : (rows : List Row) (a b n : Text) → first_of (codes "a") rows ≡ Some a → first_of (codes "b") rows ≡ Some b → first_of (codes "conflicts") rows ≡ Some n → value_kinds false most_conflicts n ≡ [] →
+    ((w : Text) → first_of (codes "cycles") rows ≡ Some w → value_kinds false most_cycles w ≡ []) → (is_some (mode_in rows) && cycles_fit rows) ≡ true → is_some (check_in rows) ≡ true
+check_job rows a b n ea eb en passes few known = by (mode_in rows) refl both.0
   where
+    both : (is_some (mode_in rows) ≡ true) × (cycles_fit rows ≡ true)
+    both = both_hold (is_some (mode_in rows)) (cycles_fit rows) known
+
     conflicts : conflicts_in rows ≡ Some (digits_value 10 (without_leading_plus n))
     conflicts = ap (option_and_then (number_of most_conflicts)) en ∙ number_known most_conflicts n passes
 
+    fits : (m : Mode) (w : Text) → first_of (codes "cycles") rows ≡ Some w → (value_kinds false most_cycles w ≡ []) × (is_set (codes "reset") rows ≡ true) × (is_some (first_of (codes "assume") rows) ≡ false)
+    fits m w e = (few w e, at.0, not_holds (is_some (first_of (codes "assume") rows)) at.1)
+      where
+        at : (is_set (codes "reset") rows ≡ true) × (not (is_some (first_of (codes "assume") rows)) ≡ true)
+        at = both_hold (is_set (codes "reset") rows) (not (is_some (first_of (codes "assume") rows))) (given (first_of (codes "cycles") rows) e both.1)
+          where
+            given : (o : Option Text) → o ≡ Some w → cycles_given rows o ≡ true → (is_set (codes "reset") rows && not (is_some (first_of (codes "assume") rows))) ≡ true
+            given None k h = absurd (cc)
+            given (Some x) k h = h
+
     by : (m : Option Mode) → mode_in rows ≡ m → is_some m ≡ true → is_some (check_in rows) ≡ true
     by None e h = absurd (true≢false (sym h))
-    by (Some m) e h = rw (ea, eb, e, conflicts) refl
+    by (Some m) e h = rw (ea, eb, e, conflicts) (checked_job (is_set (codes "settles") rows) a b (settings_of rows (digits_value 10 (without_leading_plus n)) m) (first_of (codes "assume") rows) (first_of (codes "cycles") rows) (fits m))
 
 graph_job : (rows : List Row) (a : Text) → first_of (codes "a") rows ≡ Some a → is_some (mode_in rows) ≡ true → is_some (graph_in rows) ≡ true
 graph_job rows a ea mode = by (mode_in rows) refl mode
@@ -112,7 +147,7 @@ check_is words e help known =
     let a = first_good c (codes "a") _ rows refl read.good (read.required (codes "a") _ refl refl) in
     let b = first_good c (codes "b") _ rows refl read.good (read.required (codes "b") _ refl refl) in
     let n = first_good c (codes "conflicts") _ rows refl read.good (read.defaulted (codes "conflicts") _ (codes "20000") [] refl refl) in
-    check_job rows a.0 b.0 n.0 a.1 b.1 n.1 n.2 known
+    check_job rows a.0 b.0 n.0 a.1 b.1 n.1 n.2 (λ w h. let k = first_good c (codes "cycles") _ rows refl read.good (first_has (codes "cycles") rows w h) in subst (λ (v : Text). value_kinds false most_cycles v ≡ []) (some_is (sym k.1 ∙ h)) k.2) known
 
 graph_own : EachRule (IsOwn (part graph_app.top).rules) (part graph_app.top).rules
 graph_own = ((refl, omega arith), ((refl, omega arith), ((refl, tt), tt)))

@@ -118,6 +118,15 @@ module _ (c : List Rule) where
           let found = rest k in
           (found.0, ap (λ b. option_and_then (λ (x : Row). slice_get x.values 0) (cond b (Some r) (find (λ x. bytes_eq x.id id) rs))) e ∙ found.1, found.2)
 
+-- a row is there whose first value is
+pub first_has : (id : Text) (rows : List Row) (v : Text) → first_of id rows ≡ Some v → has_row id rows ≡ true
+first_has id [] v e = absurd (cc)
+first_has id (r ∷ rs) v e = by (bytes_eq r.id id) e (λ k. first_has id rs v k)
+  where
+    by : (b : Bool) → option_and_then (λ (x : Row). slice_get x.values 0) (cond b (Some r) (find (λ x. bytes_eq x.id id) rs)) ≡ Some v → (first_of id rs ≡ Some v → has_row id rs ≡ true) → (b || has_row id rs) ≡ true
+    by true k rest = refl
+    by false k rest = rest k
+
 given_has : (id : Text) (rows : List Row) → is_given id rows ≡ true → has_row id rows ≡ true
 given_has id [] h = absurd (true≢false (sym h))
 given_has id (r ∷ rs) h = by (bytes_eq r.id id) h (λ k. given_has id rs k)

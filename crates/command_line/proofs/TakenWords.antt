@@ -1,7 +1,7 @@
 -- Words that are written out, computed.
 use Rattle.std.proofs.Common.{refl}
 use Rattle.clap.proofs.OnLiterals.{clap_on_literals}
-use Rattle.command_line.specs.Known.{CheckIsTaken, GraphIsTaken, SimIsTaken, ReplayIsTaken, SettleIsTaken, GenIsTaken, LratIsTaken, CertIsTaken, InductIsTaken, ResetIsTaken, AssumedIsTaken, CheckSettlesIsTaken, ReplaySettlesIsTaken, SettlesIsRefused, AssumedIsRefused, OtherModeIsNoJob, OtherFormIsNoJob, ResetIsNoJob}
+use Rattle.command_line.specs.Known.{CheckIsTaken, GraphIsTaken, SimIsTaken, ReplayIsTaken, SettleIsTaken, GenIsTaken, LratIsTaken, CertIsTaken, InductIsTaken, ResetIsTaken, CyclesAreTaken, AssumedIsTaken, CheckSettlesIsTaken, ReplaySettlesIsTaken, SettlesIsRefused, AssumedIsRefused, OtherModeIsNoJob, OtherFormIsNoJob, ResetIsNoJob, CyclesAreNoJob}
 
 pub check_is_taken : CheckIsTaken
 unfolding clap_on_literals
@@ -47,6 +47,10 @@ pub reset_is_taken : ResetIsTaken
 unfolding clap_on_literals
 reset_is_taken = ((refl, refl), refl)
 
+pub cycles_are_taken : CyclesAreTaken
+unfolding clap_on_literals
+cycles_are_taken = ((refl, refl), refl)
+
 pub assumed_is_taken : AssumedIsTaken
 unfolding clap_on_literals
 assumed_is_taken = ((refl, refl), refl)
@@ -74,3 +78,7 @@ form_is_no_job = (refl, refl)
 pub reset_is_no_job : ResetIsNoJob
 unfolding clap_on_literals
 reset_is_no_job = ((refl, refl), (refl, refl), (refl, refl), (refl, refl))
+
+pub cycles_are_no_job : CyclesAreNoJob
+unfolding clap_on_literals
+cycles_are_no_job = ((refl, refl), (refl, refl), (refl, refl), refl)

@@ -7,7 +7,8 @@ use Rattle.command_line.specs.Jobs.{job_of}
 use Rattle.command_line.specs.declared.task.Task.{Task}
 use Rattle.command_line.specs.declared.task.Task.TheVariants as task
 
--- at most 200,000 conflicts are allowed for a query; where runs begin with initial values no latch is cut open, and the mode is plain
+-- at most 200,000 conflicts are allowed for a query, and at most 1,000 is the last cycle of a search; where runs begin with initial values no
+-- latch is cut open, and the mode is plain
 abbrev pub IsAllowed : Task → Type 0
 IsAllowed (task.Check a b settings assumed) = (settings.conflicts ≤ MAX_CONFLICTS) × (settings.reset ≡ true → settings.expose ≡ false) × (settings.reset ≡ true → settings.mode ≡ Plain)
 IsAllowed (task.CheckSettles a b settings assumed) = (settings.conflicts ≤ MAX_CONFLICTS) × (settings.reset ≡ false)
@@ -18,6 +19,7 @@ IsAllowed (task.Settle a b s mode) = Unit {0}
 IsAllowed (task.Gen seed regroup conflicts) = conflicts ≤ MAX_CONFLICTS
 IsAllowed (task.Lrat f l) = Unit {0}
 IsAllowed (task.Cert a b pair lrat conflicts) = conflicts ≤ MAX_CONFLICTS
+IsAllowed (task.Search a b cycles conflicts) = (conflicts ≤ MAX_CONFLICTS) × (cycles ≤ 1000)
 IsAllowed (task.Induct a b conflicts) = conflicts ≤ MAX_CONFLICTS
 
 -- a job of words is allowed

@@ -6,7 +6,7 @@ use Rattle.circuit_theory.specs.declared.Mode.TheVariants.{Plain, Event}
 use Rattle.clap.specs.Words.{Row, Text, fault_of, first_of, subcommand_of}
 use Rattle.clap.specs.ValueTests.{accepts}
 use Rattle.clap.specs.declared.builder.value_parser.ValueParser.{ValueParser}
-use Rattle.command_line.specs.command_words.Command.{sec_app, most_conflicts, any_number}
+use Rattle.command_line.specs.command_words.Command.{sec_app, most_conflicts, most_cycles, any_number}
 use Rattle.sec_base.specs.declared.settings.Settings.{Settings}
 use Rattle.command_line.specs.declared.task.Task.{Task}
 use Rattle.command_line.specs.declared.task.Task.TheVariants as task
@@ -52,9 +52,19 @@ abbrev pub compared_in : Bool → Text → Text → Settings → Option Text →
 compared_in false a b settings assumed = task.Check a b settings assumed
 compared_in true a b settings assumed = task.CheckSettles a b settings assumed
 
+-- the search for a difference up to the cycle that the word spells; it stands only beside `--reset`, and without an assumption
+abbrev pub search_in : Text → Text → Settings → Option Text → Text → Option Task
+search_in a b settings (Some assumed) word = None
+search_in a b settings None word = if settings.reset then option_map (λ cycles. task.Search a b cycles settings.conflicts) (number_of most_cycles word) else None
+
+-- the check of two circuits, or where a last cycle is named the search
+abbrev pub checked_in : Bool → Text → Text → Settings → Option Text → Option Text → Option Task
+checked_in settles a b settings assumed None = Some (compared_in settles a b settings assumed)
+checked_in settles a b settings assumed (Some word) = search_in a b settings assumed word
+
 abbrev pub check_in : List Row → Option Task
 check_in rows =
-    with_word (codes "a") rows (λ a. with_word (codes "b") rows (λ b. option_map (λ settings. compared_in (is_set (codes "settles") rows) a b settings (first_of (codes "assume") rows)) (settings_in rows)))
+    with_word (codes "a") rows (λ a. with_word (codes "b") rows (λ b. option_and_then (λ settings. checked_in (is_set (codes "settles") rows) a b settings (first_of (codes "assume") rows) (first_of (codes "cycles") rows)) (settings_in rows)))
 
 abbrev pub graph_in : List Row → Option Task
 graph_in rows = with_word (codes "a") rows (λ a. option_map (λ mode. task.Graph a mode) (mode_in rows))
@@ -108,6 +118,6 @@ task_in name rows =
     else None
 
 -- The job of the words: where `clap`'s own definition for the command takes them, the mode or the form is known, and nothing refuses
--- `--reset`.
+-- `--reset` or `--cycles`.
 abbrev pub job_of : List Text → Option Task
 job_of words = if length (fault_of sec_app words) == 0 then option_and_then (λ met. task_in met.0 met.1) (subcommand_of sec_app words) else None

@@ -1,15 +1,25 @@
 -- Words that `clap` takes, with a mode that is known and nothing that refuses `--reset`.
-use Rattle.std.specs.Prelude.{◌≡◌, ◌||◌, Bool, true, false, if◌then◌else◌, [], ◌∷◌, List, None, Some, is_some, codes, bytes_eq, IfSome}
+use Rattle.std.specs.Prelude.{◌≡◌, ◌||◌, ◌&&◌, not, Bool, true, false, Option, if◌then◌else◌, [], ◌∷◌, List, None, Some, is_some, codes, bytes_eq, IfSome}
 use Rattle.circuit_theory.specs.declared.Mode.TheVariants.{Plain, Event}
-use Rattle.clap.specs.Words.{Row, Text, fault_of, subcommand_of}
+use Rattle.clap.specs.Words.{Row, Text, fault_of, first_of, subcommand_of}
 use Rattle.command_line.specs.command_words.Command.{sec_app}
-use Rattle.command_line.specs.Jobs.{job_of, mode_in, form_in}
+use Rattle.command_line.specs.Jobs.{job_of, mode_in, form_in, is_set}
 use Rattle.command_line.specs.declared.task.Task.TheVariants as task
 
+-- the cycles aren't given, or `--reset` is, and `--assume` isn't
+abbrev pub cycles_given : List Row → Option Text → Bool
+cycles_given rows None = true
+cycles_given rows (Some word) = is_set (codes "reset") rows && not (is_some (first_of (codes "assume") rows))
+
+-- `--cycles` isn't given, or stands beside `--reset` and without `--assume`
+abbrev pub cycles_fit : List Row → Bool
+cycles_fit rows = cycles_given rows (first_of (codes "cycles") rows)
+
 -- The mode among the subcommand's matches is one of the two, and `--reset` may stand beside it; `gen`, `lrat` and `induct` have none, and
--- `cert` has a form in its place.
+-- `cert` has a form in its place. Nothing refuses the cycles of `check`.
 abbrev pub mode_fits : Text → List Row → Bool
-mode_fits name rows = bytes_eq name (codes "gen") || (bytes_eq name (codes "lrat") || (bytes_eq name (codes "induct") || (if bytes_eq name (codes "cert") then is_some (form_in rows) else is_some (mode_in rows))))
+mode_fits name rows =
+    bytes_eq name (codes "gen") || (bytes_eq name (codes "lrat") || (bytes_eq name (codes "induct") || (if bytes_eq name (codes "cert") then is_some (form_in rows) else if bytes_eq name (codes "check") then is_some (mode_in rows) && cycles_fit rows else is_some (mode_in rows))))
 
 -- the mode of the subcommand that the words name is one of the two, and nothing refuses `--reset`
 abbrev pub HasFitMode : List Text → Type 0
@@ -56,6 +66,12 @@ abbrev pub ResetIsTaken : Type 0
 ResetIsTaken =
     AreTaken (codes "check" ∷ codes "a" ∷ codes "b" ∷ codes "--reset" ∷ [])
     × (job_of (codes "sim" ∷ codes "a" ∷ codes "s" ∷ codes "--reset" ∷ []) ≡ Some (task.Sim (codes "a") (codes "s") Plain None true))
+
+-- words with `--cycles`, and what they ask for
+abbrev pub CyclesAreTaken : Type 0
+CyclesAreTaken =
+    AreTaken (codes "check" ∷ codes "a" ∷ codes "b" ∷ codes "--reset" ∷ codes "--cycles" ∷ codes "20" ∷ [])
+    × (job_of (codes "check" ∷ codes "a" ∷ codes "b" ∷ codes "--reset" ∷ codes "--cycles" ∷ codes "20" ∷ []) ≡ Some (task.Search (codes "a") (codes "b") 20 20000))
 
 -- words with `--assume`, and what they ask for
 abbrev pub AssumedIsTaken : Type 0
@@ -106,3 +122,11 @@ ResetIsNoJob =
     × AreNoJob (codes "check" ∷ codes "a" ∷ codes "b" ∷ codes "--reset" ∷ codes "--settles" ∷ [])
     × AreNoJob (codes "check" ∷ codes "a" ∷ codes "b" ∷ codes "--mode" ∷ codes "event" ∷ codes "--reset" ∷ [])
     × AreNoJob (codes "sim" ∷ codes "a" ∷ codes "s" ∷ codes "--mode" ∷ codes "event" ∷ codes "--reset" ∷ [])
+
+-- since `--cycles` stands without `--reset`, or with `--assume`, or `--reset` may not stand there
+abbrev pub CyclesAreNoJob : Type 0
+CyclesAreNoJob =
+    AreNoJob (codes "check" ∷ codes "a" ∷ codes "b" ∷ codes "--cycles" ∷ codes "20" ∷ [])
+    × AreNoJob (codes "check" ∷ codes "a" ∷ codes "b" ∷ codes "--reset" ∷ codes "--cycles" ∷ codes "20" ∷ codes "--assume" ∷ codes "c" ∷ [])
+    × AreNoJob (codes "check" ∷ codes "a" ∷ codes "b" ∷ codes "--reset" ∷ codes "--expose" ∷ codes "--cycles" ∷ codes "20" ∷ [])
+    × (job_of (codes "check" ∷ codes "a" ∷ codes "b" ∷ codes "--reset" ∷ codes "--cycles" ∷ codes "1001" ∷ []) ≡ None)

@@ -1,10 +1,10 @@
 //! What follows for the words. The functions do nothing: each contract is a law.
 
 ghost use Rattle.command_line.specs.Allowed.{JobsAreAllowed};
-ghost use Rattle.command_line.specs.Known.{TakenWordsAreJob, CheckIsTaken, GraphIsTaken, SimIsTaken, ReplayIsTaken, SettleIsTaken, GenIsTaken, LratIsTaken, CertIsTaken, InductIsTaken, ResetIsTaken, AssumedIsTaken, CheckSettlesIsTaken, ReplaySettlesIsTaken, SettlesIsRefused, AssumedIsRefused, OtherModeIsNoJob, OtherFormIsNoJob, ResetIsNoJob};
+ghost use Rattle.command_line.specs.Known.{TakenWordsAreJob, CheckIsTaken, GraphIsTaken, SimIsTaken, ReplayIsTaken, SettleIsTaken, GenIsTaken, LratIsTaken, CertIsTaken, InductIsTaken, ResetIsTaken, CyclesAreTaken, AssumedIsTaken, CheckSettlesIsTaken, ReplaySettlesIsTaken, SettlesIsRefused, AssumedIsRefused, OtherModeIsNoJob, OtherFormIsNoJob, ResetIsNoJob, CyclesAreNoJob};
 
 /// Words that `clap`'s definition for the command takes are a job wherever their mode is `plain` or `event` and `--reset` stands
-/// neither with `event` nor with `--expose` or `--settles`, or they name the subcommand `gen`, `lrat` or `induct`, which have no mode, or `cert` with
+/// neither with `event` nor with `--expose` or `--settles`, and `--cycles` only with `--reset` and without `--assume`, or they name the subcommand `gen`, `lrat` or `induct`, which have no mode, or `cert` with
 /// the form `cnf` or `lrat`. So `job` never refuses such words.
 pub fn taken_words_are_job()
     ensures { TakenWordsAreJob }
@@ -29,11 +29,12 @@ pub fn words_are_taken()
     ensures of_assumed { AssumedIsTaken }
 {}
 
-/// The same of `settle`, and of `check` and `replay` with `--settles`.
-pub fn settling_words_are_taken()
+/// The same of `settle`, of `check` and `replay` with `--settles`, and of `check` with `--cycles`.
+pub fn further_words_are_taken()
     ensures of_settle { SettleIsTaken }
     ensures of_check { CheckSettlesIsTaken }
     ensures of_replay { ReplaySettlesIsTaken }
+    ensures of_cycles { CyclesAreTaken }
 {}
 
 /// Words that `clap`'s definition doesn't take: `--assume` without a path behind it, or twice; `--settles` behind `settle`.
@@ -42,9 +43,11 @@ pub fn refused_words_are_no_job()
     ensures of_settles { SettlesIsRefused }
 {}
 
-/// Words that are taken and are no job: they have another mode or another form, or `--reset` beside what refuses it.
+/// Words that are taken and are no job: they have another mode or another form, or `--reset` or `--cycles` beside what refuses
+/// it.
 pub fn taken_words_are_no_job()
     ensures of_mode { OtherModeIsNoJob }
     ensures of_form { OtherFormIsNoJob }
     ensures of_clash { ResetIsNoJob }
+    ensures of_cycles { CyclesAreNoJob }
 {}

@@ -11,7 +11,7 @@ mod task;
 
 pub use jobs::{WordsError, job};
 pub use laws::{
-    jobs_are_allowed, refused_words_are_no_job, settling_words_are_taken, taken_words_are_job,
+    further_words_are_taken, jobs_are_allowed, refused_words_are_no_job, taken_words_are_job,
     taken_words_are_no_job, words_are_taken,
 };
 pub use sec_base::Settings;

@@ -68,6 +68,13 @@ pub enum Task {
         lrat: bool,
         conflicts: u32,
     },
+    /// Search the circuits of two files for a difference, in the cycles from 0 to a last one of runs from their initial values.
+    Search {
+        a: FilePath,
+        b: FilePath,
+        cycles: u32,
+        conflicts: u32,
+    },
     /// Compare the circuits of two files from their initial values, by blocks of latches that are equal in every cycle.
     Induct {
         a: FilePath,
@@ -124,6 +131,12 @@ impl Drop for Task {
                 b: _,
                 pair: _,
                 lrat: _,
+                conflicts: _,
+            } => {}
+            Task::Search {
+                a: _,
+                b: _,
+                cycles: _,
                 conflicts: _,
             } => {}
             Task::Induct {

@@ -92,17 +92,17 @@ pub enum Unrefuted {
     Limit(u32, Proof),
 }
 
-/// What is said of two circuits whose latches are put into blocks, whose pairs are asked whether they have care, or which were run on one
-/// stimulus.
+/// What is said of two circuits whose latches are put into blocks, whose pairs are asked whether they have care, that are searched for a
+/// difference, or which were run on one stimulus.
 #[derive(Clone, Copy)]
 pub enum Judgement {
-    /// Each output agrees for all values that are constant on the blocks; or each pair's functions agree, and some frame has care for it; or no
-    /// pair differs on the stimulus, and some is settled.
+    /// Each output agrees: for all values that are constant on the blocks, or in every cycle; or each pair's functions agree, and some frame has
+    /// care for it; or no pair differs on the stimulus, and some is settled.
     Equal,
-    /// A pair's functions differ, and the circuits with them; or some pair differs on the stimulus.
+    /// A pair's functions differ, and the circuits with them; or an output differs in a cycle; or some pair differs on the stimulus.
     Different,
     /// Some output differs for values that are constant on the blocks; or no frame has care for a pair, or the functions of one differ where that
-    /// isn't known of the circuits; or no pair is settled on the stimulus.
+    /// isn't known of the circuits; or none differs in the cycles that were searched; or no pair is settled on the stimulus.
     NotShown,
     /// A query wasn't decided within the number of conflicts.
     Limit,
@@ -132,8 +132,8 @@ pub enum Finding {
     Undecided(Side, Word, Proof),
     /// The clauses of a pair of outputs aren't refuted.
     Unrefuted(Unrefuted),
-    /// What is said of two circuits by blocks of their latches, by pairs with care or on a stimulus, the proofs of the queries that met the
-    /// limit, and the report.
+    /// What is said of two circuits by blocks of their latches, by pairs with care, by a search or on a stimulus, the proofs of the queries
+    /// that met the limit, and the report.
     Judged(Judgement, Proofs, Text),
 }
 

@@ -25,6 +25,8 @@ use Rattle.sec_jobs.proofs.job_cert.Means.{cert_means}
 use Rattle.sec_jobs.proofs.job_cert.Complete.{cert_complete, memory_cert}
 use Rattle.sec_jobs.proofs.job_induct.induct_meaning.Means.{induct_means}
 use Rattle.sec_jobs.proofs.job_induct.induct_meaning.Complete.{induct_complete}
+use Rattle.sec_jobs.proofs.job_search.search_meaning.Means.{search_means}
+use Rattle.sec_jobs.proofs.job_search.search_meaning.Complete.{search_complete}
 use Rattle.sec_run.specs.Answer.{IsFinding}
 use Rattle.sec_run.specs.Promises.{Means, IsComplete}
 
@@ -41,6 +43,7 @@ means held (Some (task.Settle a b s mode)) before now f proofs name found w = re
 means held (Some (task.Gen seed regroup conflicts)) before now f proofs name found w = gen_means (record { seed = seed; regroup = regroup; conflicts = conflicts }) before now f proofs name found w
 means held (Some (task.Lrat f l)) before now found proofs name is w = lrat_means (held f) (held l) before now found proofs name is w
 means held (Some (task.Cert a b pair lrat conflicts)) before now f proofs name found w = cert_means (record { pair = pair; refuted = lrat; conflicts = conflicts }) (held a) (held b) before now f proofs name found w
+means held (Some (task.Search a b cycles conflicts)) before now f proofs name found w = search_means cycles conflicts (held a) (held b) before now f proofs name found w
 means held (Some (task.Induct a b conflicts)) before now f proofs name found w = induct_means conflicts (held a) (held b) before now f proofs name found w
 
 -- a run that ends before it has found anything says nothing
@@ -55,6 +58,7 @@ memory_means held (Some (task.Settle a b s mode)) before now proofs = tt
 memory_means held (Some (task.Gen seed regroup conflicts)) before now proofs = tt
 memory_means held (Some (task.Lrat f l)) before now proofs = tt
 memory_means held (Some (task.Cert a b pair lrat conflicts)) before now proofs = tt
+memory_means held (Some (task.Search a b cycles conflicts)) before now proofs = tt
 memory_means held (Some (task.Induct a b conflicts)) before now proofs = tt
 
 pub fault_means : (held : Held) (job : Option Task) (before now : Option (List ℕ)) (proofs : List Proof) → Means held job before now proofs status.ReadFault
@@ -68,6 +72,7 @@ fault_means held (Some (task.Settle a b s mode)) before now proofs = tt
 fault_means held (Some (task.Gen seed regroup conflicts)) before now proofs = tt
 fault_means held (Some (task.Lrat f l)) before now proofs = tt
 fault_means held (Some (task.Cert a b pair lrat conflicts)) before now proofs = tt
+fault_means held (Some (task.Search a b cycles conflicts)) before now proofs = tt
 fault_means held (Some (task.Induct a b conflicts)) before now proofs = tt
 
 -- a job that can be done is done, by what is found of it
@@ -82,6 +87,7 @@ is_complete held (Some (task.Settle a b s mode)) f found = replay_complete told.
 is_complete held (Some (task.Gen seed regroup conflicts)) f found = gen_complete (record { seed = seed; regroup = regroup; conflicts = conflicts }) f found
 is_complete held (Some (task.Lrat f l)) found is = lrat_complete (held f) (held l) found is
 is_complete held (Some (task.Cert a b pair lrat conflicts)) f found = cert_complete (record { pair = pair; refuted = lrat; conflicts = conflicts }) (held a) (held b) f found
+is_complete held (Some (task.Search a b cycles conflicts)) f found = search_complete cycles conflicts (held a) (held b) f found
 is_complete held (Some (task.Induct a b conflicts)) f found = induct_complete conflicts (held a) (held b) f found
 
 -- so is one that ends at want of memory
@@ -96,6 +102,7 @@ memory_is_complete held (Some (task.Settle a b s mode)) = λ can. tt
 memory_is_complete held (Some (task.Gen seed regroup conflicts)) = tt
 memory_is_complete held (Some (task.Lrat f l)) = λ can. inr refl
 memory_is_complete held (Some (task.Cert a b pair lrat conflicts)) = memory_cert (record { pair = pair; refuted = lrat; conflicts = conflicts }) (held a) (held b)
+memory_is_complete held (Some (task.Search a b cycles conflicts)) = λ can. tt
 memory_is_complete held (Some (task.Induct a b conflicts)) = λ can. tt
 
 -- so a run is complete that ends with a finding, or at want of memory

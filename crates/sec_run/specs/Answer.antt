@@ -22,6 +22,7 @@ use Rattle.sec_jobs.specs.job_gen.gen_meaning.Found.{IsGenFound}
 use Rattle.sec_jobs.specs.job_cert.job_lrat.Found.{IsLratFound}
 use Rattle.sec_jobs.specs.job_cert.Found.{IsCertFound}
 use Rattle.sec_jobs.specs.job_induct.induct_meaning.Found.{IsInductFound}
+use Rattle.sec_jobs.specs.job_search.search_meaning.Found.{IsSearchFound}
 
 -- what is true of a job where this is found
 abbrev pub IsFoundOfJob : Held → Task → Finding → Type 0
@@ -34,6 +35,7 @@ IsFoundOfJob held (task.Settle a b s mode) f = IsReplayFound told.Settled mode (
 IsFoundOfJob held (task.Gen seed regroup conflicts) f = IsGenFound (record { seed = seed; regroup = regroup; conflicts = conflicts }) f
 IsFoundOfJob held (task.Lrat f l) found = IsLratFound (held f) (held l) found
 IsFoundOfJob held (task.Cert a b pair lrat conflicts) f = IsCertFound (record { pair = pair; refuted = lrat; conflicts = conflicts }) (held a) (held b) f
+IsFoundOfJob held (task.Search a b cycles conflicts) f = IsSearchFound cycles conflicts (held a) (held b) f
 IsFoundOfJob held (task.Induct a b conflicts) f = IsInductFound conflicts (held a) (held b) f
 
 -- what is found: that the words are no job, or what is true of the job

@@ -23,6 +23,7 @@ use sec_jobs::job_cert::job_lrat::{Refutation, check_refutation};
 use sec_jobs::job_cert::{Certification, Wanted, certify};
 use sec_jobs::job_gen::{Generation, compare_generated};
 use sec_jobs::job_induct::{BlockComparison, compare_by_blocks};
+use sec_jobs::job_search::{CycleComparison, compare_in_cycles};
 use std::alloc::Global;
 
 /// Finds what the job asks for.
@@ -144,6 +145,20 @@ fn find<S: Shelf>(alloc: Global, task: &Task, shelf: &mut S) -> Result<Finding, 
                 wanted,
             };
             certify(alloc, &certification, shelf)
+        }
+        Task::Search {
+            a,
+            b,
+            cycles,
+            conflicts,
+        } => {
+            let comparison = CycleComparison {
+                left: a.as_str(),
+                right: b.as_str(),
+                cycles: *cycles,
+                conflicts: *conflicts,
+            };
+            compare_in_cycles(alloc, &comparison, shelf)
         }
         Task::Induct { a, b, conflicts } => {
             let comparison = BlockComparison {

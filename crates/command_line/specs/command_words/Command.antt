@@ -29,6 +29,13 @@ most_conflicts = parser.Unsigned 0 MAX_CONFLICTS
 abbrev pub conflicts : Rule
 conflicts = record (option_with (codes "conflicts") (codes "20000")) { parser = Some most_conflicts }
 
+-- the last cycle of a search, 0 to 1000
+abbrev pub most_cycles : ValueParser
+most_cycles = parser.Unsigned 0 1000
+
+abbrev pub cycles : Rule
+cycles = record (option (codes "cycles")) { parser = Some most_cycles }
+
 -- a number of 64 bits
 abbrev pub any_number : ValueParser
 any_number = parser.Unsigned 0 (2 ^ 64 - 1)
@@ -40,7 +47,7 @@ abbrev pub mode : Rule
 mode = option_with (codes "mode") (codes "plain")
 
 abbrev pub check_app : App
-check_app = fold with_rule (new_app (codes "check")) (place (codes "a") ∷ place (codes "b") ∷ mode ∷ flag (codes "expose") ∷ conflicts ∷ flag (codes "reset") ∷ option (codes "assume") ∷ flag (codes "settles") ∷ [])
+check_app = fold with_rule (new_app (codes "check")) (place (codes "a") ∷ place (codes "b") ∷ mode ∷ flag (codes "expose") ∷ conflicts ∷ flag (codes "reset") ∷ option (codes "assume") ∷ flag (codes "settles") ∷ cycles ∷ [])
 
 abbrev pub graph_app : App
 graph_app = fold with_rule (new_app (codes "graph")) (place (codes "a") ∷ mode ∷ [])

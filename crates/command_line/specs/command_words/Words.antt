@@ -5,7 +5,7 @@ use Rattle.command_line.specs.declared.command_words.command.Word.{Word}
 use Rattle.command_line.specs.declared.command_words.command.Word.TheVariants as word
 use Rattle.command_line.specs.declared.command_words.command.Subcommand.{Subcommand}
 use Rattle.command_line.specs.declared.command_words.command.Subcommand.TheVariants as subcommand
-use Rattle.command_line.specs.command_words.Command.{place, option, option_with, flag, conflicts, number, check_app, graph_app, sim_app, replay_app, settle_app, gen_app, lrat_app, cert_app, induct_app}
+use Rattle.command_line.specs.command_words.Command.{place, option, option_with, flag, conflicts, cycles, number, check_app, graph_app, sim_app, replay_app, settle_app, gen_app, lrat_app, cert_app, induct_app}
 
 abbrev pub word_rule : Word → Rule
 word_rule (word.Place id) = place id.now
@@ -13,6 +13,7 @@ word_rule (word.Option id) = option id.now
 word_rule (word.OptionWith id value) = option_with id.now value.now
 word_rule (word.Flag id) = flag id.now
 word_rule word.Conflicts = conflicts
+word_rule word.Cycles = cycles
 word_rule word.Number = number
 
 -- the command with each of these words more

@@ -22,6 +22,8 @@ enum Word<'a> {
     Flag(&'a str),
     /// The conflicts of one query.
     Conflicts,
+    /// The last cycle of a search.
+    Cycles,
     /// A number of 64 bits that must stand.
     Number,
 }
@@ -73,6 +75,7 @@ fn words_of<'a>(which: Subcommand) -> (&'a str, &'a [Word<'a>])
                 Word::Flag("reset"),
                 Word::Option("assume"),
                 Word::Flag("settles"),
+                Word::Cycles,
             ],
         ),
         Subcommand::Graph => ("graph", &[Word::Place("a"), MODE]),
@@ -136,6 +139,9 @@ fn argument<'a>(alloc: Global, word: Word<'a>) -> Arg<'a>
             .long("conflicts")
             .default_value("20000")
             .value_parser(ValueParser::Unsigned(0, 200_000)),
+        Word::Cycles => Arg::new(alloc, "cycles")
+            .long("cycles")
+            .value_parser(ValueParser::Unsigned(0, 1_000)),
         Word::Number => Arg::new(alloc, "n")
             .required(true)
             .value_parser(ValueParser::Unsigned(0, u64::MAX)),

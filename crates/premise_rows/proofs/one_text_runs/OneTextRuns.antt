@@ -25,6 +25,7 @@ job_equal held (Some (task.Settle a b s mode)) f can found is = absurd can
 job_equal held (Some (task.Gen seed regroup conflicts)) f can found is = absurd can
 job_equal held (Some (task.Lrat a b)) f can found is = absurd can
 job_equal held (Some (task.Cert a b pair form conflicts)) f can found is = absurd can
+job_equal held (Some (task.Search a b cycles conflicts)) f can found is = absurd can
 job_equal held (Some (task.Induct a b conflicts)) f can found is = absurd can
 
 pub is_answered : (held : Held) (job : Option Task) (name : StatusName) → OfCheck job (CanMeetItself held) → IsComplete held job name → IsAnswer name
@@ -38,6 +39,7 @@ is_answered held (Some (task.Settle a b s mode)) name can complete = absurd can
 is_answered held (Some (task.Gen seed regroup conflicts)) name can complete = absurd can
 is_answered held (Some (task.Lrat a b)) name can complete = absurd can
 is_answered held (Some (task.Cert a b pair form conflicts)) name can complete = absurd can
+is_answered held (Some (task.Search a b cycles conflicts)) name can complete = absurd can
 is_answered held (Some (task.Induct a b conflicts)) name can complete = absurd can
 
 -- the run ends equal, or at want of memory

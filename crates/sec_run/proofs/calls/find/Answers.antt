@@ -26,6 +26,9 @@ check-requires-clause-plain g c = (subst IsAllowed c.in-Check.is c.requires).2
 pub check-requires-clause-conflicts : goal.check-requires-clause-conflicts
 check-requires-clause-conflicts g c = (subst IsAllowed c.in-Check.is c.requires).0
 
+pub compare_in_cycles-requires : goal.compare_in_cycles-requires
+compare_in_cycles-requires g c = (subst IsAllowed c.in-Search.is c.requires).0
+
 pub returns-in-Gen-clause-found : goal.returns-in-Gen-clause-found
 returns-in-Gen-clause-found g c =
     let held = g.S.Shelf.held c.args.shelf.now in

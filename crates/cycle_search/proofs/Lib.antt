@@ -1,0 +1,7 @@
+pub mod Growing
+pub mod Asking
+pub mod Uncut
+pub mod PairsIn
+pub mod Sides
+pub mod Searching
+pub mod Numbering

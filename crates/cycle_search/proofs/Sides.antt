@@ -1,0 +1,80 @@
+-- The pairs' signals of one circuit in cycles: what is unfolded, and a refusal because of it.
+use Rattle.std.proofs.Common.{◌≡◌, ℕ, ◌+◌, ◌<◌, List, Err, sym, subst, arith, inl, inr}
+use Rattle.std.specs.Prelude.{◌⊎◌}
+use Rattle.std.specs.List.{AllZip, Contains}
+use Rattle.circuit_theory.specs.declared.Side.{Side}
+use Rattle.circuit_theory.specs.declared.Side.TheVariants.{A, B}
+use Rattle.circuit_laws.specs.reset_laws.Weight.{IsResetOver}
+use Rattle.flat_net.specs.View.{NetView, circuit_of}
+use Rattle.aig.specs.declared.node.Node.{Node}
+use Rattle.cbf_unfold.specs.declared.unfold_places.signal_function.Unfolded.{Unfolded}
+use Rattle.sec_setup.specs.declared.ports.pairs.SignalPair.{SignalPair}
+use Rattle.sec_setup.specs.declared.setup.Setup.{Setup}
+use Rattle.sec_setup.specs.ports.Pairs.{outputs_of}
+use Rattle.reset_form.specs.declared.reset_functions.bases.Bases.{Bases}
+use Rattle.reset_form.specs.declared.reset_functions.error.ResetError.{ResetError}
+use Rattle.reset_form.specs.declared.reset_functions.error.ResetError.TheVariants as refused
+use Rattle.reset_form.specs.reset_unfold.Places.{starts_of}
+use Rattle.reset_form.specs.reset_functions.Pairs.{IsRefusalOf, IsTooLarge}
+use Rattle.cycle_search.specs.Cycles.{Compared}
+use Rattle.cycle_search.specs.Outputs.{side_of, IsFunctionIn, IsSideOf, IsDoneOrIn, HasDoneIn, HasDoneBefore, IsOutputUpTo, IsOneTooLarge}
+use Rattle.cycle_search.specs.Settings.{IsSetting}
+use Rattle.cycle_search.proofs.PairsIn.{own_pairs}
+
+-- the same functions, of the setup's own net, numbers and pairs
+pub functions_as : (n m : NetView) → m ≡ n → (order numbers : List ℕ) → numbers ≡ order → (base first : ℕ) → first ≡ base → (g : List Node) (places : List (ℕ × ℕ)) (side : Side) (cycle : ℕ) (items pairs : List SignalPair) → items ≡ pairs →
+    (us vs : List Unfolded) → vs ≡ us → AllZip (IsFunctionIn m numbers first g places side cycle) items us → AllZip (IsFunctionIn n order base g places side cycle) pairs vs
+functions_as n m net order numbers order_is base first base_is g places side cycle items pairs same us vs slice are =
+    subst (AllZip (IsFunctionIn n order base g places side cycle) pairs) (sym slice)
+    (subst (λ (ps : List SignalPair). AllZip (IsFunctionIn n order base g places side cycle) ps us) same
+    (subst (λ (k : ℕ). AllZip (IsFunctionIn n order k g places side cycle) items us) base_is
+    (subst (λ (l : List ℕ). AllZip (IsFunctionIn n l first g places side cycle) items us) order_is (subst (λ (k : NetView). AllZip (IsFunctionIn k numbers first g places side cycle) items us) net are))))
+
+-- all cycles up to this one
+pub done_all : (side : Side) (cycle : ℕ) (pairs items : List SignalPair) → items ≡ pairs → (old new : List (ℕ × ℕ)) → HasDoneBefore side pairs cycle old → HasDoneIn side items cycle old new → HasDoneBefore side pairs (cycle + 1) new
+done_all side cycle pairs items same old new before here p = (λ h. forth ((here p).0 h), λ h. (here p).1 (back h.0 h.1 (order p.0 cycle h.0)))
+  where
+    order : (i j : ℕ) → i < j + 1 → (i < j) ⊎ (i ≡ j)
+    order i j h = grind arith
+
+    as_pair : (s : ℕ) → IsSideOf side items s → IsSideOf side pairs s
+    as_pair s h = subst (λ (ps : List SignalPair). IsSideOf side ps s) same h
+
+    as_item : (s : ℕ) → IsSideOf side pairs s → IsSideOf side items s
+    as_item s h = subst (λ (ps : List SignalPair). IsSideOf side ps s) (sym same) h
+
+    forth : IsDoneOrIn side items cycle old p → (p.0 < cycle + 1) × IsSideOf side pairs p.1
+    forth (inl h) = let b = (before p).0 h in (omega (arith, b.0), b.1)
+    forth (inr e) = (omega (arith, e.0), as_pair p.1 e.1)
+
+    back : p.0 < cycle + 1 → IsSideOf side pairs p.1 → (p.0 < cycle) ⊎ (p.0 ≡ cycle) → IsDoneOrIn side items cycle old p
+    back h own (inl l) = inl ((before p).1 (l, own))
+    back h own (inr e) = inr (e, as_item p.1 own)
+
+-- what is unfolded up to a cycle are outputs
+outputs_up_to : (side : Side) (n : NetView) (cycle : ℕ) (pairs items : List SignalPair) → items ≡ pairs → ((x : SignalPair) → Contains pairs x → Contains (outputs_of n) (side_of side x)) → (done : List (ℕ × ℕ)) → HasDoneBefore side pairs cycle done →
+    (p : ℕ × ℕ) → IsDoneOrIn side items cycle done p → IsOutputUpTo n cycle p
+outputs_up_to side n cycle pairs items same own done before p h = go h
+  where
+    shown : IsSideOf side pairs p.1 → Contains (outputs_of n) p.1
+    shown k = subst (Contains (outputs_of n)) (sym k.2) (own k.0 k.1)
+
+    go : IsDoneOrIn side items cycle done p → IsOutputUpTo n cycle p
+    go (inl k) = let b = (before p).0 k in (omega (arith, b.0), shown b.1)
+    go (inr e) = (omega (arith, e.0), shown (subst (λ (ps : List SignalPair). IsSideOf side ps p.1) same e.1))
+
+large_as : (n m : NetView) → m ≡ n → (P Q : ℕ × ℕ → Type 0) → ((p : ℕ × ℕ) → P p → Q p) → IsTooLarge m P → IsTooLarge n Q
+large_as n m net P Q wider h = (h.0, λ p k. wider p (h.1 p k), subst (λ (k : NetView). IsResetOver (circuit_of k) (starts_of h.0) 2000000) net h.2)
+
+module _ (s : Setup) (setting : IsSetting s) (b : Bases) (cycle conflicts : ℕ) where
+  pub left_refused : (m : NetView) → m ≡ s.left.now → (items : List SignalPair) → items ≡ s.pairs → (done : List (ℕ × ℕ)) → HasDoneBefore A s.pairs cycle done → (e : ResetError) → IsRefusalOf A m (IsDoneOrIn A items cycle done) e → Compared s b cycle conflicts (Err e)
+  left_refused m net items same done before (refused.TooLarge other) h =
+      subst (λ (x : Side). IsOneTooLarge s.left.now s.right.now cycle x) (sym h.0)
+      (large_as s.left.now m net (IsDoneOrIn A items cycle done) (IsOutputUpTo s.left.now cycle) (outputs_up_to A s.left.now cycle s.pairs items same (own_pairs s setting).left done before) h.1)
+  left_refused m net items same done before refused.NoMemory h = tt
+
+  pub right_refused : (m : NetView) → m ≡ s.right.now → (items : List SignalPair) → items ≡ s.pairs → (done : List (ℕ × ℕ)) → HasDoneBefore B s.pairs cycle done → (e : ResetError) → IsRefusalOf B m (IsDoneOrIn B items cycle done) e → Compared s b cycle conflicts (Err e)
+  right_refused m net items same done before (refused.TooLarge other) h =
+      subst (λ (x : Side). IsOneTooLarge s.left.now s.right.now cycle x) (sym h.0)
+      (large_as s.right.now m net (IsDoneOrIn B items cycle done) (IsOutputUpTo s.right.now cycle) (outputs_up_to B s.right.now cycle s.pairs items same (own_pairs s setting).right done before) h.1)
+  right_refused m net items same done before refused.NoMemory h = tt

@@ -1,0 +1,94 @@
+-- What is found of pairs of signals in one cycle of runs from the initial values.
+use Rattle.std.specs.Prelude.{◌≡◌, ◌≢◌, ℕ, ◌+◌, ◌<◌, ◌≤◌, List, length, map, Option, Some, None, slice_get, Result, Ok, Err}
+use Rattle.std.specs.List.{All, AllZip}
+use Rattle.circuit_theory.specs.declared.Side.TheVariants.{A, B}
+use Rattle.sec_base.specs.declared.basics.PairAnswer.{PairAnswer}
+use Rattle.sec_base.specs.declared.basics.PairAnswer.TheVariants as answer
+use Rattle.circuit_laws.specs.reset_laws.Reset.{IsResetWitness}
+use Rattle.pair_decide.specs.declared.query.Proof.{Proof}
+use Rattle.cbf_unfold.specs.declared.unfold_places.signal_function.Unfolded.{Unfolded}
+use Rattle.obligations.specs.declared.outcome.verdict.PairResult.{PairResult}
+use Rattle.obligations.specs.declared.outcome.verdict.ResetWitness.{ResetWitness}
+use Rattle.outcome_fits.specs.ResetLimits.{IsUndecidedAt}
+use Rattle.outcome_fits.specs.ResetOutcome.{Numbered, AgreeAt, DifferAt, IsFirstLimit}
+use Rattle.sec_setup.specs.declared.setup.Setup.{Setup}
+use Rattle.sec_setup.specs.ports.Pairs.{NamedPair, places_of}
+use Rattle.reset_form.specs.declared.reset_functions.bases.Bases.{Bases}
+use Rattle.reset_form.specs.declared.reset_functions.functions.Functions.{Functions}
+use Rattle.reset_form.specs.declared.reset_functions.error.ResetError.{ResetError}
+use Rattle.reset_form.specs.declared.reset_functions.error.ResetError.TheVariants as refused
+use Rattle.reset_form.specs.declared.reset_asked.findings.ResetVerdict.{ResetVerdict}
+use Rattle.reset_form.specs.declared.reset_asked.findings.ResetVerdict.TheVariants as verdict
+use Rattle.reset_form.specs.reset_asked.Numbers.{numbered}
+use Rattle.reset_form.specs.reset_unfold.Unfolded.{FitsReset}
+use Rattle.cycle_search.specs.declared.cycle.InCycle.{InCycle}
+use Rattle.cycle_search.specs.declared.cycle.Unfolding.{Unfolding}
+use Rattle.cycle_search.specs.Outputs.{IsFunctionIn, HasDoneBefore, IsOneTooLarge}
+
+-- What each answer says of a pair in the cycle, and the proof that stands beside it: one at the limit alone.
+abbrev pub AnswerIn : Numbered → ℕ → ℕ → ℕ → ℕ → PairAnswer → Option Proof → Type 0
+AnswerIn n conflicts p q t answer.Equal None = AgreeAt n p q t
+AnswerIn n conflicts p q t answer.Equal (Some proof) = ⊥
+AnswerIn n conflicts p q t answer.Different None = DifferAt n p q t
+AnswerIn n conflicts p q t answer.Different (Some proof) = ⊥
+AnswerIn n conflicts p q t answer.NotShown proof = ⊥
+AnswerIn n conflicts p q t answer.Limit None = ⊥
+AnswerIn n conflicts p q t answer.Limit (Some proof) = IsUndecidedAt n.a n.b n.left n.right n.left_base n.right_base conflicts p q t proof
+
+-- the result of a pair: its name, the cycle, and the answer
+pub record ResultIn (n : Numbered) (conflicts t : ℕ) (x : NamedPair ℕ ℕ) (result : PairResult) : Type 0 where
+  pub name_is : result.name ≡ x.name
+  pub size_is : result.size ≡ t
+  pub answer_is : AnswerIn n conflicts x.left x.right t result.answer result.proof
+
+-- The first pair that is different in the cycle, and a sequence with two power-ups that make it differ there: by an assignment of the
+-- variables of both functions, up to 16 variables the least one.
+pub record IsDifferenceIn (n : Numbered) (t : ℕ) (pairs : List (NamedPair ℕ ℕ)) (results : List PairResult) (w : ResetWitness) : Type 0 where
+  pub index : ℕ
+  pub place : NamedPair ℕ ℕ
+  pub result : PairResult
+  pub place_is : slice_get pairs index ≡ Some place
+  pub result_is : slice_get results index ≡ Some result
+  pub answered : result.answer ≡ answer.Different
+  pub earlier : (i : ℕ) (r : PairResult) → i < index → slice_get results i ≡ Some r → r.answer ≢ answer.Different
+  pub named : w.witness.pair ≡ place.name
+  pub cycle_is : w.witness.cycle ≡ t
+  pub names_are : w.witness.stimulus.names ≡ n.columns
+  pub witness : IsResetWitness n.a n.b n.left n.right n.left_base n.right_base place.left place.right (length n.columns) w.witness.stimulus.rows w.left_power w.right_power t w.witness.left w.witness.right
+
+-- the first of different and limit that some pair has, and equal where every pair is equal
+abbrev pub VerdictIn : Numbered → ℕ → List (NamedPair ℕ ℕ) → List PairResult → ResetVerdict → Type 0
+VerdictIn n t pairs results verdict.Equal = All (λ (r : PairResult). r.answer ≡ answer.Equal) results
+VerdictIn n t pairs results (verdict.Different w) = IsDifferenceIn n t pairs results w
+VerdictIn n t pairs results (verdict.Limit name) = IsFirstLimit results name
+
+-- one result for each pair in order, and the verdict
+pub record IsFoundIn (n : Numbered) (conflicts t : ℕ) (pairs : List (NamedPair ℕ ℕ)) (f : InCycle) : Type 0 where
+  pub pairs_fit : AllZip (ResultIn n conflicts t) pairs f.pairs
+  pub verdict_is : VerdictIn n t pairs f.pairs f.verdict
+
+-- Both circuits are unfolded in the cycles before this one, on one graph and table, which are no larger than what is unfolded weighs.
+pub record IsUnfoldedBefore (s : Setup) (b : Bases) (cycle : ℕ) (u : Unfolding) : Type 0 where
+  pub left_net : u.left.net ≡ s.left.now
+  pub left_order : u.left.order ≡ s.orders.left
+  pub left_base : u.left.base ≡ b.left
+  pub right_net : u.right.net ≡ s.right.now
+  pub right_order : u.right.order ≡ s.orders.right
+  pub right_base : u.right.base ≡ b.right
+  pub left_fits : FitsReset u.left u.functions.aig u.functions.places
+  pub right_fits : FitsReset u.right u.functions.aig u.functions.places
+  pub left_done : HasDoneBefore A s.pairs cycle u.left.done
+  pub right_done : HasDoneBefore B s.pairs cycle u.right.done
+  pub nodes : length u.functions.aig ≤ 1 + u.left.weight + u.right.weight
+  pub entries : length u.functions.places ≤ u.left.weight + u.right.weight
+
+-- the functions of both signals of each pair in the cycle
+pub record AreFunctionsIn (s : Setup) (b : Bases) (f : Functions) (cycle : ℕ) (left right : List Unfolded) : Type 0 where
+  pub left_are : AllZip (IsFunctionIn s.left.now s.orders.left b.left f.aig f.places A cycle) s.pairs left
+  pub right_are : AllZip (IsFunctionIn s.right.now s.orders.right b.right f.aig f.places B cycle) s.pairs right
+
+-- what is found in the cycle, or the circuit whose outputs in the cycles up to this one weigh more than 2,000,000 together
+abbrev pub Compared : Setup → Bases → ℕ → ℕ → Result InCycle ResetError → Type 0
+Compared s b cycle conflicts (Ok f) = IsFoundIn (numbered s b) conflicts cycle (map places_of s.pairs) f
+Compared s b cycle conflicts (Err (refused.TooLarge side)) = IsOneTooLarge s.left.now s.right.now cycle side
+Compared s b cycle conflicts (Err refused.NoMemory) = Unit {0}

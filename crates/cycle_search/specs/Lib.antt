@@ -1,0 +1,9 @@
+pub mod Settings
+pub mod Outputs
+pub mod Asked
+pub mod Shown
+pub mod Cycles
+pub mod Depths
+pub mod Searches
+pub mod Refusals
+pub mod search_report

@@ -1,0 +1,16 @@
+//! A search for a difference of two circuits in runs from the latches' initial values, cycle by cycle, whether latches lie on cycles or
+//! not.
+#![tactic(auto)]
+
+mod asked;
+mod cycle;
+mod depths;
+mod found;
+mod outputs;
+mod search;
+pub mod search_report;
+mod setting;
+mod shown;
+
+pub use found::{SearchError, SearchVerdict, Searched};
+pub use search::search_cycles;

@@ -1,0 +1,4 @@
+pub mod Lifted
+pub mod Meaning
+pub mod Means
+pub mod Complete

@@ -1,0 +1,2 @@
+pub mod search_meaning
+pub mod Ends

@@ -1,0 +1,108 @@
+//! Two nets searched for a difference.
+
+ghost use Rattle.std.specs.Prelude.{◌≡◌, ◌≤◌, ◌++◌, IfOk, OnOk, option_to_list};
+ghost use Rattle.std.specs.List.{filter_map};
+ghost use Rattle.flat_net.specs.Comparable.{IsComparable};
+ghost use Rattle.cycle_search.specs.search_report.Report.{search_text};
+ghost use Rattle.sec_jobs.specs.job_search.search_meaning.Judged.{judgement_of, proofs_of};
+ghost use Rattle.sec_jobs.specs.job_search.Ends.{IsJudgedBy, judged_end};
+
+use cycle_search::search_report::report;
+use cycle_search::{SearchError, SearchVerdict, Searched, search_cycles};
+use flat_net::Net;
+use job_base::{Finding, Judgement, Proofs, Refusal, Stop};
+use obligations::PairResults;
+use obligations::outcome::PairResult;
+use sec_base::{MAX_CONFLICTS, NoMemory, Text};
+use std::alloc::Global;
+
+/// What is judged of two circuits: with the proofs of the queries that met the limit, and the report.
+#[derive(Drop)]
+pub(crate) struct Judged {
+    pub(crate) judgement: Judgement,
+    pub(crate) proofs: Proofs,
+    pub(crate) text: Text,
+}
+
+/// Searches the circuits for a difference, where their interfaces match.
+pub(crate) fn judge_nets(
+    alloc: Global,
+    a: &Net,
+    b: &Net,
+    cycles: u32,
+    conflicts: u32,
+) -> Result<Judged, SearchError>
+    requires left { IsComparable a.now }
+    requires right { IsComparable b.now }
+    requires conflicts { conflicts ≤ MAX_CONFLICTS }
+    ensures { IsJudgedBy a.now b.now cycles conflicts result }
+{
+    let searched = search_cycles(alloc, a, b, cycles, conflicts)?;
+    let text = report(alloc, a, b, cycles, conflicts, &searched)?;
+    let judgement = judgement_of(&searched.verdict);
+    let proofs = proofs_of(alloc, searched)?;
+    Ok(Judged {
+        judgement,
+        proofs,
+        text,
+    })
+}
+
+fn judgement_of(verdict: &SearchVerdict) -> Judgement
+    ensures { result ≡ judgement_of verdict.now }
+{
+    match verdict {
+        SearchVerdict::Equal => Judgement::Equal,
+        SearchVerdict::NoDifference(_) => Judgement::NotShown,
+        SearchVerdict::Different(_) => Judgement::Different,
+        SearchVerdict::Limit(_) => Judgement::Limit,
+    }
+}
+
+/// The proofs of the pairs that met the limit, in their order.
+fn proofs_of(alloc: Global, searched: Searched) -> Result<Proofs, NoMemory>
+    ensures { IfOk result (λ proofs. proofs ≡ proofs_of searched.pairs) }
+{
+    let Searched { pairs, .. } = searched;
+    pair_proofs(alloc, pairs)
+}
+
+/// The proofs of these pairs, in their order.
+fn pair_proofs(alloc: Global, pairs: PairResults) -> Result<Proofs, NoMemory>
+    ensures { IfOk result (λ proofs. proofs ≡ proofs_of pairs) }
+{
+    let mut proofs = Proofs::new(alloc);
+    for pair in pairs.into_vec() {
+        keep_proof(&mut proofs, pair)?;
+    }
+    Ok(proofs)
+}
+
+/// Puts the pair's proof behind the others, where it has one.
+fn keep_proof(proofs: &mut Proofs, pair: PairResult) -> Result<(), NoMemory>
+    ensures { OnOk result (proofs.new ≡ proofs.old ++ option_to_list pair.proof) }
+{
+    match pair.into_proof() {
+        Some(proof) => proofs.push(proof),
+        None => Ok(()),
+    }
+}
+
+/// What is found by the judgement, or by its refusal.
+pub(crate) fn judged_end(judged: Result<Judged, SearchError>) -> Result<Finding, Stop>
+    ensures { result ≡ judged_end judged }
+{
+    match judged {
+        Ok(judged) => {
+            let Judged {
+                judgement,
+                proofs,
+                text,
+            } = judged;
+            Ok(Finding::Judged(judgement, proofs, text))
+        }
+        Err(SearchError::Interface(name)) => Ok(Finding::Refused(Refusal::Interface(name))),
+        Err(SearchError::TooLarge(side)) => Ok(Finding::Refused(Refusal::TooLarge(side))),
+        Err(SearchError::NoMemory) => Err(Stop::NoMemory),
+    }
+}
