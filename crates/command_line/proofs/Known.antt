@@ -137,7 +137,7 @@ abbrev IsJob : Shape → Type 0
 IsJob s = (words : List Text) → level_fault s [] nothing_held words false [] ≡ [] → bytes_eq s.name (codes "help") ≡ false → mode_fits s.name (rows_after s.rules [] words) ≡ true → is_some (task_in s.name (rows_after s.rules [] words)) ≡ true
 
 check_own : EachRule (IsOwn (part check_app.top).rules) (part check_app.top).rules
-check_own = ((refl, omega arith), ((refl, omega arith), ((refl, omega arith), ((refl, omega arith), ((refl, omega arith), ((refl, omega arith), ((refl, omega arith), ((refl, omega arith), ((refl, tt), tt)))))))))
+check_own = ((refl, omega arith), ((refl, omega arith), ((refl, omega arith), ((refl, omega arith), ((refl, omega arith), ((refl, omega arith), ((refl, omega arith), ((refl, omega arith), ((refl, omega arith), ((refl, tt), tt))))))))))
 
 check_is : IsJob (part check_app.top)
 check_is words e help known =

@@ -174,8 +174,8 @@ fn check_in(alloc: Global, matches: &ArgMatches<'_>) -> Result<Option<Task>, NoM
     match word(matches, "cycles") {
         Some(cycles) => search_in(alloc, a, b, settings, word(matches, "assume"), cycles),
         None => {
-            let settles = is_set(matches, "settles");
-            checked_in(alloc, a, b, settings, word(matches, "assume"), settles)
+            let assumed = word(matches, "assume");
+            checked_in(alloc, a, b, settings, assumed, is_set(matches, "settles"))
         }
     }
 }
