@@ -48,7 +48,7 @@ not_shown_verdict (verdict.Limit pair) e = absurd (cc)
 not_shown_verdict (verdict.SplitLimit left right proof) e = absurd (cc)
 
 -- what is said of nets, of their texts
-of_texts : (left right : Option (List ℕ)) (a b : NetView) (P : List ℕ → List ℕ → Type 0) → IfSome left (λ x. Loads x a) → IfSome right (λ y. Loads y b) → ((x y : List ℕ) → Loads x a → Loads y b → P x y) → OfTexts left right P
+pub of_texts : (left right : Option (List ℕ)) (a b : NetView) (P : List ℕ → List ℕ → Type 0) → IfSome left (λ x. Loads x a) → IfSome right (λ y. Loads y b) → ((x y : List ℕ) → Loads x a → Loads y b → P x y) → OfTexts left right P
 of_texts left right a b P l r f = record { left_loads = is_loaded left a l; right_loads = is_loaded right b r; said = both left right l r }
   where
     both : (o o' : Option (List ℕ)) → IfSome o (λ x. Loads x a) → IfSome o' (λ y. Loads y b) → IfSome o (λ x. IfSome o' (λ y. P x y))

@@ -29,18 +29,12 @@ use Rattle.cycle_search.specs.declared.found.SearchVerdict.{SearchVerdict}
 use Rattle.cycle_search.specs.declared.found.SearchVerdict.TheVariants as verdict
 use Rattle.cycle_search.specs.Cycles.{AnswerIn, ResultIn}
 use Rattle.cycle_search.specs.Searches.{VerdictFits}
-use Rattle.sec_jobs.specs.job_induct.induct_meaning.Answer.{OfTexts}
+use Rattle.sec_jobs.proofs.job_induct.induct_meaning.Means.{of_texts}
 use Rattle.sec_jobs.specs.job_induct.induct_meaning.Found.{OfNets}
 use Rattle.sec_jobs.specs.job_search.search_meaning.Judged.{judgement_of, IsJudged}
 use Rattle.sec_jobs.specs.job_search.search_meaning.Found.{IsSearchFound}
 use Rattle.sec_jobs.specs.job_search.search_meaning.Answer.{AreSearchedTexts, CyclesAgree, CyclesAgreeUpTo, CyclesDiffer, CyclesUndecided, SearchMeans}
 use Rattle.sec_jobs.proofs.job_search.search_meaning.Lifted.{agree_up_to_up, resets_differ_up}
-
--- what is said of nets, of their texts
-of_texts : (left right : Option (List ℕ)) (a b : NetView) (P : List ℕ → List ℕ → Type 0) → IfSome left (λ x. Loads x a) → IfSome right (λ y. Loads y b) → ((x y : List ℕ) → Loads x a → Loads y b → P x y) → OfTexts left right P
-of_texts None right a b P l r f = tt
-of_texts (Some x) None a b P l r f = tt
-of_texts (Some x) (Some y) a b P l r f = f x y l r
 
 -- a pair at the limit has a proof that its query was given up
 record IsGivenUp (n : Numbered) (conflicts p q t : ℕ) (proof : Option Proof) : Type 0 where
