@@ -32,7 +32,7 @@ use Rattle.job_check.specs.check_meaning.check_found.Check.{Check, check_paths}
 use Rattle.job_check.specs.check_meaning.check_found.Ends.{compare_end, EndsBeside, FoundOf}
 use Rattle.job_check.specs.check_meaning.check_found.Found.{IsFoundOf}
 use Rattle.job_check.proofs.check_meaning.check_found.Finds.{beside_end, no_fault_compared}
-use Rattle.job_settles.specs.Found.{IsSettledBy, IsSettlesFound, IsSettledEnd, SettlesFound, SettlesBeside, SettlesBoth, settled_finding}
+use Rattle.job_settles.specs.Found.{IsSettledByTwo, IsSettledByThree, IsSettlesFound, IsSettledEnd, SettlesFound, SettlesBeside, SettlesBoth, settled_finding}
 use Rattle.job_settles.specs.Settled.{SettledIn, SettledUnderIn}
 
 -- it is no finding of a comparison
@@ -116,18 +116,6 @@ module _ (held later : Held) (before middle now : List ℕ → ℕ) (same : Same
   beside_before right assumed r (inl h) = inl (h.0, later_fails (later right) (held right) (before right) (middle right) (now right) h.0 (same right) (grew right) h.1, h.2)
   beside_before right assumed r (inr h) = inr (h.0, subst (λ (o : Option (List ℕ)). IfSome o (λ y. Loads y h.0)) (same right) h.1, both_before h.0 assumed r h.2)
 
--- what is said of two texts, and of three
-two_told : (o p : Option (List ℕ)) (F G : List ℕ → Type 0) (H : List ℕ → List ℕ → Type 0) → ((x y : List ℕ) → F x → G y → H x y) → IfSome o F → IfSome p G → IfSome o (λ x. IfSome p (λ y. H x y))
-two_told None p F G H f l r = tt
-two_told (Some x) None F G H f l r = tt
-two_told (Some x) (Some y) F G H f l r = f x y l r
-
-three_told : (o p q : Option (List ℕ)) (F G K : List ℕ → Type 0) (H : List ℕ → List ℕ → List ℕ → Type 0) → ((x y z : List ℕ) → F x → G y → K z → H x y z) → IfSome o F → IfSome p G → IfSome q K → IfSome o (λ x. IfSome p (λ y. IfSome q (λ z. H x y z)))
-three_told None p q F G K H f l r t = tt
-three_told (Some x) None q F G K H f l r t = tt
-three_told (Some x) (Some y) None F G K H f l r t = tt
-three_told (Some x) (Some y) (Some z) F G K H f l r t = f x y z l r t
-
 -- an answer that is refused is that of a comparison without cares
 refused_in : (mode : Mode) (a b : NetView) (s : Settings) (e : CompareError) → SettledIn mode a b s (Err e) → ComparedIn mode a b s (Err e)
 refused_in Plain a b s e h = h
@@ -152,8 +140,8 @@ module _ (held : Held) (before now : List ℕ → ℕ) (left right : List ℕ) (
   other_end assumed r is h = other_found held (check_with assumed) (Failed assumed) r is (beside_end held before now left right settings a a_loads assumed r h)
 
   module _ (b : NetView) (b_loads : IfSome (held right) (λ y. Loads y b)) where
-    two_settled : (s : Settled) → SettledIn settings.mode a b settings (Ok s) → IsSettledBy held (check_with None) s.outcome s.cares
-    two_settled s h = two_told (held left) (held right) (λ x. Loads x a) (λ y. Loads y b) _ (λ x y l r. (a, b, l, r, h)) a_loads b_loads
+    two_settled : (s : Settled) → SettledIn settings.mode a b settings (Ok s) → IsSettledByTwo held (check_with None) s.outcome s.cares
+    two_settled s h = record { a = a; b = b; left_loads = a_loads; right_loads = b_loads; said = h }
 
     two_end : (s : Result Settled CompareError) (r : Result Finding Stop) → SettledIn settings.mode a b settings s → IsSettledEnd settings s r → Found None r
     two_end (Ok s) r h (inl is) = subst (Found None) (sym is) (record { outcome = s.outcome; cares = s.cares; settled = two_settled s h; judged = refl; proofs = refl; text_is = refl })
@@ -161,8 +149,8 @@ module _ (held : Held) (before now : List ℕ → ℕ) (left right : List ℕ) (
     two_end (Err e) r h is = other_end None r (subst IsOther (sym is) (refused_other settings e)) (inr (b, b_loads, (Err e, refused_in settings.mode a b settings e h, is)))
 
     module _ (path : List ℕ) (c : NetView) (c_loads : IfSome (held path) (λ z. Loads z c)) where
-      three_settled : (s : Settled) → SettledUnderIn settings.mode a b c settings (Ok s) → IsSettledBy held (check_with (Some path)) s.outcome s.cares
-      three_settled s h = three_told (held left) (held right) (held path) (λ x. Loads x a) (λ y. Loads y b) (λ z. Loads z c) _ (λ x y z l r t. (a, b, c, l, r, t, h)) a_loads b_loads c_loads
+      three_settled : (s : Settled) → SettledUnderIn settings.mode a b c settings (Ok s) → IsSettledByThree held (check_with (Some path)) path s.outcome s.cares
+      three_settled s h = record { a = a; b = b; c = c; left_loads = a_loads; right_loads = b_loads; assumed_loads = c_loads; said = h }
 
       three_end : (s : Result Settled CompareError) (r : Result Finding Stop) → SettledUnderIn settings.mode a b c settings s → IsSettledEnd settings s r → Found (Some path) r
       three_end (Ok s) r h (inl is) = subst (Found (Some path)) (sym is) (record { outcome = s.outcome; cares = s.cares; settled = three_settled s h; judged = refl; proofs = refl; text_is = refl })

@@ -1,5 +1,5 @@
 -- What the status of a comparison with cares means for the texts.
-use Rattle.std.specs.Prelude.{IfSome, find, option_map}
+use Rattle.std.specs.Prelude.{find, option_map}
 use Rattle.std.proofs.Common.{◌≡◌, ◌∙◌, ℕ, Bool, true, false, cond, List, [], ◌∷◌, refl, sym, ap, subst, Option, Some, None, Ok}
 use Rattle.std.specs.List.{All}
 use Rattle.std.proofs.lemmas.List.Elements.{All-nil, All-cons}
@@ -39,10 +39,6 @@ use Rattle.job_settles.specs.Report.{first_limit, first_never, first_where, is_l
 use Rattle.job_settles.specs.Settled.{SettledIn, SettledUnderIn}
 use Rattle.job_settles.proofs.Settling.{settled_says, settled_says_under}
 
-if_some : {X : Type 0} {F G : X → Type 0} (o : Option X) → ((x : X) → F x → G x) → IfSome o F → IfSome o G
-if_some None f h = tt
-if_some (Some x) f h = f x h
-
 -- the answer with cares is that of the comparison
 compared_in : (mode : Mode) (a b : NetView) (s : Settings) (o : Outcome) (cares : List PairCare) → SettledIn mode a b s (Ok (record { outcome = o; cares = cares })) → ComparedIn mode a b s (Ok o)
 compared_in Plain a b s o cares h = h.0
@@ -57,14 +53,28 @@ module _ (held : Held) (left right : List ℕ) (settings : Settings) (o : Outcom
   check_with assumed = record { left = left; right = right; settings = settings; assumed = assumed }
 
   answered : (assumed : Option (List ℕ)) → IsSettledBy held (check_with assumed) o cares → IsAnsweredBy held (check_with assumed) (Ok o)
-  answered None h = if_some (held left) (λ x here. if_some (held right) (λ y n. (n.0, n.1, n.2, n.3, compared_in settings.mode n.0 n.1 settings o cares n.4)) here) h
-  answered (Some path) h =
-      if_some (held left) (λ x here. if_some (held right) (λ y there. if_some (held path) (λ z n. (n.0, n.1, n.2, n.3, n.4, n.5, compared_under_in settings.mode n.0 n.1 n.2 settings o cares n.6)) there) here) h
+  answered None n = record { a = n.a; b = n.b; left_loads = n.left_loads; right_loads = n.right_loads; said = compared_in settings.mode n.a n.b settings o cares n.said }
+  answered (Some path) n = record {
+    a = n.a;
+    b = n.b;
+    c = n.c;
+    left_loads = n.left_loads;
+    right_loads = n.right_loads;
+    assumed_loads = n.assumed_loads;
+    said = compared_under_in settings.mode n.a n.b n.c settings o cares n.said;
+  }
 
   says : (assumed : Option (List ℕ)) → IsSettledBy held (check_with assumed) o cares → TextsSayNever held (check_with assumed) o cares
-  says None h = if_some (held left) (λ x here. if_some (held right) (λ y n. (n.0, n.1, n.2, n.3, settled_says settings.mode n.0 n.1 settings o cares n.4)) here) h
-  says (Some path) h =
-      if_some (held left) (λ x here. if_some (held right) (λ y there. if_some (held path) (λ z n. (n.0, n.1, n.2, n.3, n.4, n.5, settled_says_under settings.mode n.0 n.1 n.2 settings o cares n.6)) there) here) h
+  says None n = record { a = n.a; b = n.b; left_loads = n.left_loads; right_loads = n.right_loads; said = settled_says settings.mode n.a n.b settings o cares n.said }
+  says (Some path) n = record {
+    a = n.a;
+    b = n.b;
+    c = n.c;
+    left_loads = n.left_loads;
+    right_loads = n.right_loads;
+    assumed_loads = n.assumed_loads;
+    said = settled_says_under settings.mode n.a n.b n.c settings o cares n.said;
+  }
 
 -- the report without cares, as it would be written
 written : (before other : Option (List ℕ)) (o : Outcome) (s : Settings) → Takes before other (report_text s o) → (v : Verdict) → o.verdict ≡ v → IsWrittenAs before other (finding.Checked o s) (outcome_proofs o) (verdict_status v)

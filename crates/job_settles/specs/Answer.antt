@@ -1,5 +1,5 @@
 -- What the status of a comparison with the cares of its pairs says of the texts.
-use Rattle.std.specs.Prelude.{◌≡◌, ℕ, List, Option, All}
+use Rattle.std.specs.Prelude.{◌≡◌, ℕ, List, Option, None, Some, All}
 use Rattle.sec_base.specs.base_shelves.Outside.{Takes}
 use Rattle.obligations.specs.outcome.Proof.{Proof}
 use Rattle.obligations.specs.outcome.Report.{report_text}
@@ -12,14 +12,18 @@ use Rattle.job_base.specs.declared.status.StatusName.TheVariants as status
 use Rattle.job_base.specs.sec_files.job_files.Reading.{Held}
 use Rattle.job_check.specs.check_meaning.Answer.{CheckMeans}
 use Rattle.job_check.specs.check_meaning.check_found.Check.{Check}
-use Rattle.job_check.specs.check_meaning.check_found.Found.{OfGiven, OfNets, OfThreeNets}
+use Rattle.job_check.specs.check_meaning.check_found.Found.{OfNets, OfThreeNets}
 use Rattle.job_settles.specs.Found.{IsSettledBy}
 use Rattle.job_settles.specs.Report.{settles_judgement, settles_proofs, settles_text}
 use Rattle.job_settles.specs.Says.{SaysNeverOfAll, SaysNeverOfAllUnder}
 
--- what is said of the nets that the texts load as, in the runs that meet the assumption where there is one
+-- What is said of the nets that the texts load as, without an assumption; with one, in the runs that meet it.
+abbrev pub NetsSayNever : Held → Check → Option (List ℕ) → Outcome → List PairCare → Type 0
+NetsSayNever held check None o cares = OfNets (held check.left) (held check.right) (λ a b. SaysNeverOfAll a b o cares)
+NetsSayNever held check (Some path) o cares = OfThreeNets (held check.left) (held check.right) (held path) (λ a b c. SaysNeverOfAllUnder a b c o cares)
+
 abbrev pub TextsSayNever : Held → Check → Outcome → List PairCare → Type 0
-TextsSayNever held check o cares = OfGiven held check check.assumed (OfNets (λ a b. SaysNeverOfAll a b o cares)) (OfThreeNets (λ a b c. SaysNeverOfAllUnder a b c o cares))
+TextsSayNever held check o cares = NetsSayNever held check check.assumed o cares
 
 -- The comparison of the texts has this outcome, and these are the cares of its pairs: in the event mode exactly those that no frame has care for are told,
 -- and they are settled in no two runs; the proof of each query that met the limit is kept, that of a care behind those of the pairs. The report is printed

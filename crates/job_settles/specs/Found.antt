@@ -23,15 +23,27 @@ use Rattle.job_base.specs.sec_files.job_files.Ends.{load_end}
 use Rattle.job_base.specs.sec_files.job_files.Reading.{Held, ReadFailed}
 use Rattle.job_check.specs.check_meaning.check_found.Check.{Check, check_paths}
 use Rattle.job_check.specs.check_meaning.check_found.Ends.{compare_end}
-use Rattle.job_check.specs.check_meaning.check_found.Found.{OfGiven, OfNets, OfThreeNets, IsFoundOf}
+use Rattle.job_check.specs.check_meaning.check_found.Found.{OfNets, OfThreeNets, IsFoundOf}
 use Rattle.job_settles.specs.Report.{settles_judgement, settles_proofs, settles_text}
 use Rattle.job_settles.specs.Settled.{SettledIn, SettledUnderIn}
 
--- the comparison of the nets that the texts load as has this outcome, and these are the cares of its pairs
+-- the comparison of the nets that two texts load as has this outcome, and these are the cares of its pairs
+abbrev pub IsSettledByTwo : Held → Check → Outcome → List PairCare → Type 0
+IsSettledByTwo held check o cares = OfNets (held check.left) (held check.right) (λ a b. SettledIn check.settings.mode a b check.settings (Ok (record { outcome = o; cares = cares })))
+
+-- that of those of three
+abbrev pub IsSettledByThree : Held → Check → List ℕ → Outcome → List PairCare → Type 0
+IsSettledByThree held check path o cares =
+    OfThreeNets (held check.left) (held check.right) (held path) (λ a b c. SettledUnderIn check.settings.mode a b c check.settings (Ok (record { outcome = o; cares = cares })))
+
+-- without an assumption and with one
+abbrev pub IsSettledGiven : Held → Check → Option (List ℕ) → Outcome → List PairCare → Type 0
+IsSettledGiven held check None o cares = IsSettledByTwo held check o cares
+IsSettledGiven held check (Some path) o cares = IsSettledByThree held check path o cares
+
+-- the comparison that is asked for has this outcome, and these are the cares of its pairs
 abbrev pub IsSettledBy : Held → Check → Outcome → List PairCare → Type 0
-IsSettledBy held check o cares =
-    OfGiven held check check.assumed (OfNets (λ a b. SettledIn check.settings.mode a b check.settings (Ok (record { outcome = o; cares = cares }))))
-    (OfThreeNets (λ a b c. SettledUnderIn check.settings.mode a b c check.settings (Ok (record { outcome = o; cares = cares }))))
+IsSettledBy held check o cares = IsSettledGiven held check check.assumed o cares
 
 -- there is such an outcome, with this report, which says this, and the proofs of the queries that met the limit
 pub record IsSettledFinding (held : Held) (check : Check) (j : Judgement) (kept : List Proof) (text : List ℕ) : Type 0 where
