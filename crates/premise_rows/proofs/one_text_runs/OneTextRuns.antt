@@ -18,6 +18,7 @@ job_equal : (held : Held) (job : Option Task) (f : Finding) → OfCheck job (Can
 job_equal held None f can found is = absurd can
 job_equal held (Some (task.Check a b settings None)) f can found is = check_equal held a b settings f settings.mode settings.reset refl refl can found is
 job_equal held (Some (task.Check a b settings (Some path))) f can found is = absurd can
+job_equal held (Some (task.CheckSettles a b settings assumed)) f can found is = absurd can
 job_equal held (Some (task.Graph a mode)) f can found is = absurd can
 job_equal held (Some (task.Sim a s mode power reset)) f can found is = absurd can
 job_equal held (Some (task.Replay a b s mode settles)) f can found is = absurd can
@@ -32,6 +33,7 @@ pub is_answered : (held : Held) (job : Option Task) (name : StatusName) → OfCh
 is_answered held None name can complete = absurd can
 is_answered held (Some (task.Check a b settings None)) name can complete = check_answered held a b settings name settings.mode settings.reset refl can complete
 is_answered held (Some (task.Check a b settings (Some path))) name can complete = absurd can
+is_answered held (Some (task.CheckSettles a b settings assumed)) name can complete = absurd can
 is_answered held (Some (task.Graph a mode)) name can complete = absurd can
 is_answered held (Some (task.Sim a s mode power reset)) name can complete = absurd can
 is_answered held (Some (task.Replay a b s mode settles)) name can complete = absurd can
