@@ -2,10 +2,11 @@
 # What is asked of two BLIF files, `$a` and `$b`. Read by sec-verilog.
 
 # Runs sec, which a signal to this script reaches as well: sec_to FILE WORDS..
+bound=()
 sec_to() {
   local file=$1 child status
   shift
-  "$here/sec" "$@" > "$file" < /dev/null &
+  "${bound[@]}" "$here/sec" "$@" > "$file" < /dev/null &
   child=$!
   trap 'kill -TERM "$child" 2>/dev/null' TERM HUP INT
   wait "$child"
@@ -103,6 +104,18 @@ started() {
   awk '$1 == ".latch" && NF % 2 { print $0, 0; next } $1 == ".latch" && $NF !~ /^[01]$/ { $NF = 0 } { print }' "$1" > "$2" || exit 73
 }
 
+# Behind a not-shown from the initial values of two files: a difference in the first 20 cycles, if it is found within 30 seconds, is the answer.
+first_difference() {
+  local found=$scratch/cycles.$number told=0 words=() bound=()
+  mapfile -t words < <(valued --conflicts)
+  ! command -v timeout >/dev/null || bound=(timeout 30)
+  sec_to "$found" check "$1" "$2" "${words[@]}" --reset --cycles 20 || told=$?
+  case $told in
+    1) report=$found status=1 way='check --reset --cycles 20' ;;
+    2) way+="; no difference within $(sed -n 's/^verdict not-shown cycles \([0-9]*\)$/\1/p' "$found") cycles" ;;
+  esac
+}
+
 # Asks from the initial values of two files, and sets `way` too. By induct no inputs are assumed, so an answer of equal says more. With
 # --cycles a given number of cycles is asked about, with feedback too.
 from_initial_values() {
@@ -113,6 +126,7 @@ from_initial_values() {
     way=induct
     mapfile -t words < <(valued --conflicts)
     sec_to "$report" induct "$1" "$2" "${words[@]}" || status=$?
+    [ "$status" -ne 2 ] || first_difference "$1" "$2"
   else
     way='check --reset'
     mapfile -t words < <(valued --conflicts --assume)
