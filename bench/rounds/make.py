@@ -116,7 +116,10 @@ def changed(source, target, words):
     run(["berkeley-abc", "-q", f"read_blif {source}; {words}; write_blif {target}"])
 
 
-def main(folder):
+def main():
+    if len(sys.argv) != 2 or sys.argv[1].startswith("-"):
+        sys.exit(__doc__)
+    folder = pathlib.Path(sys.argv[1])
     folder.mkdir(parents=True, exist_ok=True)
     designs = {
         "cipher": (cipher(), None, cipher(faulty=True)),
@@ -137,5 +140,4 @@ def main(folder):
             (folder / f"{name}_{how}.b.blif").write_bytes(b.read_bytes())
 
 
-if __name__ == "__main__":
-    main(pathlib.Path(sys.argv[1]))
+main()
