@@ -65,23 +65,17 @@ never_over e kept lefts rights k B over = weight_fits (side_of e.right) (Enabled
 pub never_again : {X Y : Type 0} (old mid : EventsView) → AreKept old.left old.right old.events → IsOfStarts old → IsLater old mid → AreKept mid.left mid.right mid.events → IsCountedOnce mid → IsWithinLimits mid → (pairs : List SignalPair) → CountsOn pairs old mid → (result : Result X EventFormError) (told : Result Y EventFormError) →
     ((error : EventFormError) → told ≡ Err error → result ≡ Err error) → IsRefusedFor (left_starts pairs) (right_starts pairs) mid result → IsStoppedFor pairs old told
 never_again {X} {Y} old mid before starts later kept once within pairs counts result told same k = record {
-  many = λ is. absurd (nodes_fit (side_of_both old) (both_starts (left ++ left_starts pairs) (right ++ right_starts pairs)) 10000 totals.few (again.many is left right starts.counted));
-  large = λ side is. absurd (never_over old before (left ++ left_starts pairs) (right ++ right_starts pairs) totals side (again.large side is left right starts.counted));
+  many = λ is. absurd (nodes_fit (side_of_both old) (both_starts (starts.left ++ left_starts pairs) (starts.right ++ right_starts pairs)) 10000 totals.few (again.many is starts.left starts.right starts.counted));
+  large = λ side is. absurd (never_over old before (starts.left ++ left_starts pairs) (starts.right ++ right_starts pairs) totals side (again.large side is starts.left starts.right starts.counted));
 }
   where
-    abbrev left : List (Start ℕ)
-    left = starts.left
-
-    abbrev right : List (Start ℕ)
-    right = starts.right
-
     again : IsRefusedFor (left_starts pairs) (right_starts pairs) old told
     again = refused_again old mid later (left_starts pairs) (right_starts pairs) counts result told same k
 
-    totals : AreTotalsWithin old.left old.right (left ++ left_starts pairs) (right ++ right_starts pairs)
+    totals : AreTotalsWithin old.left old.right (starts.left ++ left_starts pairs) (starts.right ++ right_starts pairs)
     totals =
-        subst (λ (b : EventCircuitView). AreTotalsWithin old.left b (left ++ left_starts pairs) (right ++ right_starts pairs)) later.right
-        (subst (λ (a : EventCircuitView). AreTotalsWithin a mid.right (left ++ left_starts pairs) (right ++ right_starts pairs)) later.left (is_within mid (left ++ left_starts pairs) (right ++ right_starts pairs) kept once within (counts left right starts.counted)))
+        subst (λ (b : EventCircuitView). AreTotalsWithin old.left b (starts.left ++ left_starts pairs) (starts.right ++ right_starts pairs)) later.right
+        (subst (λ (a : EventCircuitView). AreTotalsWithin a mid.right (starts.left ++ left_starts pairs) (starts.right ++ right_starts pairs)) later.left (is_within mid (starts.left ++ left_starts pairs) (starts.right ++ right_starts pairs) kept once within (counts starts.left starts.right starts.counted)))
 
 -- what stops the pairs is told
 pub stopped_told : {X Y : Type 0} (e : EventsView) (pairs : List SignalPair) (result : Result X EventFormError) (told : Result Y EventFormError) → ((error : EventFormError) → told ≡ Err error → result ≡ Err error) → IsStoppedFor pairs e result → IsStoppedFor pairs e told
