@@ -9,7 +9,7 @@ use Rattle.event_nodes.specs.declared.error.EventUnfoldError.{EventUnfoldError}
 use Rattle.event_nodes.specs.declared.error.EventUnfoldError.TheVariants as unfold_error
 use Rattle.event_classes.specs.event_functions.Functions.{signal_start}
 use Rattle.event_form.specs.event_agreement.pair_events.View.{EventsView, side_of_both, circuit_at}
-pub use Rattle.event_form.specs.event_agreement.pair_events.View.{moved_start, both_starts, HaveCounted}
+pub use Rattle.event_form.specs.event_agreement.pair_events.View.{moved_latch, moved_start, both_starts, HaveCounted}
 
 -- the starts of a side, with one more of this signal
 abbrev pub left_with : Side → ℕ → List (Start ℕ) → List (Start ℕ)
