@@ -144,7 +144,7 @@ module _ {P : Type 0} (s : EventSide P) (single : IsSingleDriven s.circuit) (onc
   own_tree bit = IsEnableTree.own {name = name} {next = next} {bit = bit} latch enabled (takes_over bit [])
 
   leaf_of : (t : Tree (List ℕ)) → IsEnableTree s u t → (x : Variable (List ℕ)) → HasLeaf x t → Contains root_inputs x
-  leaf_of t (IsEnableTree.own {name = other} {next = to} {bit = bit} {tree = t} is on unfolds) x stands = inside (subst (HasLeaf x) (one_event_tree s On single once (name, next, latch) moved (takes_over bit [])) stands)
+  leaf_of tree (IsEnableTree.own {name = other} {next = to} {bit = bit} {tree = t} is on unfolds) x stands = inside (subst (HasLeaf x) (one_event_tree s On single once (name, next, latch) moved (takes_over bit [])) stands)
     where
       to_is : to ≡ next
       to_is = ap next_of (single.one (Latch other u to) (Latch name u next) is latch refl)
