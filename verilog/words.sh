@@ -1,7 +1,7 @@
 # shellcheck shell=bash disable=SC2034
 # The words of sec-verilog. Read by it.
 old=() new=() check=() parameters=() reading=() defines=() values=('') reset_inputs=()
-side=old top='' new_top='' sv='' keep='' wrong='' any_clock='' any_start=''
+side=old cycles=20 top='' new_top='' sv='' keep='' wrong='' any_clock='' any_start=''
 
 # What is wrong first is told: complain WHY
 complain() {
@@ -91,6 +91,29 @@ look_at_words() {
       -*) keep='' && complain "no folder: $it" ;;
     esac
   done
+}
+
+# Without --reset a number of cycles is that of the searches for a difference, and not a word of check.
+take_cycles() {
+  local it last='' kept=()
+  case " ${check[*]} " in
+    *' --reset '*) return ;;
+  esac
+  for it in "${check[@]}"; do
+    case $it,$last in
+      --cycles,*) ;;
+      --cycles=*) cycles=${it#*=} ;;
+      *,--cycles) cycles=$it ;;
+      *) kept+=("$it") ;;
+    esac
+    last=$it
+  done
+  [ "$last" != --cycles ] || complain "--cycles wants a word behind it"
+  case $cycles in
+    '' | *[!0-9]* | ?????*) complain "--cycles wants a number from 0 to 1000, and not $cycles" ;;
+    *) [ "$cycles" -le 1000 ] || complain "--cycles wants a number from 0 to 1000, and not $cycles" ;;
+  esac
+  check=("${kept[@]}")
 }
 
 # Some options of check with the words behind them, a line each: valued OPTION..
