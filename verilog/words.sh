@@ -1,6 +1,6 @@
 # shellcheck shell=bash disable=SC2034
 # The words of sec-verilog. Read by it.
-old=() new=() check=() parameters=() reading=() defines=() values=('') reset_inputs=()
+old=() new=() check=() parameters=() reading=() defines=() values=('') reset_inputs=() cells=() liberties=()
 side=old cycles=20 top='' new_top='' sv='' keep='' wrong='' any_clock='' any_start=''
 
 # What is wrong first is told: complain WHY
@@ -36,13 +36,15 @@ read_words() {
         usage
         exit 0
         ;;
-      --top | --new-top | --keep | --reset-input | -P | -D | -I) value "$1" $# "${2:-}" ;;
+      --top | --new-top | --keep | --reset-input | --cells | --liberty | -P | -D | -I) value "$1" $# "${2:-}" ;;
     esac
     case $1 in
       --top) top=${2:-} && shift ;;
       --new-top) new_top=${2:-} && shift ;;
       --keep) keep=${2:-} && shift ;;
       --reset-input) reset_inputs+=("${2:-}") && shift ;;
+      --cells) cells+=("${2:-}") && shift ;;
+      --liberty) liberties+=("${2:-}") && shift ;;
       -P) parameters+=("${2:-}") && shift ;;
       -D) defines+=("${2:-}") && shift ;;
       -I) reading+=("-I${2:-}") && shift ;;
@@ -86,6 +88,11 @@ look_at_words() {
   case "$any_start ${check[*]} " in
     'yes '*'--reset '*) complain "--any-start and --reset are two questions" ;;
   esac
+  for it in "${cells[@]}" "${liberties[@]}"; do
+    case $it in
+      -* | '') complain "--cells and --liberty want a file, and not $it" ;;
+    esac
+  done
   for it in "${reading[@]#-I}" "$keep"; do
     case $it in
       -*) keep='' && complain "no folder: $it" ;;

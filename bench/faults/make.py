@@ -1,11 +1,13 @@
 #!/usr/bin/env python3
 """Puts faults into designs with feedback: bench/faults/make.py FOLDER [DESIGN..]
 
-The designs are those of bench/faults/*.v, or the files DESIGN, in flat BLIF of one clock. Each fault is one change: a gate's function, what a gate reads, what a flip-flop takes over or starts with, an operator or a number in the Verilog. Of each design the same ones come each time, some as they are
-and some resynthesised by ABC. A fault is kept where a simulation shows it: 1,024 random runs of 20 cycles behind four with the reset held, or from the
-initial values where there is no reset; both circuits begin with what isn't known, and an output is known in both and differs. Kept pairs are
-NAME.a.blif and NAME.b.blif in FOLDER, NAME.rows has the reset's cycles as a stimulus, and the file `list` tells each fault and where it shows.
-`same_NAME` are the designs beside what `dch; if -K 6` made of them. Yosys and ABC are wanted.
+The designs are those of bench/faults/*.v, or the files DESIGN, in flat BLIF of one clock. Each fault is one change: a gate's function, what a
+gate reads, what a flip-flop takes over or starts with, an operator or a number in the Verilog. Of a design the same ones come each time, some
+as they are and some resynthesised by ABC. A fault is kept where a simulation shows it: of 1,024 random runs of 20 cycles, behind four cycles of
+reset, or from the initial values where no input resets the design, one has an output that is known in both circuits and differs. Each circuit
+begins with flip-flops that aren't known but for their initial values. Kept pairs are NAME.a.blif and NAME.b.blif in FOLDER, NAME.rows has the
+reset's cycles as a stimulus, and the file `list` tells each fault and where it shows first. `same_DESIGN` are the designs beside what
+`dch; if -K 6` made of them. Yosys and ABC are wanted.
 """
 import pathlib
 import random
@@ -140,6 +142,9 @@ def faults_of(design, folder, told):
     made = random.Random(design.stem)
     golden = blif(design.read_text(), design.stem, folder) if design.suffix == ".v" else circuits.read(design)
     held = circuits.held_rows(golden)
+    if not held and any(latch[2] == "3" for latch in golden.latches):
+        print(f"{design.stem}: left aside, since neither a reset nor initial values start it", flush=True)
+        return
     rows = [{name: circuits.constant(bit) for name, bit in row.items()} for row in held] + circuits.random_rows(golden, CYCLES + 1, design.stem)
     right = golden.run(rows)[0][len(held) :]
     write(folder, f"same_{design.stem}", [golden, by_abc(golden, ABC[1], folder)], held)
