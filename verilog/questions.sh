@@ -147,15 +147,22 @@ known_difference() {
   { cat "$rails.head" "$rails.body" && echo .end; } > "$rails.blif" || exit 73
   { cat "$rails.head" "$rails.none" && echo .end; } > "$rails.0.blif" || exit 73
   cycles=$((cycles + $2 > 1000 ? 1000 : cycles + $2)) search guess "$rails.blif" "$rails.0.blif"
-  [ "$told" -eq 1 ] || return 0
+  if [ "$told" -ne 1 ]; then
+    told=2
+    return 0
+  fi
   guess=$found
   name=$(sed -n 's/^verdict different differs:\(.*\) cycle .*/\1/p' "$guess")
   at=$(sed -n 's/^verdict different .* cycle \([0-9]*\) values .*/\1/p' "$guess")
-  [ "$at" -ge "$2" ] || return 0
-  { cat "$1" && sed '1,/^verdict/d' "$guess" | awk -v held="$2" -v last="$at" 'NR > held + 1 && NR <= last + 1'; } > "$scratch/rows.$number"
+  # The difference may come while the reset is held.
+  {
+    head -n $((at > 0 && at < $2 ? at + 1 : $2 + 1)) "$1"
+    sed '1,/^verdict/d' "$guess" | awk -v held="$2" -v last="$at" 'NR > held + 1 && NR <= last + 1'
+  } > "$scratch/rows.$number"
   one_output "$name" "$a" "$scratch/one.old.blif"
   one_output "$name" "$b" "$scratch/one.new.blif"
   cycles=0 search known "$scratch/one.old.blif" "$scratch/one.new.blif" --after "$scratch/rows.$number"
+  [ "$told" -eq 1 ] || told=2
 }
 
 # Where it isn't decided from any power-up, and inputs reset the designs: a difference in the first cycles behind a reset is the answer. Sets
@@ -189,6 +196,7 @@ behind_a_reset() {
         behind="; no difference within $(searched) cycles $it"
       fi
       ;;
+    3 | 124) behind="; nothing decided $it" ;;
   esac
 }
 
