@@ -136,7 +136,7 @@ one_output() {
     { print }' "$2" > "$3" || exit 73
 }
 
-# Behind a search that ended at flip-flops of which a reset says nothing, tries whether an output is known in both designs and differs: where
+# Behind a search that ended at flip-flops of which a reset says nothing, or at a limit, tries whether an output is known in both designs and differs: where
 # the circuit of what is known shows one, the search over the rows before that, with this output alone, shows it of the designs. Sets `found` and `told` as
 # that does: known_difference ROWS_OF_RESET HELD
 known_difference() {
@@ -147,10 +147,7 @@ known_difference() {
   { cat "$rails.head" "$rails.body" && echo .end; } > "$rails.blif" || exit 73
   { cat "$rails.head" "$rails.none" && echo .end; } > "$rails.0.blif" || exit 73
   cycles=$((cycles + $2 > 1000 ? 1000 : cycles + $2)) search guess "$rails.blif" "$rails.0.blif"
-  if [ "$told" -ne 1 ]; then
-    told=2
-    return 0
-  fi
+  [ "$told" -eq 1 ] || return 0
   guess=$found
   name=$(sed -n 's/^verdict different differs:\(.*\) cycle .*/\1/p' "$guess")
   at=$(sed -n 's/^verdict different .* cycle \([0-9]*\) values .*/\1/p' "$guess")
@@ -162,13 +159,12 @@ known_difference() {
   one_output "$name" "$a" "$scratch/one.old.blif"
   one_output "$name" "$b" "$scratch/one.new.blif"
   cycles=0 search known "$scratch/one.old.blif" "$scratch/one.new.blif" --after "$scratch/rows.$number"
-  [ "$told" -eq 1 ] || told=2
 }
 
 # Where it isn't decided from any power-up, and inputs reset the designs: a difference in the first cycles behind a reset is the answer. Sets
 # `behind` to what was found. What is known behind the rows of a reset is so whatever the flip-flops held before.
 behind_a_reset() {
-  local found told held=8 it unknown=''
+  local found told before held=8 it unknown=''
   case "$is_given,$status, ${check[*]} " in
     yes,* | *' --assume'*) return 0 ;;
     ,[239],*) ;;
@@ -181,8 +177,14 @@ behind_a_reset() {
   search behind "$a" "$b" --after "$scratch/reset.$number"
   if [ "$told" -eq 2 ] && [ -z "$(searched)" ]; then
     unknown=$(awk '$1 == "unknown" { count += $3 } END { print count + 0 }' "$found")
-    known_difference "$scratch/reset.$number" "$held"
   fi
+  case $told,$unknown in
+    2,?* | 3,* | 124,*)
+      before=$told
+      known_difference "$scratch/reset.$number" "$held"
+      [ "$told" -eq 1 ] || told=$before
+      ;;
+  esac
   it="behind $held cycles with $(resets_told)"
   case $told in
     1)
