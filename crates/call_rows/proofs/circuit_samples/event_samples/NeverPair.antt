@@ -10,10 +10,10 @@ use Rattle.circuit_theory.specs.Net.{IsNet, HasDistinctNames}
 use Rattle.circuit_theory.specs.Depth.{LatchChain, ChainFrom, IsDepth, LatchPath, LatchReads, LatchesHaveDepths, HasCycle}
 use Rattle.circuit_theory.specs.Tree.{Tree, Fixed, Branch, Nil, AreNumbered, IsInputNumber, StandsBeside, tree_value}
 use Rattle.circuit_theory.specs.Joined.{Either, Left, Right}
-use Rattle.circuit_theory.specs.Agree.{EnabledIn, IsMinimalCut}
+use Rattle.circuit_theory.specs.Agree.{cut, EnabledIn, IsMinimalCut}
 use Rattle.circuit_theory.specs.Fits.{IsPairDepth}
 use Rattle.circuit_theory.specs.Frame.{EventUnfolds, EventUnfoldsAll, ConeLatches, ConeOthers, IsEnable, HasCare}
-use Rattle.circuit_theory.specs.Classes.{EnableCare, IsInFirstClass, HasClasses}
+use Rattle.circuit_theory.specs.Classes.{DiffersFromMember, EnableCare, IsInFirstClass, HasClasses}
 use Rattle.circuit_theory.specs.EventQueries.{IsEventPairQuery}
 use Rattle.circuit_theory.proofs.Inputs.{beside_is_input}
 use Rattle.circuit_theory.proofs.Lists.{only}
@@ -126,7 +126,7 @@ classes = record {
     first : IsInFirstClass never_side [] (Left 1)
     first = record { not_past_next = omega arith; joins = λ l. absurd (omega (arith, l)); not_earlier = earlier }
       where
-        earlier : (k : ℕ) → k < 1 → _
+        earlier : (k : ℕ) → k < 1 → DiffersFromMember never_side [] k (Left 1)
         earlier zero h = record { bits = λ i node. false; care = enable_care (λ i node. false); off = q_enable (λ i node. false) [] }
         earlier (suc k) h = absurd (omega (arith, h))
 
@@ -142,6 +142,18 @@ side_without_care bits l r = no_frame bits l
 pub pair_without_care_under : HaveNoCareUnder one_always never_side (Left 1) (Right 1)
 pair_without_care_under bits h = no_frame bits h.left
 
+left_value : (bits : ℕ → List ℕ → Bool) → false ≡ tree_value bits (Fixed false)
+unfolding tree_value
+left_value bits = refl
+
+no_bit : cover_value nothing_cover [] ≡ false
+unfolding cover_value
+no_bit = refl
+
+right_value : (bits : ℕ → List ℕ → Bool) → false ≡ tree_value bits (Branch nothing_cover Nil)
+unfolding tree_value
+right_value bits = sym no_bit
+
 -- the query of the pair
 pub never_asks : IsEventPairQuery never_side (Left 1) (Right 1) never_query
 never_asks = record {
@@ -153,14 +165,6 @@ never_asks = record {
   right = right_value;
   care = λ bits. (λ e. absurd (true_not_false (sym e)), λ h. absurd (no_frame bits h.0));
 }
-  where
-    left_value : (bits : ℕ → List ℕ → Bool) → false ≡ tree_value bits (Fixed false)
-    unfolding tree_value
-    left_value bits = refl
-
-    right_value : (bits : ℕ → List ℕ → Bool) → false ≡ tree_value bits (Branch nothing_cover Nil)
-    unfolding tree_value, cover_value
-    right_value bits = refl
 
 -- no latch is exposed
 left_latch : (name : List ℕ) (u next : ℕ) → IsLatch never_loads name u next → (codes "q" ≡ name) × (1 ≡ u) × (1 ≡ next)
@@ -227,6 +231,14 @@ right_free (u, path) = go path
     go (LatchPath.edge e) = none e
     go (LatchPath.step e rest) = none e
 
+left_cut : cut [] never_loads ≡ never_loads
+unfolding cut
+left_cut = refl
+
+right_cut : cut [] nothing ≡ nothing
+unfolding cut
+right_cut = refl
+
 pub never_exposed_sides : AreExposedSides never_loads nothing 2 2 [] (0 ∷ []) (0 ∷ []) one_class
 never_exposed_sides = record {
   left_net = left_net;
@@ -234,7 +246,7 @@ never_exposed_sides = record {
   left_names = left_names;
   right_names = right_names;
   minimal = record { common = λ name h. absurd (omega (arith, h.1)); left_free = left_free; right_free = right_free; needed = λ i h. absurd (omega (arith, h)) };
-  sides = never_sides;
+  sides = subst (λ (a : Circuit ℕ). AreEventSides a (cut [] nothing) 2 2 (0 ∷ []) (0 ∷ []) one_class) (sym left_cut) (subst (λ (b : Circuit ℕ). AreEventSides never_loads b 2 2 (0 ∷ []) (0 ∷ []) one_class) (sym right_cut) never_sides);
 }
 
 pub never_reads : ReadsInputs one_always never_loads (0 ∷ [])
