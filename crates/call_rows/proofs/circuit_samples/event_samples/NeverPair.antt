@@ -1,6 +1,6 @@
 -- A latch that never loads is of a class of its own, and no frame has care for it.
-use Rattle.std.proofs.Common.{◌≡◌, ℕ, zero, suc, ◌<◌, ◌≤◌, Bool, true, false, List, [], ◌∷◌, refl, sym, ◌∙◌, ap, subst, arith, inl, inr, Some, None}
-use Rattle.std.specs.Prelude.{◌⊎◌, codes}
+use Rattle.std.proofs.Common.{◌≡◌, ℕ, zero, suc, ◌<◌, ◌≤◌, Bool, true, false, List, [], ◌∷◌, refl, sym, ◌∙◌, ap, subst, arith, inl, inr}
+use Rattle.std.specs.Prelude.{codes}
 use Rattle.std.specs.List.{Contains}
 use Rattle.circuit_theory.specs.declared.Mode.TheVariants.{Event}
 use Rattle.circuit_theory.specs.Cover.{cover_value}
@@ -8,9 +8,9 @@ use Rattle.circuit_theory.specs.Circuit.{Circuit, IsLatch, IsSingleDriven, InCon
 use Rattle.circuit_theory.specs.Run.{IsEnabled, NoneEnabled}
 use Rattle.circuit_theory.specs.Net.{IsNet, HasDistinctNames}
 use Rattle.circuit_theory.specs.Depth.{LatchChain, ChainFrom, IsDepth, LatchPath, LatchReads, LatchesHaveDepths, HasCycle}
-use Rattle.circuit_theory.specs.Tree.{Tree, Fixed, Branch, Nil, AreNumbered, IsInputNumber, StandsBeside, tree_value}
+use Rattle.circuit_theory.specs.Tree.{Fixed, Branch, Nil, AreNumbered, IsInputNumber, StandsBeside, tree_value}
 use Rattle.circuit_theory.specs.Joined.{Either, Left, Right}
-use Rattle.circuit_theory.specs.Agree.{cut, EnabledIn, IsMinimalCut}
+use Rattle.circuit_theory.specs.Agree.{cut, EnabledIn}
 use Rattle.circuit_theory.specs.Fits.{IsPairDepth}
 use Rattle.circuit_theory.specs.Frame.{EventUnfolds, EventUnfoldsAll, ConeLatches, ConeOthers, IsEnable, HasCare}
 use Rattle.circuit_theory.specs.Classes.{DiffersFromMember, EnableCare, IsInFirstClass, HasClasses}

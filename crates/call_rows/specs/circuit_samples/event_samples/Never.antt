@@ -1,5 +1,5 @@
 -- A latch that never loads, against the constant 0.
-use Rattle.std.specs.Prelude.{ℕ, Bool, false, List, [], ◌∷◌, codes}
+use Rattle.std.specs.Prelude.{ℕ, false, List, [], ◌∷◌, codes}
 use Rattle.circuit_theory.specs.Circuit.{Circuit, Latch}
 use Rattle.circuit_theory.specs.Query.{Query}
 use Rattle.circuit_theory.specs.Joined.{Either, joined}
