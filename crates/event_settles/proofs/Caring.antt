@@ -1,8 +1,8 @@
 -- What is decided of the care of a pair's query says which frames have care for the pair.
-use Rattle.std.proofs.Common.{◌≡◌, ◌∙◌, ◌<◌, ℕ, suc, Bool, true, false, List, [], ◌∷◌, length, get_or, slice_get, Option, Some, refl, sym, ap, subst, arith, inl, Result, Ok, Err}
+use Rattle.std.proofs.Common.{◌≡◌, ◌∙◌, ◌<◌, ℕ, suc, Bool, true, false, List, [], ◌∷◌, length, get_or, slice_get, Option, Some, None, refl, sym, ap, subst, arith, inl, Result, Ok, Err}
 use Rattle.std.specs.Prelude.{◌↔◌, IfOk}
 use Rattle.std.specs.List.{All, AllZip, Contains}
-use Rattle.std.proofs.lemmas.List.Elements.{All-nil, All-cons, All-contains}
+use Rattle.std.proofs.lemmas.List.Elements.{All-nil, All-cons, All-contains, All-head, All-tail}
 use Rattle.std.proofs.lemmas.Option.{slice_get-get_or, slice_get_within}
 use Rattle.flat_net.proofs.Nets.{some_at}
 use Rattle.circuit_theory.specs.Joined.{Either, Left, Right}
@@ -223,7 +223,36 @@ idle_of s conflicts c d t idle e = go c.care refl (sym (ap (λ (x : PairCare). x
         no : care.Limit proof ≡ care.Never idle → ⊥
         no q = cc
 
+-- a pair that has care, or of which it isn't known, isn't one without
+pub not_never : (c : PairCare) → ((idle : Option IdleLatch) → c.care ≡ care.Never idle → ⊥) → IsNotNever c
+not_never c other = go c.care refl
+  where
+    go : (x : Care) → c.care ≡ x → IsNotNever c
+    go care.Met e = subst (λ (y : Care). IsNotNever (record { name = c.name; care = y })) (sym e) tt
+    go (care.Never idle) e = absurd (other idle e)
+    go (care.Limit proof) e = subst (λ (y : Care). IsNotNever (record { name = c.name; care = y })) (sym e) tt
+
 module _ (s : EventSide (Either ℕ ℕ)) (conflicts : ℕ) where
+  -- where no pair is without care, nothing is told with them
+  told_none : (c : PairCare) → IsNotNever c → IsToldWith s conflicts c c
+  told_none c h = record { idle = None; told = ap (λ (y : Care). record { name = c.name; care = y }) (go c.care h); right = λ no. absurd (no h) }
+    where
+      go : (x : Care) → IsNotNever (record { name = c.name; care = x }) → x ≡ with_idle None x
+      go care.Met k = refl
+      go (care.Never idle) k = absurd k
+      go (care.Limit proof) k = refl
+
+  pub all_none : (cares : List PairCare) → All IsNotNever cares → AllZip (IsToldWith s conflicts) cares cares
+  all_none [] h = tt
+  all_none (c ∷ cares) h = (told_none c (All-head IsNotNever c cares h), all_none cares (All-tail IsNotNever c cares h))
+
+  -- and else the same latch
+  pub all_with : (idle : Option IdleLatch) → IdleIs s conflicts idle → (cares told : List PairCare) → AllZip (ToldWith idle) cares told → AllZip (IsToldWith s conflicts) cares told
+  all_with idle right [] [] h = tt
+  all_with idle right [] (d ∷ told) h = absurd h
+  all_with idle right (c ∷ cares) [] h = absurd h
+  all_with idle right (c ∷ cares) (d ∷ told) h = (record { idle = idle; told = h.0; right = λ no. right }, all_with idle right cares told h.1)
+
   told_fits : (p : SignalPair) (c d : PairCare) → CareFound s conflicts p c → IsToldWith s conflicts c d → CareFits s conflicts p d
   told_fits p c d f t = record {
     name_is = ap (λ (x : PairCare). x.name) t.told ∙ f.0;

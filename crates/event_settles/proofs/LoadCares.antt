@@ -1,6 +1,6 @@
 -- Whether a latch has loaded in some frame, by its event function over a graph of its own.
-use Rattle.std.proofs.Common.{◌≡◌, ◌∙◌, ◌+◌, ◌<◌, ◌≤◌, ℕ, zero, suc, max, Bool, true, false, List, [], ◌∷◌, length, get_or, slice_get, Some, Result, Ok, Err, refl, sym, ap, subst, arith, inl, inr}
-use Rattle.std.specs.Prelude.{◌⊎◌, ◌↔◌, IfOk, OnOk, Option, None, slice_index_or}
+use Rattle.std.proofs.Common.{◌≡◌, ◌∙◌, ◌+◌, ◌<◌, ◌≤◌, ℕ, max, true, false, List, [], ◌∷◌, length, get_or, Some, Result, Ok, Err, refl, sym, ap, subst, arith, inl, inr}
+use Rattle.std.specs.Prelude.{◌⊎◌, IfOk, OnOk, Option, None, slice_index_or}
 use Rattle.std.specs.List.{Contains, fold}
 use Rattle.std.proofs.lemmas.List.Elements.{All-contains}
 use Rattle.std.proofs.lemmas.List.{get_or_default}
@@ -9,24 +9,19 @@ use Rattle.circuit_theory.specs.declared.Side.{Side}
 use Rattle.circuit_theory.specs.declared.Side.TheVariants.{A, B}
 use Rattle.circuit_theory.specs.Circuit.{IsLatch}
 use Rattle.circuit_theory.specs.Joined.{Either, Left, Right, moved}
-use Rattle.circuit_theory.specs.Query.{Variable}
 use Rattle.circuit_theory.proofs.Lists.{Contains-head, Contains-map, Contains-tail, length-map}
 use Rattle.std.proofs.lemmas.List.Elements.{Contains-append_left, Contains-append_right}
 use Rattle.circuit_theory.specs.Classes.{HasClasses, IsFounder, classes_of}
-use Rattle.circuit_theory.specs.EventFrames.{frame_of}
 use Rattle.circuit_theory.specs.Frame.{EventSide}
 use Rattle.flat_net.specs.Cut.{latch_at, no_latch}
 use Rattle.flat_net.specs.Sound.{IsSound}
 use Rattle.flat_net.specs.declared.parts.Driver.TheVariants as driver
 use Rattle.flat_net.specs.declared.parts.LatchAt.{LatchAt}
-use Rattle.flat_net.specs.View.{NetView, circuit_of, equation_of_gate, equation_of_latch}
+use Rattle.flat_net.specs.View.{NetView, circuit_of, equation_of_latch}
 use Rattle.flat_net.proofs.Nets.{latch_stands}
 use Rattle.sec_base.specs.declared.basics.Tag.{Tag}
-use Rattle.base_tables.specs.Table.{AreDistinct}
-use Rattle.aig.specs.declared.node.Node.{Node}
-use Rattle.aig.specs.Values.{value}
 use Rattle.obligations.specs.outcome.Query.{Query}
-use Rattle.obligations.specs.outcome.Queries.{IsQuery, assigned_to}
+use Rattle.obligations.specs.outcome.Queries.{IsQuery}
 use Rattle.event_nodes.specs.Nodes.{EventGraphView, IsEventGraph, named_places, path_of}
 use Rattle.event_nodes.specs.View.{EventCircuitView}
 use Rattle.event_nodes.specs.Visited.{CounterView}
@@ -35,7 +30,7 @@ use Rattle.event_nodes.specs.declared.error.EventUnfoldError.TheVariants as unfo
 use Rattle.edbf_unfold.specs.class_queries.Laws.{AreKept}
 use Rattle.edbf_unfold.specs.event_literals.event_walk.Walk.{HasCountedStart, IsCounting}
 use Rattle.class_search.specs.Comparing.{IsReadyEnable}
-use Rattle.class_search.specs.event_order.Order.{IsTagOf, net_at, place_of}
+use Rattle.class_search.specs.event_order.Order.{IsTagOf, place_of}
 use Rattle.class_search.specs.event_variables.Laws.{IsSignalTree}
 use Rattle.class_search.specs.event_variables.Variables.{variable_of, variables_of}
 use Rattle.class_search.proofs.Queries.{always_query}
@@ -44,7 +39,7 @@ use Rattle.event_classes.specs.declared.event_functions.signals.SignalFunction.{
 use Rattle.event_classes.specs.event_functions.Functions.{IsFunctionOf, signal_start}
 use Rattle.event_classes.specs.event_functions.Refused.{IsRefusal}
 use Rattle.event_form.specs.event_agreement.event_pairs.Functions.{IsEventFunction}
-use Rattle.event_form.specs.event_agreement.pair_events.Counted.{HaveCounted, IsRefusedBy}
+use Rattle.event_form.specs.event_agreement.pair_events.Counted.{AreTooMany, IsRefusedBy, IsTooLarge}
 use Rattle.event_form.specs.event_agreement.pair_events.View.{EventsView, IsEvents, circuit_at, side_of_both, signal_at}
 use Rattle.event_form.proofs.event_agreement.FrameBits.{bits_take_frame}
 use Rattle.event_form.proofs.event_agreement.pair_events.Unfolding.{left_is_function, left_is_refused, right_is_function, right_is_refused}
@@ -53,7 +48,10 @@ use Rattle.event_form.proofs.event_findings.unshown_pairs.class_events.Begin.{be
 use Rattle.event_settles.specs.declared.cares.Care.{Care}
 use Rattle.event_settles.specs.declared.cares.Care.TheVariants as care
 use Rattle.event_settles.specs.declared.cares.IdleLatch.{IdleLatch}
-use Rattle.event_settles.specs.Idle.{HasLoaded, IsIdle, IsNamedAs, IsTooLargeAlone, LatchIs, signal_of}
+use Rattle.class_search.specs.class_separations.Apart.{IsSeparationBy}
+use Rattle.class_search.specs.declared.class_separations.apart.Apart.{Apart}
+use Rattle.event_form.specs.event_findings.unshown_pairs.class_events.Separated.{TellsClassesApart}
+use Rattle.event_settles.specs.Idle.{HasLoaded, IsIdle, IsNamedAs, IsTooLargeAlone, LatchIs, MayLoad, signal_of}
 use Rattle.event_settles.specs.Deciding.{CareDecides}
 use Rattle.event_settles.proofs.Caring.{AsksCare, care_fits}
 
@@ -131,10 +129,17 @@ module _ (e : EventsView) (is : IsEvents e) (kept : AreKept e.left e.right e.eve
     over = by error same other;
   }
     where
-      by : (x : EventUnfoldError) → result ≡ Err x → (x ≡ unfold_error.NoMemory → ⊥) → _ ⊎ _
+      by : (x : EventUnfoldError) → result ≡ Err x → (x ≡ unfold_error.NoMemory → ⊥) → AreTooMany side p fresh ⊎ IsTooLarge side p fresh
       by unfold_error.TooManyEvents e other = inl ((alone_refused side m).many e)
       by unfold_error.TooLarge e other = inr ((alone_refused side m).large e)
       by unfold_error.NoMemory e other = absurd (other refl)
+
+  -- where the circuit is the one of the side
+  pub function_at : (side : Side) (x : EventCircuitView) → x ≡ circuit_at side e → MadeAt x → (f : SignalFunction) → result ≡ Ok f → IsEventFunction (side_of_both e) w (signal_at side p) f
+  function_at side x same m f here = subst (λ (r : Result SignalFunction EventUnfoldError). IfOk r (IsEventFunction (side_of_both e) w (signal_at side p))) here (alone_function side (subst MadeAt same m))
+
+  pub too_large_at : (side : Side) (x : EventCircuitView) → x ≡ circuit_at side e → MadeAt x → (error : EventUnfoldError) → result ≡ Err error → (error ≡ unfold_error.NoMemory → ⊥) → IsTooLargeAlone (side_of_both e) (signal_at side p)
+  too_large_at side x same m = alone_too_large side (subst MadeAt same m)
 
 -- the latch that a tag names
 pub tag_within : (e : EventsView) (t : Tag) → IsTagOf e.left.net e.right.net t → t.latch < length (circuit_at t.side e).net.latches
@@ -160,6 +165,46 @@ tag_latch e t h = go t.side t.latch h
         Contains-append_left _ _ _ (Contains-map (moved Left) (circuit_of e.left.net).equations (equation_of_latch (latch_at e.left.net j)) (latch_stands e.left.net j (latch_at e.left.net j) (slice_get-get_or e.left.net.latches j _ h)))
     go B j h =
         Contains-append_right _ _ _ (Contains-map (moved Right) (circuit_of e.right.net).equations (equation_of_latch (latch_at e.right.net j)) (latch_stands e.right.net j (latch_at e.right.net j) (slice_get-get_or e.right.net.latches j _ h)))
+
+-- what tells a class from `always` has its first latch
+first_latch : (e : EventsView) (class : ℕ) (x : Apart) (k : TellsClassesApart e 0 class x) → IsFounder (side_of_both e) k.classes.order class (signal_of e x.high)
+first_latch e class x k = subst (IsFounder (side_of_both e) k.classes.order class) (tag_place e x.high) (go x.low k.apart.separates)
+  where
+    go : (low : Option Tag) → IsSeparationBy (side_of_both e) e.events (place_of e.left.net e.right.net) k.classes.order 0 class x low → IsFounder (side_of_both e) k.classes.order class (place_of e.left.net e.right.net x.high)
+    go None h = h.3.founder_is
+    go (Some t) h = absurd (omega (arith, h.0))
+
+pub first_within : (e : EventsView) (class : ℕ) (x : Apart) → TellsClassesApart e 0 class x → x.high.latch < length (circuit_at x.high.side e).net.latches
+first_within e class x k = tag_within e x.high k.names.high
+
+-- of which is said what is said of the class
+pub is_idle : (e : EventsView) (conflicts class : ℕ) (x : Apart) (k : TellsClassesApart e 0 class x) → 0 < class → (named : IdleLatch) → IsNamedAs e x.high named → LatchIs (side_of_both e) conflicts (signal_of e x.high) true → IsIdle (side_of_both e) named
+is_idle e conflicts class x k above named same never =
+    subst (IsIdle (side_of_both e)) (sym same) (record {
+      class = class;
+      above = above;
+      classes = k.classes;
+      signal = (latch_at (circuit_at x.high.side e).net x.high.latch).out.0;
+      next = signal_at x.high.side (latch_at (circuit_at x.high.side e).net x.high.latch).next.0;
+      named = tag_latch e x.high (first_within e class x k);
+      first = first_latch e class x k;
+      never = never;
+    })
+
+pub may_load : (e : EventsView) (conflicts class : ℕ) (x : Apart) (k : TellsClassesApart e 0 class x) → LatchIs (side_of_both e) conflicts (signal_of e x.high) false → MayLoad (side_of_both e) conflicts class
+may_load e conflicts class x k may = record { classes = k.classes; latch = signal_of e x.high; first = first_latch e class x k; may = may }
+
+-- one class more may load
+pub may_next : (e : EventsView) (conflicts i : ℕ) → ((k : ℕ) → 0 < k → k ≤ i → MayLoad (side_of_both e) conflicts k) → MayLoad (side_of_both e) conflicts (i + 1) → (k : ℕ) → 0 < k → k ≤ i + 1 → MayLoad (side_of_both e) conflicts k
+may_next e conflicts i before one k above low = go (either k (i + 1))
+  where
+    either : (m n : ℕ) → (m ≡ n) ⊎ ((m < n) ⊎ (n < m))
+    either m n = grind arith
+
+    go : (k ≡ i + 1) ⊎ ((k < i + 1) ⊎ (i + 1 < k)) → MayLoad (side_of_both e) conflicts k
+    go (inl same) = subst (MayLoad (side_of_both e) conflicts) (sym same) one
+    go (inr (inl less)) = before k above (omega (arith, less))
+    go (inr (inr more)) = absurd (omega (arith, low, more))
 
 -- the number of classes is that of the events
 fold_least : {X : Type 0} (f : X → ℕ) (n bound : ℕ) (xs : List X) → n ≤ bound → ((x : X) → Contains xs x → f x ≤ bound) → fold (λ m x. max m (f x)) n xs ≤ bound

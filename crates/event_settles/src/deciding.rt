@@ -50,7 +50,12 @@ fn decide_care(
 }
 
 /// Whether some assignment meets the query's care.
-pub(crate) fn care_met(alloc: Global, aig: &Aig, query: &Query, conflicts: u32) -> Result<Care, NoMemory>
+pub(crate) fn care_met(
+    alloc: Global,
+    aig: &Aig,
+    query: &Query,
+    conflicts: u32,
+) -> Result<Care, NoMemory>
     requires graph { IsGraph aig.now }
     requires query { IsQuery aig.now query.now }
     requires conflicts { conflicts ≤ MAX_CONFLICTS }

@@ -72,10 +72,12 @@ fn is_idle(alloc: Global, events: &Events, tag: Tag, conflicts: u32) -> Result<b
             graph.keeps();
             is_never(alloc, &graph, function, conflicts)
         }
-        Err(EventUnfoldError::NoMemory) => Err(NoMemory),
-        Err(_) => {
+        Err(error) => {
             graph.keeps();
-            Ok(false)
+            match error {
+                EventUnfoldError::NoMemory => Err(NoMemory),
+                _ => Ok(false),
+            }
         }
     }
 }

@@ -25,11 +25,11 @@ pub(crate) fn tell_idle(
     requires conflicts { conflicts ≤ MAX_CONFLICTS }
     ensures { IfOk result (λ told. AllZip (IsToldWith (side_of_both events.now) conflicts) cares told) }
 {
-    if !has_never(cares.as_slice()) {
-        return Ok(cares);
+    if has_never(cares.as_slice()) {
+        let idle = first_idle(alloc, events, aparts, conflicts)?;
+        return told_with(alloc, cares, &idle);
     }
-    let idle = first_idle(alloc, events, aparts, conflicts)?;
-    told_with(alloc, cares, &idle)
+    Ok(cares)
 }
 
 /// Whether some pair has no care.

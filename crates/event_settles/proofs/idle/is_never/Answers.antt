@@ -4,7 +4,6 @@ use Rattle.aig.specs.declared.node.Node.{Node}
 use Rattle.aig.specs.Graph.{IsGraph}
 use Rattle.obligations.specs.outcome.Queries.{IsQuery}
 use Rattle.event_settles.specs.Deciding.{CareDecides}
-use Rattle.event_settles.specs.declared.cares.Care.{Care}
 use Rattle.event_settles.proofs.LoadCares.{is_load_query, load_query, load_never, load_other}
 use Rattle.event_settles.proofs.idle.is_never.Goals as goal
 
