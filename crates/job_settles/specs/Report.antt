@@ -1,5 +1,5 @@
 -- The text of the report of a comparison with the cares of its pairs, and what it says.
-use Rattle.std.specs.Prelude.{ℕ, Bool, true, false, List, [], ◌∷◌, ◌++◌, codes, find, take, if◌then◌else◌, Option, option_map, Some, None}
+use Rattle.std.specs.Prelude.{ℕ, Bool, true, false, List, [], ◌∷◌, ◌++◌, codes, find, option_to_list, if◌then◌else◌, Option, option_map, Some, None}
 use Rattle.std.specs.Fmt.{decimal}
 use Rattle.std.specs.List.{filter_map, flat_map}
 use Rattle.sec_base.specs.declared.settings.Settings.{Settings}
@@ -31,13 +31,19 @@ abbrev pub care_line : PairCare → List ℕ
 care_line c = line_of c.care c.name
 
 -- the latch that stands with a pair without care, if any
-abbrev pub care_idle : PairCare → Option IdleLatch
-care_idle c = by c.care
-  where
-    by : Care → Option IdleLatch
-    by care.Met = None
-    by (care.Never idle) = idle
-    by (care.Limit proof) = None
+abbrev pub idle_with : Care → Option IdleLatch
+idle_with care.Met = None
+idle_with (care.Never idle) = idle
+idle_with (care.Limit proof) = None
+
+abbrev pub or_later : Option IdleLatch → Option IdleLatch → Option IdleLatch
+or_later None later = later
+or_later (Some x) later = Some x
+
+-- the first one of several pairs
+abbrev pub first_idle : List PairCare → Option IdleLatch
+first_idle [] = None
+first_idle (c ∷ cares) = or_later (idle_with c.care) (first_idle cares)
 
 -- the line of the first latch of a class whose loads can't happen
 abbrev pub idle_line : IdleLatch → List ℕ
@@ -45,7 +51,7 @@ idle_line x = codes "load " ++ latch_text x.side x.name ++ codes " never" ++ 10 
 
 -- It stands once, however many pairs have no care.
 abbrev pub idle_text : List PairCare → List ℕ
-idle_text cares = flat_map idle_line (take 1 (filter_map care_idle cares))
+idle_text cares = flat_map idle_line (option_to_list (first_idle cares))
 
 -- no frame has care for the pair
 abbrev pub is_never : PairCare → Bool

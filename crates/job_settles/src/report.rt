@@ -5,7 +5,7 @@ ghost use Rattle.std.specs.List.{filter_map, flat_map};
 ghost use Rattle.circuit_theory.specs.declared.Mode.TheVariants.{Event};
 ghost use Rattle.obligations.specs.outcome.Report.{knows_pairs, pair_text, verdict_text};
 ghost use Rattle.job_base.specs.declared.finding.Finding.TheVariants as finding;
-ghost use Rattle.job_settles.specs.Report.{care_line, care_proof, equal_text, front_text, idle_line, idle_text, named_line, settles_judgement, settles_proofs, settles_text, settles_verdict};
+ghost use Rattle.job_settles.specs.Report.{care_line, care_proof, equal_text, front_text, idle_line, idle_text, idle_with, named_line, settles_judgement, settles_proofs, settles_text, settles_verdict};
 
 use event_check::event_answers::Settled;
 use event_settles::{Care, IdleLatch, PairCare, PairCares};
@@ -110,12 +110,31 @@ fn put_care(text: &mut Vec<u8>, care: &PairCare) -> Result<(), NoMemory>
 fn put_idle(text: &mut Vec<u8>, cares: &[PairCare]) -> Result<(), NoMemory>
     ensures { OnOk result (text.new.items ≡ text.old.items ++ idle_text cares.now) }
 {
+    match first_idle(cares) {
+        Some(latch) => put_load(text, latch),
+        None => Ok(()),
+    }
+}
+
+/// The latch that stands with the first pair that has one.
+fn first_idle(cares: &[PairCare]) -> Option<&IdleLatch>
+    ensures { option_map (λ latch. latch.now) result ≡ Rattle.job_settles.specs.Report.first_idle cares.now }
+{
     for care in cares {
-        if let Care::Never(Some(latch)) = &care.care {
-            return put_load(text, latch);
+        if let Some(latch) = idle_of(&care.care) {
+            return Some(latch);
         }
     }
-    Ok(())
+    None
+}
+
+fn idle_of(care: &Care) -> Option<&IdleLatch>
+    ensures { option_map (λ latch. latch.now) result ≡ idle_with care.now }
+{
+    match care {
+        Care::Never(Some(latch)) => Some(latch),
+        _ => None,
+    }
 }
 
 fn put_load(text: &mut Vec<u8>, latch: &IdleLatch) -> Result<(), NoMemory>
