@@ -24,7 +24,7 @@ pub cares_of-requires-clause-separated : goal.cares_of-requires-clause-separated
 cares_of-requires-clause-separated c =
     let later = c.in-Ok.ensures.counted.later in
     separated_stay c.args.separated.now.events c.compare_events.new.events c.as_slice-aparts.result.now c.keeps.ensures.kept.events later.left later.right later.count later.grows
-    (subst (AreSeparated c.args.separated.now.events) (sym c.as_slice-aparts.ensures) c.requires.separated)
+    (subst (AreSeparated c.args.separated.now.events) (sym c.as_slice-aparts.ensures.value) c.requires.separated)
 
 pub cares_of-requires-clause-pairs : goal.cares_of-requires-clause-pairs
 cares_of-requires-clause-pairs c =
