@@ -1,0 +1,11 @@
+use Rattle.std.proofs.Common.{ℕ, ◌<◌, refl, arith}
+use Rattle.flat_net.specs.declared.signals.Signal.{Signal}
+use Rattle.tree_graph.specs.Walking.{IsMet}
+use Rattle.tree_graph.proofs.Lists.{all_more}
+use Rattle.tree_graph.proofs.reads.all_met.Goals as goal
+
+pub loop-signal-preserved : goal.loop-signal-preserved
+loop-signal-preserved c = ?
+
+pub returns : goal.returns
+returns c = λ h k d inside. c.loop-signal.invariant k d (omega (arith, inside, c.loop-signal-test.false))
