@@ -4,7 +4,8 @@ use Rattle.std.specs.Prelude.{slice_index_or}
 use Rattle.std.specs.List.{All, AllZip, AllPairs, Contains}
 use Rattle.std.proofs.lemmas.Option.{none-some, same_Some, slice_get_within, slice_get-get_or, get_or_from_slice_get}
 use Rattle.std.proofs.lemmas.List.{append-nil}
-use Rattle.circuit_theory.proofs.Lists.{at_of, map_at}
+use Rattle.std.proofs.lemmas.List.Elements.{All-contains}
+use Rattle.circuit_theory.proofs.Lists.{at_of, map_at, All-from_each, Contains-map}
 use Rattle.circuit_theory.proofs.Numbers.{distinct_at}
 use Rattle.base_tables.specs.Table.{AreDistinct}
 use Rattle.aig.proofs.Growth.{slice_get-append}
@@ -21,6 +22,21 @@ all_more P xs i e before inside here k d within = by (last k i within)
     by : (k < i) ⊎ (k ≡ i) → P (get_or xs k d)
     by (inl h) = before k d h
     by (inr h) = subst (λ (m : ℕ). P (get_or xs m d)) (sym h) (subst P (sym (get_or_from_slice_get xs i (get_or xs i e) d (slice_get-get_or xs i e inside))) here)
+
+-- what holds of the images holds of what they are of
+pub all_unmap : {X Y : Type 0} (P : Y → Type 0) (f : X → Y) (xs : List X) → All P (map f xs) → All (λ x. P (f x)) xs
+all_unmap P f xs h = All-from_each (λ x. P (f x)) xs (λ x m. All-contains P (map f xs) (f x) h (Contains-map f xs x m))
+
+right_at : {X Y : Type 0} (R : X → Y → Type 0) (P : Y → Type 0) → ((x : X) (y : Y) → R x y → P y) → (xs : List X) (ys : List Y) → AllZip R xs ys → (i : ℕ) (y : Y) → slice_get ys i ≡ Some y → P y
+right_at R P follows [] [] h i y at = absurd (none-some y at)
+right_at R P follows [] (z ∷ ys) h i y at = absurd h
+right_at R P follows (x ∷ xs) [] h i y at = absurd h
+right_at R P follows (x ∷ xs) (z ∷ ys) h zero y at = subst P (same_Some z y at) (follows x z h.0)
+right_at R P follows (x ∷ xs) (z ∷ ys) h (suc i) y at = right_at R P follows xs ys h.1 i y at
+
+-- what follows from each pair holds of the right list
+pub all_right : {X Y : Type 0} (R : X → Y → Type 0) (P : Y → Type 0) → ((x : X) (y : Y) → R x y → P y) → (xs : List X) (ys : List Y) → AllZip R xs ys → All P ys
+all_right R P follows xs ys zip = All-from_each P ys (λ y m. let at = at_of ys y m in right_at R P follows xs ys zip at.0 y at.1)
 
 -- one more of a list stands behind those that were taken of it
 pub push_more : {X Y : Type 0} (f : X → Y) (xs : List X) (whole before after : List Y) (i : ℕ) (d : X) → i < length xs → whole ≡ before ++ map f (drop i xs) → after ≡ before ++ f (get_or xs i d) ∷ [] → whole ≡ after ++ map f (drop (i + 1) xs)

@@ -6,7 +6,9 @@ use Rattle.base_tables.specs.Table.{AreDistinct}
 use Rattle.aig.specs.declared.node.Node.{Node}
 use Rattle.tree_graph.specs.Making.{Makes}
 use Rattle.tree_graph.specs.Numbering.{with_inputs, entry_of, IsGraphOf, HaveOneGraph}
+use Rattle.aig.specs.Builds.{Builds}
 use Rattle.tree_graph.proofs.One.{tree_one}
+use Rattle.tree_graph.proofs.Built.{stays, tree_grown, tree_built}
 use Rattle.tree_graph.proofs.Ordered.{ordered_one, shift_asym, entries_once}
 use Rattle.tree_graph.proofs.Inputs.{inputs_once}
 
@@ -23,3 +25,14 @@ have_one_graph left right places others g h x y z w l r =
     let other_right : Makes places l.between right h w = subst (λ (k : List Node). Makes places k right h w) (sym one.graphs) (subst (λ (ps : List (ℕ × ℕ)). Makes ps r.between right h w) (sym tables) r.right_made) in
     let two = tree_one places distinct l.between g h right y w one.once l.right_made other_right in
     (tables, two.graphs, one.lits, two.lits)
+
+-- both trees stand in their graph
+module _ (left right : Tree ℕ) (places : List (ℕ × ℕ)) (g : List Node) (x y : ℕ) (is : IsGraphOf left right places g x y) where
+  pub left_built : Builds g places left x
+  left_built = stays places is.between g (tree_grown places is.between g right y is.right_made) left x (tree_built places (with_inputs (length is.variables)) is.between left x is.left_made)
+
+  pub right_built : Builds g places right y
+  right_built = tree_built places is.between g right y is.right_made
+
+  pub places_once : AreDistinct places
+  places_once = subst AreDistinct (sym is.places_are) (entries_once is.variables is.are_variables.in_order)

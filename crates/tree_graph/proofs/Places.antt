@@ -1,5 +1,5 @@
 -- The trees of places, and how they are made of the trees of what the places read.
-use Rattle.std.proofs.Common.{◌≡◌, ℕ, suc, max, ◌+◌, ◌*◌, ◌<◌, List, [], ◌∷◌, ◌++◌, length, map, slice_get, Option, Some, None, refl, sym, ap, subst, ◌∙◌, arith, add-one}
+use Rattle.std.proofs.Common.{◌≡◌, ℕ, suc, max, ◌+◌, ◌*◌, ◌<◌, List, [], ◌∷◌, ◌++◌, length, map, slice_get, Option, Some, None, Result, Ok, Err, IfOk, refl, sym, ap, subst, ◌∙◌, arith, add-one}
 use Rattle.std.specs.List.{AllZip, Contains}
 use Rattle.std.proofs.lemmas.Option.{slice_get_within}
 use Rattle.circuit_theory.specs.Cover.{Cover}
@@ -40,10 +40,13 @@ module _ (n : NetView) (order : List ℕ) (sound : IsSound n) where
 
   -- its signal is one of the net
   pub signal_within : {s k d : ℕ} {t : Tree ℕ} → Unfolds (circuit_of n) order s k d t → s < length n.drivers
-  signal_within {s} (Unfolds.input {i = i} h) = let o = input_owner n sound s (beside_is_input (circuit_of n).inputs order s i h) in slice_get_within n.drivers s (driver.Input o.0) o.2.2.2
+  signal_within {s} (Unfolds.input {i = i} h) = let o = input_owner n sound s (beside_is_input (circuit_of n).inputs order s i h) in slice_get_within n.drivers s (driver.Input o.0) o.4
   signal_within (Unfolds.gate {out = out} {fanins = fanins} {cover = cover} eq each) = let o = gate_of_equation n sound out fanins cover eq in slice_get_within n.drivers out (driver.Gate o.j) o.owner
   signal_within (Unfolds.port {out = out} {from = from} eq rest) = absurd (no_port n sound out from eq)
   signal_within (Unfolds.latch {name = name} {out = out} {next = next} eq rest) = let o = latch_of_equation n sound name out next eq in slice_get_within n.drivers out (driver.Latch o.j) o.owner
+
+  pub tree_within : (p : ℕ × ℕ) → (t : Tree ℕ) × IsTreeAt n order p t → p.1 < length n.drivers
+  tree_within p (t, (d, u)) = signal_within u
 
   abbrev pub listed : Trees ℕ → List (Tree ℕ)
   listed Nil = []
@@ -88,7 +91,7 @@ module _ (n : NetView) (order : List ℕ) (sound : IsSound n) where
     pub has_reads : {s k d : ℕ} {t : Tree ℕ} → Unfolds (circuit_of n) order s k d t → HasReads (k, s) t
     has_reads {s} (Unfolds.input {k = k} {i = i} h) =
         let o = input_owner n sound s (beside_is_input (circuit_of n).inputs order s i h) in
-        let none : reads_of n (k, s) ≡ [] = ap (reads_by n k) o.2.2.2 in
+        let none : reads_of n (k, s) ≡ [] = ap (reads_by n k) o.4 in
         record { trees = []; are = subst (λ ps. AllZip (IsTreeAt n order) ps []) (sym none) tt; makes = λ g l once each. alone_made g l (Leaf i k) each }
     has_reads (Unfolds.gate {out = out} {fanins = fanins} {cover = cover} {k = k} {trees = trees} eq each) =
         let o = gate_of_equation n sound out fanins cover eq in
@@ -137,6 +140,18 @@ module _ (n : NetView) (order : List ℕ) (sound : IsSound n) where
         let whole : Tree ℕ = Branch (cover_of n.covers m.gate) trees.trees in
         let mine : IsTreeAt n order (k, s) whole = (trees.depth, Unfolds.gate (gate_equation_stands n sound s j drives m.gate m.at) trees.unfolds) in
         subst (λ (r : Tree ℕ). Makes places g r h x) (one_at (k, s) whole t mine is) (g, map (λ (y : Lit). y.0) m.lits, trees_kept g places trees.trees (map (λ (y : Lit). y.0) m.lits) trees.builds, m.made)
+
+    -- the gate's cover is made of the literals that were looked up
+    pub gate_lits : {E : Type 0} (k j : ℕ) (g h : List Node) (memo : List ((ℕ × ℕ) × Lit)) (gate : Gate) (signals : List Signal) (lits given : List Lit) (cover : Cover) (r : Result Lit E) → slice_get n.gates j ≡ Some gate → signals ≡ gate.fanins →
+        AllZip (λ f y. Contains memo ((k, f.0), y)) signals lits → given ≡ lits → cover_of n.covers gate ≡ cover → IfOk r (λ x. MakesCover g cover (map (λ y. y.0) given) h x.0) → IfOk r (λ x. MakesGate n memo k j g h x.0)
+    gate_lits k j g h memo gate signals lits given cover (Err e) at are each same is made = made
+    gate_lits k j g h memo gate signals lits given cover (Ok x) at are each same is made = record {
+      gate = gate;
+      at = at;
+      lits = lits;
+      each = subst (λ (fs : List Signal). AllZip (λ f y. Contains memo ((k, f.0), y)) fs lits) are each;
+      made = subst (λ (v : Cover). MakesCover g v (map (λ (y : Lit). y.0) lits) h x.0) (sym is) (subst (λ (ys : List Lit). MakesCover g cover (map (λ (y : Lit). y.0) ys) h x.0) same made);
+    }
 
     -- the place of a latch is made with what it takes over
     pub latch_made : (s k j x : ℕ) (l : LatchAt) (g : List Node) → slice_get n.drivers s ≡ Some (driver.Latch j) → slice_get n.latches j ≡ Some l → IsKnown n order places g (k + 1, l.next.0) x → (t : Tree ℕ) → IsTreeAt n order (k, s) t → Makes places g t g x

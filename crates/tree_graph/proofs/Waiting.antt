@@ -109,7 +109,7 @@ module _ (n : NetView) (order : List ℕ) (places : List (ℕ × ℕ)) where
           let at = at_of (memo ++ (p, x) ∷ []) (q, y) (subst (λ es. Contains es (q, y)) is m) in
           by (push-cases memo (p, x) at.0 (q, y) at.1)
         where
-          by : {i : ℕ} → (slice_get memo i ≡ Some (q, y)) ⊎ ((i ≡ length memo) × ((q, y) ≡ (p, x))) → IsKnown n order places h q y.0
+          by : {i : ℕ} → (slice_get memo i ≡ Some (q, y)) ⊎ ((i ≡ length memo) × (◌≡◌ {A = (ℕ × ℕ) × Lit} (q, y) (p, x))) → IsKnown n order places h q y.0
           by {i} (inl there) =
               let k = known q y (of_at memo i (q, y) there) in
               let grows = tree_grown places g h t x.0 made in

@@ -44,7 +44,7 @@ impl Drop for TreeGraph {
 ///
 /// `NoMemory` comes where memory was wanted; and where an input isn't in the table, the graph would have more than 2^28 nodes, or a
 /// shift would be 2^32 - 1, none of which comes to pass where the unfoldings weigh at most 2,000,000 each.
-pub fn graph_of(
+pub fn graph_of_trees(
     alloc: Global,
     left: &Rooted<'_>,
     right: &Rooted<'_>,

@@ -10,5 +10,5 @@ mod starts;
 mod walk;
 
 pub use covers::MOST_NODES;
-pub use graphs::{Rooted, TreeGraph, graph_of};
+pub use graphs::{Rooted, TreeGraph, graph_of_trees};
 pub use laws::one_graph;

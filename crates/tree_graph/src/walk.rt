@@ -32,6 +32,7 @@ pub(crate) fn make_tree(
     ensures within { IfOk result (λ x. x.0 < 2 * length aig.new) }
     ensures few { length aig.new ≤ MOST_NODES }
 {
+    side.net.keeps();
     let mut memo = Memo::new(alloc);
     let mut stack = Vec::new(alloc);
     push(&mut stack, (0, side.root.0))?;
