@@ -1,12 +1,12 @@
 -- What is made stands in the graph that it leaves, which has grown.
-use Rattle.std.proofs.Common.{◌≡◌, ℕ, ◌⊎◌, inl, inr, List, [], ◌∷◌, ◌++◌, slice_get, Option, Some, None, refl, sym, ap, subst, if◌then◌else◌}
+use Rattle.std.proofs.Common.{◌≡◌, ℕ, inl, inr, List, [], ◌∷◌, ◌++◌, Option, Some, None, refl, sym, ap, subst}
 use Rattle.circuit_theory.specs.Cover.{Cover}
 use Rattle.circuit_theory.specs.Tree.{Tree, Trees, Leaf, Fixed, Branch, Nil, Cons}
 use Rattle.base_tables.specs.unique_table.Places.{IsWith}
 use Rattle.aig.specs.declared.node.Node.{Node}
 use Rattle.aig.specs.declared.node.Node.TheVariants.{Input}
-use Rattle.aig.specs.Graph.{Grows, IsLitOf, flip}
-use Rattle.aig.specs.Rules.{simple_and, and_node, place_lit, IsAndOf, IsWithAndBy, IsPlaceOf, IsCubeOf, IsRowOf, AreRowsOf, IsCoverOf}
+use Rattle.aig.specs.Graph.{Grows, flip}
+use Rattle.aig.specs.Rules.{simple_and, and_node, place_lit, IsWithAndBy, IsPlaceOf, IsCubeOf, IsRowOf, AreRowsOf, IsCoverOf}
 use Rattle.aig.specs.Builds.{Builds, BuildsAll}
 use Rattle.aig.proofs.Growth.{Grows-refl, Grows-trans, IsPlaceOf-grows, IsCubeOf-grows, IsRowOf-grows, BuildsAll-grows, Builds-grows}
 use Rattle.tree_graph.specs.Making.{MakesAnd, MakesPlace, MakesCube, MakesRow, MakesRows, MakesCover, Makes, MakesAll}

@@ -1,5 +1,5 @@
 -- What has been made already leaves the graph as it was.
-use Rattle.std.proofs.Common.{◌≡◌, ℕ, inl, List, [], ◌∷◌, slice_get, Option, Some, None, refl, subst, if◌then◌else◌}
+use Rattle.std.proofs.Common.{ℕ, inl, List, [], ◌∷◌, Option, Some, None, refl}
 use Rattle.circuit_theory.specs.Cover.{Cover}
 use Rattle.circuit_theory.specs.Tree.{Tree, Trees, Leaf, Fixed, Branch, Nil, Cons}
 use Rattle.circuit_theory.proofs.Lists.{of_at}

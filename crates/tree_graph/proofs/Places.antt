@@ -1,9 +1,8 @@
 -- The trees of places, and how they are made of the trees of what the places read.
-use Rattle.std.proofs.Common.{◌≡◌, ℕ, suc, max, ◌+◌, ◌*◌, ◌<◌, List, [], ◌∷◌, ◌++◌, length, map, slice_get, Option, Some, None, Result, Ok, Err, IfOk, refl, sym, ap, subst, ◌∙◌, arith, add-one}
+use Rattle.std.proofs.Common.{◌≡◌, ℕ, suc, max, ◌+◌, ◌<◌, List, [], ◌∷◌, length, map, slice_get, Some, Result, Ok, Err, IfOk, refl, sym, ap, subst, ◌∙◌, add-one}
 use Rattle.std.specs.List.{AllZip, Contains}
 use Rattle.std.proofs.lemmas.Option.{slice_get_within}
 use Rattle.circuit_theory.specs.Cover.{Cover}
-use Rattle.circuit_theory.specs.Circuit.{Gate as gate_equation}
 use Rattle.circuit_theory.specs.Tree.{Tree, Trees, Leaf, Branch, Nil, Cons, Unfolds, UnfoldsAll, IsInputNumber}
 use Rattle.circuit_theory.specs.Net.{IsNet}
 use Rattle.circuit_theory.proofs.Lists.{map-map, zip_weaker}
@@ -15,7 +14,6 @@ use Rattle.base_tables.specs.unique_table.Places.{StandOnce}
 use Rattle.flat_net.specs.declared.signals.Signal.{Signal}
 use Rattle.flat_net.specs.declared.parts.Gate.{Gate}
 use Rattle.flat_net.specs.declared.parts.LatchAt.{LatchAt}
-use Rattle.flat_net.specs.declared.parts.Driver.{Driver}
 use Rattle.flat_net.specs.declared.parts.Driver.TheVariants as driver
 use Rattle.flat_net.specs.View.{NetView, circuit_of, cover_of, named}
 use Rattle.flat_net.specs.Sound.{IsSound}
@@ -23,7 +21,7 @@ use Rattle.flat_net.proofs.Nets.{sound_is_net}
 use Rattle.flat_net.proofs.Drivers.{gate_of_equation, latch_of_equation, no_port, input_owner, gate_equation_stands, latch_equation_stands}
 use Rattle.aig.specs.declared.node.Lit.{Lit}
 use Rattle.aig.specs.declared.node.Node.{Node}
-use Rattle.aig.specs.Builds.{Builds, BuildsAll}
+use Rattle.aig.specs.Builds.{BuildsAll}
 use Rattle.tree_graph.specs.Making.{Makes, MakesAll, MakesCover}
 use Rattle.tree_graph.specs.Rooted.{IsTreeAt}
 use Rattle.tree_graph.specs.Walking.{reads_by, reads_of, fanins_at, taken_at, IsKnown, AreKnown, MakesEach, MakesGate}

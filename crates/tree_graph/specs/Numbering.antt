@@ -1,9 +1,7 @@
 -- The graph of two trees, numbered by the trees alone.
 use Rattle.std.specs.Prelude.{◌≡◌, ℕ, zero, suc, List, [], ◌∷◌, ◌++◌, map, length}
-use Rattle.std.specs.List.{Contains}
 use Rattle.circuit_theory.specs.Tree.{Tree}
 use Rattle.circuit_theory.specs.Query.{Variable, AreVariables, ShiftBefore}
-use Rattle.base_tables.specs.Table.{AreDistinct}
 use Rattle.aig.specs.declared.node.Node.{Node}
 use Rattle.aig.specs.declared.node.Node.TheVariants.{Constant, Input}
 use Rattle.tree_graph.specs.Making.{Makes}

@@ -1,5 +1,5 @@
 -- A signal of a circuit as the root of its function tree.
-use Rattle.std.specs.Prelude.{◌≡◌, ℕ, List, [], ◌∷◌, map, length, slice_index_or}
+use Rattle.std.specs.Prelude.{◌≡◌, ℕ, List, map, length, slice_index_or}
 use Rattle.circuit_theory.specs.Tree.{Tree, Unfolds}
 use Rattle.flat_net.specs.View.{NetView, circuit_of}
 use Rattle.tree_graph.specs.declared.graphs.Rooted.{Rooted}

@@ -1,12 +1,12 @@
 -- The trees of places that wait on a stack are made one after the other, the last first.
 use Rattle.std.specs.Prelude.{◌≡◌, ℕ, ◌+◌, ◌*◌, ◌<◌, List, [], ◌∷◌, ◌++◌, map, length, slice_get, Option, Some, None, Contains}
 use Rattle.std.specs.List.{AllZip}
-use Rattle.circuit_theory.specs.Tree.{Tree, Unfolds}
+use Rattle.circuit_theory.specs.Tree.{Tree}
 use Rattle.flat_net.specs.declared.parts.Gate.{Gate}
 use Rattle.flat_net.specs.declared.parts.LatchAt.{LatchAt}
 use Rattle.flat_net.specs.declared.parts.Driver.{Driver}
 use Rattle.flat_net.specs.declared.parts.Driver.TheVariants as driver
-use Rattle.flat_net.specs.View.{NetView, circuit_of, cover_of}
+use Rattle.flat_net.specs.View.{NetView, cover_of}
 use Rattle.aig.specs.declared.node.Lit.{Lit}
 use Rattle.aig.specs.declared.node.Node.{Node}
 use Rattle.aig.specs.Builds.{Builds}

@@ -46,7 +46,12 @@ pub(crate) fn make_tree(
 }
 
 /// The literal of the root.
-fn found(side: &Rooted<'_>, places: &UniqueTable<Place>, aig: &Aig, memo: &Memo) -> Result<Lit, NoMemory>
+fn found(
+    side: &Rooted<'_>,
+    places: &UniqueTable<Place>,
+    aig: &Aig,
+    memo: &Memo,
+) -> Result<Lit, NoMemory>
     requires known { AreKnown side.now.net.now side.now.order.now places.now memo.now aig.now }
     ensures made { IfOk result (λ x. (t : Tree ℕ) (y : ℕ) → IsTreeOf side.now t → Builds aig.now places.now t y → y ≡ x.0) }
     ensures within { IfOk result (λ x. x.0 < 2 * length aig.now) }

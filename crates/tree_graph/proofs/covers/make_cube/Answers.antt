@@ -1,4 +1,4 @@
-use Rattle.std.proofs.Common.{◌≡◌, ◌∙◌, get_or, refl, arith, length, map}
+use Rattle.std.proofs.Common.{get_or, refl, arith, map}
 use Rattle.aig.proofs.Growth.{Grows-refl, Grows-trans, Grows-length}
 use Rattle.circuit_theory.proofs.Lists.{length-map}
 use Rattle.aig.specs.declared.node.Lit.{Lit}

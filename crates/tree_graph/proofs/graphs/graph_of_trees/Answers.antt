@@ -1,12 +1,10 @@
-use Rattle.std.proofs.Common.{◌≡◌, ◌∙◌, ℕ, ◌*◌, ◌<◌, List, length, map, sym, ap, subst, arith}
-use Rattle.circuit_theory.specs.Tree.{Tree}
-use Rattle.circuit_theory.specs.Query.{Variable}
+use Rattle.std.proofs.Common.{◌≡◌, ◌∙◌, ℕ, List, length, ap, subst, arith}
 use Rattle.circuit_theory.proofs.Lists.{length-map}
 use Rattle.aig.specs.declared.node.Node.{Node}
 use Rattle.aig.proofs.Growth.{Grows-length}
 use Rattle.tree_graph.specs.Making.{Makes}
-use Rattle.tree_graph.specs.Rooted.{entries, IsTreeOf}
-use Rattle.tree_graph.specs.Numbering.{with_inputs, entry_of, IsGraphOf}
+use Rattle.tree_graph.specs.Rooted.{entries}
+use Rattle.tree_graph.specs.Numbering.{with_inputs, entry_of}
 use Rattle.tree_graph.proofs.Built.{tree_grown}
 use Rattle.tree_graph.proofs.graphs.graph_of_trees.Goals as goal
 

@@ -1,4 +1,4 @@
-use Rattle.std.proofs.Common.{ℕ, ◌<◌, refl, arith}
+use Rattle.std.proofs.Common.{arith}
 use Rattle.flat_net.specs.declared.signals.Signal.{Signal}
 use Rattle.tree_graph.specs.Walking.{IsMet}
 use Rattle.tree_graph.proofs.Lists.{all_more}

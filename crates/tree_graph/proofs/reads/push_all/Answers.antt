@@ -1,4 +1,4 @@
-use Rattle.std.proofs.Common.{ℕ, refl, sym, arith, ◌++◌, map}
+use Rattle.std.proofs.Common.{◌++◌, map}
 use Rattle.flat_net.specs.declared.signals.Signal.{Signal}
 use Rattle.tree_graph.proofs.Lists.{push_more, push_done}
 use Rattle.tree_graph.proofs.reads.push_all.Goals as goal

@@ -1,4 +1,4 @@
-use Rattle.std.proofs.Common.{ℕ, List, ◌++◌, drop}
+use Rattle.std.proofs.Common.{List, ◌++◌, drop}
 use Rattle.std.specs.List.{AllZip, Contains}
 use Rattle.flat_net.specs.declared.signals.Signal.{Signal}
 use Rattle.aig.specs.declared.node.Lit.{Lit}

@@ -1,5 +1,5 @@
-use Rattle.std.proofs.Common.{◌≡◌, ◌∙◌, ℕ, ◌*◌, ◌<◌, List, [], length, map, slice_get, Some, Option, sym, ap, subst}
-use Rattle.std.specs.List.{All, AllZip, Contains}
+use Rattle.std.proofs.Common.{◌∙◌, ℕ, ◌*◌, ◌<◌, [], length, map, Option, sym, ap, subst}
+use Rattle.std.specs.List.{All, Contains}
 use Rattle.circuit_theory.proofs.Lists.{zip_length}
 use Rattle.flat_net.specs.declared.signals.Signal.{Signal}
 use Rattle.flat_net.specs.declared.parts.Gate.{Gate}

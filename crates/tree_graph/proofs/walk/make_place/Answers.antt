@@ -1,5 +1,5 @@
-use Rattle.std.proofs.Common.{◌≡◌, ◌∙◌, ℕ, ◌+◌, ◌<◌, List, [], ◌∷◌, length, get_or, slice_get, Some, Option, sym, ap, subst, arith}
-use Rattle.std.specs.List.{All, Contains}
+use Rattle.std.proofs.Common.{◌∙◌, ℕ, ◌+◌, ◌<◌, List, [], ◌∷◌, length, get_or, slice_get, Some, sym, ap, subst, arith}
+use Rattle.std.specs.List.{All}
 use Rattle.std.proofs.lemmas.Option.{slice_get_within, slice_get-get_or}
 use Rattle.std.proofs.lemmas.Result.{IfOk-weaker}
 use Rattle.circuit_theory.specs.Tree.{Tree, Leaf}
@@ -7,10 +7,9 @@ use Rattle.flat_net.specs.declared.parts.LatchAt.{LatchAt}
 use Rattle.flat_net.specs.declared.parts.Driver.TheVariants as driver
 use Rattle.flat_net.specs.Sound.{IsSound}
 use Rattle.flat_net.proofs.Drivers.{driven_gate, driven_latch}
-use Rattle.aig.specs.declared.node.Lit.{Lit}
 use Rattle.tree_graph.specs.Making.{Makes}
 use Rattle.tree_graph.specs.Rooted.{IsTreeAt}
-use Rattle.tree_graph.specs.Walking.{IsMet, MakesGate, reads_by, taken_at, fanins_at}
+use Rattle.tree_graph.specs.Walking.{IsMet, MakesGate, reads_by, taken_at}
 use Rattle.tree_graph.proofs.Places.{input_made, gate_made, latch_made}
 use Rattle.tree_graph.proofs.walk.make_place.Goals as goal
 

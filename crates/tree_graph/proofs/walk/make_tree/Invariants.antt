@@ -1,4 +1,4 @@
-use Rattle.std.proofs.Common.{ℕ, ◌≤◌, length}
+use Rattle.std.proofs.Common.{◌≤◌, length}
 use Rattle.tree_graph.specs.declared.covers.TheConstants.{MOST_NODES}
 use Rattle.tree_graph.specs.Walking.{AreKnown}
 use Rattle.tree_graph.proofs.Waiting.{IsWaiting}

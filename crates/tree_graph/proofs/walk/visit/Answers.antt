@@ -1,9 +1,9 @@
-use Rattle.std.proofs.Common.{◌≡◌, ◌∙◌, ℕ, List, [], ◌∷◌, ◌++◌, sym, ap, subst}
+use Rattle.std.proofs.Common.{◌≡◌, ◌∙◌, ℕ, List, ◌++◌, ap}
 use Rattle.std.proofs.lemmas.Result.{on_ok_weaker}
 use Rattle.circuit_theory.specs.Tree.{Tree}
 use Rattle.flat_net.specs.View.{NetView}
 use Rattle.tree_graph.specs.Rooted.{IsTreeAt}
-use Rattle.tree_graph.specs.Walking.{IsVisited, reads_of}
+use Rattle.tree_graph.specs.Walking.{reads_of}
 use Rattle.tree_graph.proofs.Places.{tree_within}
 use Rattle.tree_graph.proofs.Waiting.{made_visited, met_visited, put_back, known_more}
 use Rattle.tree_graph.proofs.walk.visit.Goals as goal
