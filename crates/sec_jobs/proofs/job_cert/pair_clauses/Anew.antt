@@ -1,12 +1,10 @@
 -- The functions of a pair, made anew on the graph of their trees.
-use Rattle.std.proofs.Common.{◌≡◌, ◌≢◌, ℕ, ◌*◌, ◌<◌, List, [], ◌∷◌, map, length, refl, sym, ◌∙◌}
+use Rattle.std.proofs.Common.{◌≡◌, ◌≢◌, ℕ, ◌*◌, ◌<◌, List, [], ◌∷◌, map, length, refl, sym}
 use Rattle.std.specs.List.{All, AllPairs}
-use Rattle.circuit_theory.specs.Tree.{Tree}
-use Rattle.circuit_theory.specs.Query.{Variable, AreVariables, ShiftBefore}
+use Rattle.circuit_theory.specs.Query.{AreVariables, ShiftBefore}
 use Rattle.circuit_theory.proofs.Lists.{map-map}
 use Rattle.base_tables.specs.Table.{AreDistinct}
 use Rattle.flat_net.specs.View.{NetView}
-use Rattle.aig.specs.declared.node.Lit.{Lit}
 use Rattle.aig.specs.declared.node.Node.{Node}
 use Rattle.aig.specs.Graph.{IsGraph}
 use Rattle.aig.specs.Builds.{HasTreeValues}

@@ -1,6 +1,5 @@
 -- Both functions made anew.
 use Rattle.std.proofs.Common.{◌≡◌, ℕ, List, sym, subst}
-use Rattle.cbf_unfold.specs.declared.unfold_places.signal_function.Unfolded.{Unfolded}
 use Rattle.plain_asked.specs.Variables.{AreInOrder, IsMergeOf}
 use Rattle.plain_asked.proofs.PairQueries.{in_order}
 use Rattle.tree_graph.specs.Rooted.{entries}
