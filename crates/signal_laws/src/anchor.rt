@@ -4,5 +4,5 @@
 #[derive(Clone, Copy, PartialEq, Eq)]
 pub enum Anchor {
     Bit(bool),
-    Place { place: u32, flipped: bool },
+    Place { place: usize, flipped: bool },
 }
