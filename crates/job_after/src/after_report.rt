@@ -1,8 +1,7 @@
 //! The report.
 
-ghost use Rattle.std.specs.Prelude.{◌≡◌, ◌++◌, length, codes, IfOk, OnOk, [], ◌∷◌};
-ghost use Rattle.std.specs.Fmt.{decimal};
-ghost use Rattle.job_after.specs.Report.{rows_line, unknown_line, sequence_text, unshown_line, after_verdict, after_text};
+ghost use Rattle.std.specs.Prelude.{◌≡◌, ◌++◌, length, IfOk, OnOk};
+ghost use Rattle.job_after.specs.Report.{unknown_line, sequence_text, unshown_text, shown_text, after_text};
 
 use crate::known::{first_unknown, unknown_count};
 use cycle_search::search_report::{put_count_line, put_front, put_name, put_values, put_verdict};
@@ -15,6 +14,7 @@ use witness_report::write_stimulus;
 
 /// What the report tells besides what a search does: how many rows the stimulus has, what is known of the latches behind them, and the
 /// difference that is shown, if one is.
+#[derive(Clone, Copy)]
 pub(crate) struct After<'a> {
     pub(crate) rows: u64,
     pub(crate) left: &'a [Option<bool>],
@@ -34,6 +34,9 @@ pub(crate) fn report(
     after: &After<'_>,
     searched: &Searched,
 ) -> Result<Text, NoMemory>
+    requires left { length after.now.left.now ≡ length a.now.latches }
+    requires right { length after.now.right.now ≡ length b.now.latches }
+    ensures { IfOk result (λ text. text ≡ after_text a.now b.now cycles conflicts after.now.rows after.now.left.now after.now.right.now after.now.shown.now searched.now) }
 {
     let mut text = Vec::new(alloc);
     put_count_line(alloc, &mut text, b"after ", after.rows)?;
@@ -52,6 +55,8 @@ fn put_unknown(
     net: &Net,
     known: &[Option<bool>],
 ) -> Result<(), NoMemory>
+    requires { length known.now ≡ length net.now.latches }
+    ensures { OnOk result (text.new.items ≡ text.old.items ++ unknown_line front.now net.now known.now) }
 {
     put(text, front)?;
     put_number(alloc, text, unknown_count(known))?;
@@ -70,6 +75,7 @@ fn put_after_verdict(
     searched: &Searched,
     shown: &Option<Witness>,
 ) -> Result<(), NoMemory>
+    ensures { OnOk result (text.new.items ≡ text.old.items ++ shown_text conflicts searched.now shown.now) }
 {
     match shown {
         Some(witness) => put_sequence(alloc, text, witness),
@@ -84,6 +90,7 @@ fn put_after_verdict(
 
 /// Puts a difference with its sequence.
 fn put_sequence(alloc: Global, text: &mut Vec<u8>, witness: &Witness) -> Result<(), NoMemory>
+    ensures { OnOk result (text.new.items ≡ text.old.items ++ sequence_text witness.now) }
 {
     put_name(text, b"verdict different ", &witness.pair)?;
     put_values(alloc, text, witness)?;
@@ -98,6 +105,7 @@ fn put_unshown(
     pair: &PairName,
     cycle: u32,
 ) -> Result<(), NoMemory>
+    ensures { OnOk result (text.new.items ≡ text.old.items ++ unshown_text pair.now cycle) }
 {
     put_name(text, b"verdict not-shown ", pair)?;
     put_count_line(alloc, text, b" cycle ", u64::from(cycle))

@@ -1,8 +1,10 @@
 //! Two nets searched for a difference behind the rows of a stimulus.
 
-ghost use Rattle.std.specs.Prelude.{◌≡◌, ◌<◌, ◌≤◌, ◌^◌, length, IfOk};
+ghost use Rattle.std.specs.Prelude.{◌≡◌, ◌≤◌, ◌++◌, IfOk, IfSome, OnOk, option_to_list};
 ghost use Rattle.flat_net.specs.Comparable.{IsComparable};
-ghost use Rattle.job_after.specs.Ends.{IsJudgedBy, after_end};
+ghost use Rattle.flat_net.specs.View.{circuit_of};
+ghost use Rattle.witness_report.specs.Shown.{MakesDiffer};
+ghost use Rattle.job_after.specs.Ends.{FitsAfter, IsJudgedBy, after_end};
 ghost use Rattle.job_after.specs.Judged.{judgement_of, proofs_of};
 
 use crate::after_report::{After, report};
@@ -10,9 +12,10 @@ use crate::fault::AfterFault;
 use crate::known::begin;
 use crate::sequence::shown_behind;
 use base_tables::NameTable;
+use circuit_report::sim_report::Misfit;
 use cycle_search::{SearchVerdict, Searched, search_cycles};
 use flat_net::Net;
-use job_base::{Finding, Judgement, Misfit, Proofs, Refusal, Stop};
+use job_base::{Finding, Judgement, Proofs, Refusal, Stop};
 use job_circuit::replay::ReplayError;
 use job_circuit::replay::replay_header::opened_by;
 use obligations::PairResults;

@@ -1,8 +1,6 @@
 //! What is known of both circuits behind the rows of a stimulus.
 
-ghost use Rattle.std.specs.Prelude.{◌≡◌, length, IfOk, IfSome, None, slice_get, Some};
-ghost use Rattle.flat_net.specs.View.{NetView};
-ghost use Rattle.restart.specs.Behind.{begun, AreKnownBehind};
+ghost use Rattle.std.specs.Prelude.{◌≡◌, IfOk};
 ghost use Rattle.job_after.specs.Judged.{IsBegun};
 ghost use Rattle.job_after.specs.Report.{unknown_count, first_unknown};
 

@@ -1,9 +1,8 @@
 //! A sequence that begins with the rows of a stimulus, and whether it makes a pair differ whatever the circuits power up with.
 
-ghost use Rattle.std.specs.Prelude.{◌≡◌, length, IfOk, IfSome, All};
+ghost use Rattle.std.specs.Prelude.{◌≡◌, length, IfOk, IfSome};
 ghost use Rattle.flat_net.specs.View.{circuit_of};
 ghost use Rattle.witness_report.specs.Shown.{MakesDiffer};
-ghost use Rattle.job_after.specs.Sequence.{bit_of, bits_of, IsJoined, IsShown};
 
 use base_tables::NameTable;
 use flat_net::Net;
