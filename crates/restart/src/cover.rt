@@ -82,11 +82,7 @@ fn rows_three(rows: &[Word], fanins: &[Signal], values: &[Option<bool>]) -> Opti
 }
 
 /// The cover's value of the fan-ins' values, where that is known row by row.
-pub(crate) fn cover_three(
-    cover: &Cover,
-    fanins: &[Signal],
-    values: &[Option<bool>],
-) -> Option<bool>
+pub(crate) fn cover_three(cover: &Cover, fanins: &[Signal], values: &[Option<bool>]) -> Option<bool>
     requires width { cover.now.width ≡ length fanins.now }
     requires sound { IsCoverSound cover.now }
     requires within { All (λ f. f.0 < length values.now) fanins.now }

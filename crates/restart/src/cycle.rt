@@ -50,8 +50,15 @@ fn put_inputs(net: &Net, columns: &[u32], row: &[bool], values: &mut [Option<boo
 {
     net.keeps();
     for (i, port) in net.inputs().iter().enumerate() {
-        values[port.signal.0 as usize] = row.get(columns[i] as usize).copied();
+        values[port.signal.0 as usize] = bit_at(row, columns[i]);
     }
+}
+
+/// The bit in the column of the row, where there is one.
+fn bit_at(row: &[bool], column: u32) -> Option<bool>
+    ensures { result ≡ slice_get row.now column }
+{
+    row.get(column as usize).copied()
 }
 
 /// Puts what is known of the latches.

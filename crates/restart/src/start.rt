@@ -11,6 +11,7 @@ pub fn restart(net: &mut Net, known: &[Option<bool>])
     requires { length known.now ≡ length net.old.latches }
     ensures { net.new ≡ begun net.old known.now }
 {
+    net.keeps();
     for (j, value) in known.iter().enumerate() {
         net.set_init(j as u32, init_of(*value));
     }

@@ -3,6 +3,7 @@
 ghost use Rattle.std.specs.Prelude.{◌≡◌, ◌-◌, ℕ, Bool, None, Some, length, slice_get, slice_index_or, IfOk};
 ghost use Rattle.std.specs.List.{Contains};
 ghost use Rattle.flat_net.specs.View.{circuit_of};
+ghost use Rattle.start_laws.specs.Known.{IsKnown};
 ghost use Rattle.restart.specs.Behind.{IsColumnOf, AreColumnsOf, AreKnownLatches, AreKnownBits, AreKnownBehind, KnowsOutput};
 
 use crate::cycle::{compute, take_over};
@@ -41,8 +42,27 @@ pub fn known_output(
     let columns = columns_of(alloc, net, names)?;
     let mut latches = vec![in alloc; None; net.latches().len()]?;
     let mut values = vec![in alloc; None; net.size() as usize]?;
-    run(net, &columns, rows, &mut latches, &mut values);
-    Ok(value_of(net, &values, name))
+    Ok(run_to(net, &columns, rows, &mut latches, &mut values, name))
+}
+
+/// What is known of the output of this name in the last row, once it has run over all rows.
+fn run_to(
+    net: &Net,
+    columns: &[u32],
+    rows: &[Bits],
+    latches: &mut [Option<bool>],
+    values: &mut [Option<bool>],
+    name: &[u8],
+) -> Option<bool>
+    requires columns { length columns.now ≡ length net.now.inputs }
+    requires latches { length latches.old ≡ length net.now.latches }
+    requires values { length values.old ≡ length net.now.drivers }
+    requires none { (j : ℕ) → slice_index_or latches.old j None ≡ None }
+    requires nothing { (p : ℕ) → slice_index_or values.old p None ≡ None }
+    ensures { (bit : Bool) → result ≡ Some bit → (p : ℕ) × Contains (circuit_of net.now).outputs (record { name = name.now; place = p }) × IsKnown (circuit_of net.now) columns.now rows.now (length rows.now - 1) p bit }
+{
+    run(net, columns, rows, latches, values);
+    value_of(net, values, name)
 }
 
 /// What is known of the output of this name; nothing without one.

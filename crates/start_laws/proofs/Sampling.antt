@@ -1,12 +1,10 @@
 -- The examples.
-use Rattle.std.proofs.Common.{◌≡◌, ◌≢◌, ℕ, Bool, true, false, List, [], ◌∷◌, refl, sym, ◌∙◌, ap, subst, arith, inl, inr, Some, None}
+use Rattle.std.proofs.Common.{◌≡◌, ℕ, Bool, true, false, List, [], ◌∷◌, refl, sym, ap, subst, arith, inl, inr, Some, None}
 use Rattle.std.specs.Prelude.{◌⊎◌}
 use Rattle.std.specs.List.{Contains}
 use Rattle.circuit_theory.specs.Cover.{cover_value}
 use Rattle.circuit_theory.specs.Circuit.{Equation, Gate, Latch, Port, Started, IsLatch}
-use Rattle.circuit_theory.specs.Tree.{Fixed, Branch, Cons, Nil, tree_value}
 use Rattle.circuit_theory.proofs.Lists.{Contains-cases, only}
-use Rattle.circuit_laws.specs.reset_laws.Reset.{ResetUnfolds, ResetUnfoldsAll, HasStarts}
 use Rattle.start_laws.specs.Known.{Completes, IsKnown, AreKnown, AreStartsAfter}
 use Rattle.start_laws.specs.Samples.{neither, resettable, reset_row, either_way, ResetIsKnown, CoversAreNotExact}
 use Rattle.start_laws.proofs.Covers.{cover_forces}

@@ -1,17 +1,12 @@
 -- What holds of runs that begin with a sequence of inputs. Each law is the contract of a function of this crate.
-use Rattle.std.specs.Prelude.{◌≡◌, ◌≢◌, ℕ, ◌+◌, ◌<◌, ◌≤◌, ◌⊎◌, Bool, false, List, [], ◌++◌, length, slice_index_or, Option, Some, slice_get}
-use Rattle.std.specs.List.{All, Contains}
+use Rattle.std.specs.Prelude.{◌≡◌, ℕ, ◌+◌, ◌<◌, ◌≤◌, Bool, List, [], length, Option, Some}
 use Rattle.circuit_theory.specs.Cover.{Cover}
 use Rattle.circuit_theory.specs.Circuit.{Circuit, Started, IsLatch}
-use Rattle.circuit_theory.specs.Cone.{latches_of}
 use Rattle.circuit_theory.specs.Run.{IsRun, EqualInputs, IsResetRun}
 use Rattle.circuit_theory.specs.Net.{IsNet}
 use Rattle.circuit_theory.specs.Tree.{IsInputNumber, AreNumbered}
-use Rattle.circuit_theory.specs.Query.{Variable}
-use Rattle.circuit_theory.specs.Sequence.{row_value, TakesInputs}
 use Rattle.circuit_theory.specs.Agree.{AreAlike, IsPair}
-use Rattle.circuit_theory.specs.Fits.{MakesDiffer}
-use Rattle.circuit_laws.specs.reset_laws.Reset.{IsFree, HasStarts, AreBased, AgreeFromReset, IsResetWitness, MakesDifferFromReset}
+use Rattle.circuit_laws.specs.reset_laws.Reset.{HasStarts, AgreeFromReset}
 use Rattle.start_laws.specs.Known.{Forces, cover_three, IsKnown, IsThreeRun, BeginsWith, restarted, AreStartsAfter, row_bit, starts_in}
 use Rattle.cycle_laws.specs.Bounded.{AgreeUpTo}
 
