@@ -1,0 +1,5 @@
+pub mod Behind
+pub mod Report
+pub mod Judged
+pub mod Ends
+pub mod Answer

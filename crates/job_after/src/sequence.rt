@@ -1,0 +1,97 @@
+//! A sequence that begins with the rows of a stimulus, and whether it makes a pair differ whatever the circuits power up with.
+
+ghost use Rattle.std.specs.Prelude.{◌≡◌, length, IfOk, IfSome};
+ghost use Rattle.flat_net.specs.View.{circuit_of};
+ghost use Rattle.witness_report.specs.Shown.{MakesDiffer};
+
+use base_tables::NameTable;
+use flat_net::Net;
+use obligations::copy_name;
+use obligations::outcome::{PairName, Witness};
+use restart::known_output;
+use sec_base::{BitRows, Bits, NoMemory, Words};
+use sec_setup::ports::name_tables::table_of_names;
+use std::alloc::Global;
+use witness_report::Stimulus;
+
+/// The bit under the name in a row of the stimulus with this header, and 0 where there is none.
+fn bit_of(header: &NameTable, row: &[bool], name: &[u8]) -> bool
+{
+    match header.find(name) {
+        Some(column) => row.get(column as usize).copied().unwrap_or(false),
+        None => false,
+    }
+}
+
+/// The row's bits under these names.
+fn bits_of(
+    alloc: Global,
+    header: &NameTable,
+    row: &[bool],
+    names: &Words,
+) -> Result<Bits, NoMemory>
+    ensures { IfOk result (λ bits. length bits ≡ length names.now) }
+{
+    let mut bits = Bits::new(alloc);
+    for name in names.as_slice() {
+        bits.push(bit_of(header, row, name.as_slice()))?;
+    }
+    Ok(bits)
+}
+
+/// The rows of the stimulus with this header under the names of the sequence, and then the rows of the sequence.
+fn joined(
+    alloc: Global,
+    header: &NameTable,
+    rows: &[Bits],
+    sequence: &Stimulus,
+) -> Result<Stimulus, NoMemory>
+{
+    let names = sequence.names.copy()?;
+    let mut made = BitRows::new(alloc);
+    for row in rows {
+        made.push(bits_of(alloc, header, row.as_slice(), &names)?)?;
+    }
+    for row in sequence.rows.as_slice() {
+        made.push(row.copy()?)?;
+    }
+    Ok(Stimulus { names, rows: made })
+}
+
+/// The difference that the sequence of this one shows behind the rows of the stimulus with this header, if in its last cycle both outputs
+/// are known, whatever the circuits power up with, and differ.
+pub(crate) fn shown_behind(
+    alloc: Global,
+    a: &Net,
+    b: &Net,
+    header: &NameTable,
+    rows: &[Bits],
+    found: &Witness,
+) -> Result<Option<Witness>, NoMemory>
+    ensures { IfOk result (λ shown. IfSome shown (MakesDiffer (circuit_of a.now) (circuit_of b.now))) }
+{
+    let PairName::Output(name) = &found.pair else {
+        return Ok(None);
+    };
+    let stimulus = joined(alloc, header, rows, &found.stimulus)?;
+    let Ok(count) = u32::try_from(stimulus.rows.len()) else {
+        return Ok(None);
+    };
+    let names = table_of_names(alloc, &stimulus.names)?;
+    let left = known_output(alloc, a, &names, stimulus.rows.as_slice(), name.as_slice())?;
+    let right = known_output(alloc, b, &names, stimulus.rows.as_slice(), name.as_slice())?;
+    let (Some(left), Some(right)) = (left, right) else {
+        return Ok(None);
+    };
+    if left == right {
+        return Ok(None);
+    }
+    let pair = copy_name(&found.pair)?;
+    Ok(Some(Witness {
+        pair,
+        cycle: count.saturating_sub(1),
+        left,
+        right,
+        stimulus,
+    }))
+}
