@@ -1,5 +1,5 @@
 -- What is found of three texts, what the status says of the circuits of two of them, and when they can be compared.
-use Rattle.std.specs.Prelude.{◌≡◌, ◌⊎◌, ℕ, Bool, List, [], ◌∷◌, length, Option, Some, None, Err, IfSome, IsSomeAnd, Contains}
+use Rattle.std.specs.Prelude.{◌≡◌, ◌⊎◌, ℕ, ◌≤◌, Bool, List, [], ◌∷◌, length, Option, Some, None, Err, IfSome, IsSomeAnd, Contains}
 use Rattle.circuit_theory.specs.Circuit.{Circuit}
 use Rattle.circuit_theory.specs.Interface.{first_mismatch}
 use Rattle.circuit_theory.specs.declared.Side.{Side}
@@ -7,6 +7,10 @@ use Rattle.sec_base.specs.base_shelves.Outside.{Takes}
 use Rattle.flat_net.specs.View.{NetView, circuit_of, ports_of}
 use Rattle.blif_read.specs.Design.{Place}
 use Rattle.pair_decide.specs.declared.query.Proof.{Proof}
+use Rattle.obligations.specs.declared.outcome.verdict.ResetWitness.{ResetWitness}
+use Rattle.obligations.specs.Fits.{IsUndecided}
+use Rattle.outcome_fits.specs.ResetOutcome.{Numbered, pair_at}
+use Rattle.sec_setup.specs.ports.Pairs.{NamedPair, named_pairs}
 use Rattle.sec_setup.specs.Matching.{InterfacesMatch}
 use Rattle.witness_report.specs.Shown.{MakesDiffer}
 use Rattle.witness_report.specs.declared.witness.Witness.{Witness}
@@ -27,8 +31,10 @@ use Rattle.job_base.specs.declared.status.StatusName.{StatusName}
 use Rattle.job_base.specs.declared.status.StatusName.TheVariants as status
 use Rattle.cycle_search.specs.declared.found.SearchVerdict.TheVariants as verdict
 use Rattle.cycle_search.specs.Outputs.{IsOneTooLarge}
-use Rattle.job_after.specs.Behind.{AgreeBehind, Each, UpTo, Before}
+use Rattle.cycle_search.specs.Searches.{IsNumbering}
+use Rattle.restart.specs.Agreement.{AgreeBehind, Each, UpTo, Before}
 use Rattle.job_after.specs.Report.{after_text}
+use Rattle.job_after.specs.Sequence.{BeginsWithRows}
 use Rattle.job_after.specs.Judged.{IsBegun, Behind, IsBehind, IsJudged}
 
 -- the paths of two circuits and of a stimulus, the last cycle behind its rows, and the limit of conflicts
@@ -105,24 +111,36 @@ pub record AfterAgree (x y z : List ℕ) (cycles conflicts : ℕ) (before now : 
   pub is_verdict : of.of.made.verdict ≡ verdict.Equal
   pub says : AgreeBehind of.names of.rows Each of.left of.right
 
--- In any two such runs each output is equal in the cycles up to the printed one; or before it, where a difference there isn't shown.
--- Nothing is said of later cycles.
+-- In any two such runs each output is equal in the cycles up to the printed one, of later ones nothing is said; or a pair's functions differ
+-- in the printed cycle and no difference is shown, each output being equal in every cycle before it.
 pub record AfterAgreeUpTo (x y z : List ℕ) (cycles conflicts : ℕ) (before now : Option (List ℕ)) : Type 0 where
   pub of : AreAfter x y z cycles conflicts before now
   pub says : ((stopped : Option Side) × (of.of.made.verdict ≡ verdict.NoDifference stopped) × AgreeBehind of.names of.rows (UpTo of.of.made.last) of.left of.right)
-      ⊎ AgreeBehind of.names of.rows (Before of.of.made.last) of.left of.right
+      ⊎ ((w : ResetWitness) × (of.of.made.verdict ≡ verdict.Different w) × (of.of.shown ≡ None) × AgreeBehind of.names of.rows (Before of.of.made.last) of.left of.right)
 
--- The printed sequence makes the circuits differ in all runs that read it, whatever they power up with.
+-- The printed sequence begins with the rows, and makes the circuits differ behind them in all runs that read it, whatever they power up with.
 pub record AfterDiffer (x y z : List ℕ) (cycles conflicts : ℕ) (before now : Option (List ℕ)) : Type 0 where
   pub of : AreAfter x y z cycles conflicts before now
   pub witness : Witness
   pub is_shown : of.of.shown ≡ Some witness
+  pub begins : BeginsWithRows of.names of.rows witness.stimulus
+  pub behind : length of.rows ≤ witness.cycle
   pub says : MakesDiffer of.left of.right witness
 
--- Some query met the limit in the last cycle; in each cycle before it each output is equal.
-pub record AfterUndecided (x y z : List ℕ) (cycles conflicts : ℕ) (before now : Option (List ℕ)) : Type 0 where
+-- The report names a pair of outputs. In each cycle before the last each output is equal. In the last one the query of this pair, of the
+-- circuits as they begin behind the rows, has more than 16 variables and met the limit, which one of the proofs shows: its clauses, and a
+-- log of exactly as many chains as conflicts are allowed.
+pub record AfterUndecided (x y z : List ℕ) (cycles conflicts : ℕ) (proofs : List Proof) (before now : Option (List ℕ)) : Type 0 where
   pub of : AreAfter x y z cycles conflicts before now
   pub says : AgreeBehind of.names of.rows (Before of.of.made.last) of.left of.right
+  pub numbers : Numbered
+  pub are_numbers : IsNumbering of.of.left of.of.right numbers
+  pub named : NamedPair ℕ ℕ
+  pub is_pair : Contains (named_pairs [] (circuit_of of.of.left) (circuit_of of.of.right)) named
+  pub is_verdict : of.of.made.verdict ≡ verdict.Limit named.name
+  pub proof : Proof
+  pub kept : Contains proofs proof
+  pub undecided : IsUndecided (pair_at numbers named.left named.right of.of.made.last) conflicts proof
 
 -- both texts of circuits load, and this is said of them and of the text of the stimulus
 pub record OfThree (left right stimulus : Option (List ℕ)) (P : List ℕ → List ℕ → List ℕ → Type 0) : Type 0 where
@@ -135,7 +153,7 @@ abbrev pub AfterMeans : ℕ → ℕ → Option (List ℕ) → Option (List ℕ) 
 AfterMeans cycles conflicts left right stimulus before now proofs status.Equal = OfThree left right stimulus (λ x y z. AfterAgree x y z cycles conflicts before now)
 AfterMeans cycles conflicts left right stimulus before now proofs status.Different = OfThree left right stimulus (λ x y z. AfterDiffer x y z cycles conflicts before now)
 AfterMeans cycles conflicts left right stimulus before now proofs status.NotShown = OfThree left right stimulus (λ x y z. AfterAgreeUpTo x y z cycles conflicts before now)
-AfterMeans cycles conflicts left right stimulus before now proofs status.Limit = OfThree left right stimulus (λ x y z. AfterUndecided x y z cycles conflicts before now)
+AfterMeans cycles conflicts left right stimulus before now proofs status.Limit = OfThree left right stimulus (λ x y z. AfterUndecided x y z cycles conflicts proofs before now)
 AfterMeans cycles conflicts left right stimulus before now proofs status.Done = ⊥
 AfterMeans cycles conflicts left right stimulus before now proofs other = Unit {0}
 

@@ -1,4 +1,4 @@
-pub mod Behind
+pub mod Sequence
 pub mod Report
 pub mod Judged
 pub mod Ends

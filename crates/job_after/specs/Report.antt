@@ -39,7 +39,7 @@ sequence_text w = codes "verdict different " ++ pair_text w.pair ++ values_text 
 
 -- a pair whose functions differ in a cycle behind the rows, of which nothing is shown
 abbrev pub unshown_text : PairName → ℕ → List ℕ
-unshown_text pair cycle = codes "verdict not-shown " ++ pair_text pair ++ codes " cycle " ++ decimal cycle ++ 10 ∷ []
+unshown_text pair cycle = codes "verdict not-shown unknown " ++ pair_text pair ++ codes " cycle " ++ decimal cycle ++ 10 ∷ []
 
 -- the verdict, with what shows it
 abbrev pub found_text : ℕ → ℕ → SearchVerdict → List ℕ

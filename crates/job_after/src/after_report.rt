@@ -107,6 +107,6 @@ fn put_unshown(
 ) -> Result<(), NoMemory>
     ensures { OnOk result (text.new.items ≡ text.old.items ++ unshown_text pair.now cycle) }
 {
-    put_name(text, b"verdict not-shown ", pair)?;
+    put_name(text, b"verdict not-shown unknown ", pair)?;
     put_count_line(alloc, text, b" cycle ", u64::from(cycle))
 }

@@ -2,8 +2,7 @@
 
 ghost use Rattle.std.specs.Prelude.{◌≡◌, ◌≤◌, ◌++◌, IfOk, IfSome, OnOk, option_to_list};
 ghost use Rattle.flat_net.specs.Comparable.{IsComparable};
-ghost use Rattle.flat_net.specs.View.{circuit_of};
-ghost use Rattle.witness_report.specs.Shown.{MakesDiffer};
+ghost use Rattle.job_after.specs.Sequence.{IsShownBehind};
 ghost use Rattle.job_after.specs.Ends.{FitsAfter, IsJudgedBy, after_end};
 ghost use Rattle.job_after.specs.Judged.{judgement_of, proofs_of};
 
@@ -94,7 +93,8 @@ fn shown_of(
     stimulus: &Stimulus,
     searched: &Searched,
 ) -> Result<Option<Witness>, NoMemory>
-    ensures { IfOk result (λ shown. IfSome shown (MakesDiffer (circuit_of a.now) (circuit_of b.now))) }
+    requires { header.now ≡ stimulus.now.names }
+    ensures { IfOk result (λ shown. IfSome shown (IsShownBehind a.now b.now stimulus.now.names stimulus.now.rows)) }
 {
     match &searched.verdict {
         SearchVerdict::Different(found) => {

@@ -1,8 +1,7 @@
 //! A sequence that begins with the rows of a stimulus, and whether it makes a pair differ whatever the circuits power up with.
 
-ghost use Rattle.std.specs.Prelude.{◌≡◌, length, IfOk, IfSome};
-ghost use Rattle.flat_net.specs.View.{circuit_of};
-ghost use Rattle.witness_report.specs.Shown.{MakesDiffer};
+ghost use Rattle.std.specs.Prelude.{◌≡◌, ◌+◌, ◌++◌, ℕ, Bool, Some, length, slice_get, IfOk, OnOk, IfSome};
+ghost use Rattle.job_after.specs.Sequence.{IsRowUnder, AreRowsUnder, BeginsWithRows, IsShownBehind};
 
 use base_tables::NameTable;
 use flat_net::Net;
@@ -16,7 +15,9 @@ use witness_report::Stimulus;
 
 /// The bit under the name in a row of the stimulus with this header, and 0 where there is none.
 fn bit_of(header: &NameTable, row: &[bool], name: &[u8]) -> bool
+    ensures { (i : ℕ) (bit : Bool) → slice_get header.now i ≡ Some name.now → slice_get row.now i ≡ Some bit → result ≡ bit }
 {
+    header.keeps();
     match header.find(name) {
         Some(column) => row.get(column as usize).copied().unwrap_or(false),
         None => false,
@@ -30,13 +31,40 @@ fn bits_of(
     row: &[bool],
     names: &Words,
 ) -> Result<Bits, NoMemory>
-    ensures { IfOk result (λ bits. length bits ≡ length names.now) }
+    ensures size { IfOk result (λ bits. length bits ≡ length names.now) }
+    ensures each { IfOk result (λ bits. IsRowUnder header.now row.now names.now bits) }
 {
     let mut bits = Bits::new(alloc);
     for name in names.as_slice() {
         bits.push(bit_of(header, row, name.as_slice()))?;
     }
     Ok(bits)
+}
+
+/// The rows' bits under these names.
+fn rows_under(
+    alloc: Global,
+    header: &NameTable,
+    rows: &[Bits],
+    names: &Words,
+) -> Result<BitRows, NoMemory>
+    ensures { IfOk result (λ made. AreRowsUnder header.now rows.now names.now made) }
+{
+    let mut made = BitRows::new(alloc);
+    for row in rows {
+        made.push(bits_of(alloc, header, row.as_slice(), names)?)?;
+    }
+    Ok(made)
+}
+
+/// Puts these rows behind the others.
+fn put_rows(made: &mut BitRows, rows: &[Bits]) -> Result<(), NoMemory>
+    ensures { OnOk result (made.new ≡ made.old ++ rows.now) }
+{
+    for row in rows {
+        made.push(row.copy()?)?;
+    }
+    Ok(())
 }
 
 /// The rows of the stimulus with this header under the names of the sequence, and then the rows of the sequence.
@@ -46,15 +74,13 @@ fn joined(
     rows: &[Bits],
     sequence: &Stimulus,
 ) -> Result<Stimulus, NoMemory>
+    ensures names { IfOk result (λ made. made.names ≡ sequence.now.names) }
+    ensures rows { IfOk result (λ made. BeginsWithRows header.now rows.now made) }
+    ensures size { IfOk result (λ made. length made.rows ≡ length rows.now + length sequence.now.rows) }
 {
     let names = sequence.names.copy()?;
-    let mut made = BitRows::new(alloc);
-    for row in rows {
-        made.push(bits_of(alloc, header, row.as_slice(), &names)?)?;
-    }
-    for row in sequence.rows.as_slice() {
-        made.push(row.copy()?)?;
-    }
+    let mut made = rows_under(alloc, header, rows, &names)?;
+    put_rows(&mut made, sequence.rows.as_slice())?;
     Ok(Stimulus { names, rows: made })
 }
 
@@ -68,11 +94,14 @@ pub(crate) fn shown_behind(
     rows: &[Bits],
     found: &Witness,
 ) -> Result<Option<Witness>, NoMemory>
-    ensures { IfOk result (λ shown. IfSome shown (MakesDiffer (circuit_of a.now) (circuit_of b.now))) }
+    ensures { IfOk result (λ shown. IfSome shown (IsShownBehind a.now b.now header.now rows.now)) }
 {
     let PairName::Output(name) = &found.pair else {
         return Ok(None);
     };
+    if found.stimulus.rows.len() == 0 {
+        return Ok(None);
+    }
     let stimulus = joined(alloc, header, rows, &found.stimulus)?;
     let Ok(count) = u32::try_from(stimulus.rows.len()) else {
         return Ok(None);

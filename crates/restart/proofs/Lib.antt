@@ -1,3 +1,4 @@
 pub mod Covers
 pub mod Bits
 pub mod Starting
+pub mod Begun

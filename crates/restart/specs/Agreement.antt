@@ -1,5 +1,5 @@
 -- Runs that begin with the rows of a stimulus, and what is said of two circuits behind them.
-use Rattle.std.specs.Prelude.{◌≡◌, ℕ, ◌-◌, ◌<◌, ◌≤◌, Bool, false, List, [], length, map, Option, Some, None, slice_get}
+use Rattle.std.specs.Prelude.{◌≡◌, ℕ, ◌-◌, ◌<◌, ◌≤◌, Bool, List, [], length, Some, slice_get}
 use Rattle.std.specs.List.{Contains}
 use Rattle.circuit_theory.specs.Agree.{AreAlike, IsPair}
 use Rattle.circuit_theory.specs.Circuit.{Circuit}
