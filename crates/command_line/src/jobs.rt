@@ -176,7 +176,7 @@ fn check_in(alloc: Global, matches: &ArgMatches<'_>) -> Result<Option<Task>, NoM
     match word(matches, "after") {
         Some(stimulus) => {
             let cycles = word(matches, "cycles");
-            after_in(alloc, (a, b), stimulus, settings, assumed, cycles)
+            after_in(alloc, a, b, stimulus, settings, assumed, cycles)
         }
         None => match word(matches, "cycles") {
             Some(cycles) => search_in(alloc, a, b, settings, assumed, cycles),
@@ -189,13 +189,14 @@ fn check_in(alloc: Global, matches: &ArgMatches<'_>) -> Result<Option<Task>, NoM
 /// without an assumption.
 fn after_in(
     alloc: Global,
-    circuits: (&str, &str),
+    a: &str,
+    b: &str,
     stimulus: &str,
     settings: Settings,
     assumed: Option<&str>,
     cycles: Option<&str>,
 ) -> Result<Option<Task>, NoMemory>
-    ensures { IfOk result (λ task. task ≡ after_in circuits.0.now circuits.1.now stimulus.now settings (option_map (λ w. w.now) assumed.entry) (option_map (λ w. w.now) cycles.entry)) }
+    ensures { IfOk result (λ task. task ≡ after_in a.now b.now stimulus.now settings (option_map (λ w. w.now) assumed.entry) (option_map (λ w. w.now) cycles.entry)) }
 {
     if !settings.reset || assumed.is_some() {
         return Ok(None);
@@ -207,7 +208,7 @@ fn after_in(
         return Ok(None);
     };
     let s = FilePath::from_str(alloc, stimulus)?;
-    let (a, b) = paths_of(alloc, circuits.0, circuits.1)?;
+    let (a, b) = paths_of(alloc, a, b)?;
     Ok(Some(Task::After {
         a,
         b,

@@ -34,7 +34,7 @@ use Rattle.cycle_search.specs.Outputs.{IsOneTooLarge}
 use Rattle.cycle_search.specs.Searches.{IsNumbering}
 use Rattle.restart.specs.Agreement.{AgreeBehind, Each, UpTo, Before}
 use Rattle.job_after.specs.Report.{after_text}
-use Rattle.job_after.specs.Sequence.{BeginsWithRows}
+use Rattle.restart.specs.Sequence.{BeginsWithRows}
 use Rattle.job_after.specs.Judged.{IsBegun, Behind, IsBehind, IsJudged}
 
 -- the paths of two circuits and of a stimulus, the last cycle behind its rows, and the limit of conflicts
@@ -157,8 +157,8 @@ AfterMeans cycles conflicts left right stimulus before now proofs status.Limit =
 AfterMeans cycles conflicts left right stimulus before now proofs status.Done = ⊥
 AfterMeans cycles conflicts left right stimulus before now proofs other = Unit {0}
 
--- Both texts of circuits are accepted, and the third is a stimulus that names their inputs and all that both have. As they begin behind its
--- rows, their interfaces match, and no circuit's outputs weigh more than 2,000,000 in the first cycle there.
+-- Both texts of circuits are accepted, and the third is a stimulus that names all inputs that both have, and inputs alone. As they begin
+-- behind its rows, their interfaces match, and no circuit's outputs weigh more than 2,000,000 in the first cycle there.
 pub record CanBeBegun (x y z : List ℕ) : Type 0 where
   pub left : IsAccepted x
   pub right : IsAccepted y
@@ -166,10 +166,10 @@ pub record CanBeBegun (x y z : List ℕ) : Type 0 where
   pub rows : List (List Bool)
   pub stimulus : IsStimulus z names rows
   pub fits : (a b : NetView) → Loads x a → Loads y b → FitsBoth a b names × (opened a b names ≡ [])
-  pub match : (a b l r : NetView) (left_known right_known : List (Option Bool)) → Loads x a → Loads y b → IsBegun a names rows left_known l → IsBegun b names rows right_known r →
-      first_mismatch (ports_of l) (ports_of r) ≡ None
-  pub light : (a b l r : NetView) (left_known right_known : List (Option Bool)) → Loads x a → Loads y b → IsBegun a names rows left_known l → IsBegun b names rows right_known r →
-      (side : Side) → IsOneTooLarge l r 0 side → ⊥
+  pub match : (a b : NetView) (names : List (List ℕ)) (rows : List (List Bool)) (l r : NetView) (left_known right_known : List (Option Bool)) → Loads x a → Loads y b → IsStimulus z names rows →
+      IsBegun a names rows left_known l → IsBegun b names rows right_known r → first_mismatch (ports_of l) (ports_of r) ≡ None
+  pub light : (a b : NetView) (names : List (List ℕ)) (rows : List (List Bool)) (l r : NetView) (left_known right_known : List (Option Bool)) → Loads x a → Loads y b → IsStimulus z names rows →
+      IsBegun a names rows left_known l → IsBegun b names rows right_known r → (side : Side) → IsOneTooLarge l r 0 side → ⊥
 
 -- the three texts are told, and can be compared so
 abbrev pub CanBegin : Option (List ℕ) → Option (List ℕ) → Option (List ℕ) → Type 0

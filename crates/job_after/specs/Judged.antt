@@ -16,7 +16,7 @@ use Rattle.cycle_search.specs.Searches.{AreSearched}
 use Rattle.restart.specs.Behind.{begun, AreKnownBehind}
 use Rattle.restart.specs.Agreement.{AgreeBehind, Each, UpTo, Before}
 use Rattle.job_after.specs.Report.{after_text}
-use Rattle.job_after.specs.Sequence.{IsShownBehind}
+use Rattle.restart.specs.Sequence.{IsShownBehind}
 
 -- m is the net with what is known of its latches behind the rows as their initial values
 pub record IsBegun (n : NetView) (names : List (List ℕ)) (rows : List (List Bool)) (known : List (Option Bool)) (m : NetView) : Type 0 where

@@ -1,4 +1,3 @@
-pub mod Sequence
 pub mod Report
 pub mod Judged
 pub mod Ends

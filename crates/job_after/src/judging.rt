@@ -2,14 +2,13 @@
 
 ghost use Rattle.std.specs.Prelude.{◌≡◌, ◌≤◌, ◌++◌, IfOk, IfSome, OnOk, option_to_list};
 ghost use Rattle.flat_net.specs.Comparable.{IsComparable};
-ghost use Rattle.job_after.specs.Sequence.{IsShownBehind};
+ghost use Rattle.restart.specs.Sequence.{IsShownBehind};
 ghost use Rattle.job_after.specs.Ends.{FitsAfter, IsJudgedBy, after_end};
 ghost use Rattle.job_after.specs.Judged.{judgement_of, proofs_of};
 
 use crate::after_report::{After, report};
 use crate::fault::AfterFault;
 use crate::known::begin;
-use crate::sequence::shown_behind;
 use base_tables::NameTable;
 use circuit_report::sim_report::Misfit;
 use cycle_search::{SearchVerdict, Searched, search_cycles};
@@ -18,7 +17,8 @@ use job_base::{Finding, Judgement, Proofs, Refusal, Stop};
 use job_circuit::replay::ReplayError;
 use job_circuit::replay::replay_header::opened_by;
 use obligations::PairResults;
-use obligations::outcome::{PairResult, Witness};
+use obligations::outcome::{PairName, PairResult, Witness};
+use restart::shown_behind;
 use sec_base::{MAX_CONFLICTS, NoMemory, Text};
 use sec_setup::ports::name_tables::{table_of_names, word_of};
 use std::alloc::Global;
@@ -97,10 +97,13 @@ fn shown_of(
     ensures { IfOk result (λ shown. IfSome shown (IsShownBehind a.now b.now stimulus.now.names stimulus.now.rows)) }
 {
     match &searched.verdict {
-        SearchVerdict::Different(found) => {
-            let rows = stimulus.rows.as_slice();
-            shown_behind(alloc, a, b, header, rows, &found.witness)
-        }
+        SearchVerdict::Different(found) => match &found.witness.pair {
+            PairName::Output(name) => {
+                let (rows, sequence) = (stimulus.rows.as_slice(), &found.witness.stimulus);
+                shown_behind(alloc, a, b, header, rows, name, sequence)
+            }
+            PairName::Next(_) => Ok(None),
+        },
         _ => Ok(None),
     }
 }

@@ -6,6 +6,5 @@ mod comparison;
 mod fault;
 mod judging;
 mod known;
-mod sequence;
 
 pub use comparison::{AfterComparison, compare_after};

@@ -34,24 +34,26 @@ begun_circuit n known = ap with_latches (begun_equations n.latches known)
     with_latches es = record { inputs = map named n.inputs; outputs = map named n.outputs; equations = map (equation_of_gate n.covers) n.gates ++ es; starts = begun_starts n known }
 
 -- an initial value is that of a latch which is known
-started_at : (ls : List LatchAt) (known : List (Option Bool)) → length known ≡ length ls → (u : ℕ) (bit : Bool) →
-    Contains (filter_map (λ (l : LatchAt). start_of l.out.0 l.init) (begun_latches ls known)) (record { place = u; bit = bit }) →
-    (j : ℕ) × (l : LatchAt) × (slice_get ls j ≡ Some l) × (slice_get known j ≡ Some (Some bit)) × (l.out.0 ≡ u)
+abbrev StartedAt : List LatchAt → List (Option Bool) → ℕ → Bool → Type 0
+StartedAt ls known u bit = (j : ℕ) × (l : LatchAt) × (slice_get ls j ≡ Some l) × (slice_get known j ≡ Some (Some bit)) × (l.out.0 ≡ u)
+
+abbrev starts_of : List LatchAt → List (Option Bool) → List (Started ℕ)
+starts_of ls known = filter_map (λ (l : LatchAt). start_of l.out.0 l.init) (begun_latches ls known)
+
+-- the first, or one of the others
+first_or_later : (l : LatchAt) (ls : List LatchAt) (known : List (Option Bool)) (b : Bool) (u : ℕ) (bit : Bool) → (Contains (starts_of ls known) (record { place = u; bit = bit }) → StartedAt ls known u bit) →
+    (◌≡◌ {A = Started ℕ} (record { place = l.out.0; bit = b }) (record { place = u; bit = bit })) ⊎ Contains (starts_of ls known) (record { place = u; bit = bit }) → StartedAt (l ∷ ls) (Some b ∷ known) u bit
+first_or_later l ls known b u bit later (inl e) = (0, l, refl, ap (λ (s : Started ℕ). Some (Some s.bit)) e, ap (λ (s : Started ℕ). s.place) e)
+first_or_later l ls known b u bit later (inr k) = let r = later k in (suc r.0, r.1, r.2, r.3, r.4)
+
+started_at : (ls : List LatchAt) (known : List (Option Bool)) → length known ≡ length ls → (u : ℕ) (bit : Bool) → Contains (starts_of ls known) (record { place = u; bit = bit }) → StartedAt ls known u bit
 started_at [] known size u bit h = absurd (omega (arith, h.1))
 started_at (l ∷ ls) [] size u bit h = absurd (omega (arith, size))
 started_at (l ∷ ls) (None ∷ known) size u bit h = let r = started_at ls known (omega (arith, size)) u bit h in (suc r.0, r.1, r.2, r.3, r.4)
-started_at (l ∷ ls) (Some true ∷ known) size u bit h = go (Contains-cases (record { place = l.out.0; bit = true }) (record { place = u; bit = bit }) _ h)
-  where
-    go : (◌≡◌ {A = Started ℕ} (record { place = l.out.0; bit = true }) (record { place = u; bit = bit })) ⊎ Contains (filter_map (λ (m : LatchAt). start_of m.out.0 m.init) (begun_latches ls known)) (record { place = u; bit = bit }) →
-        (j : ℕ) × (m : LatchAt) × (slice_get (l ∷ ls) j ≡ Some m) × (slice_get (Some true ∷ known) j ≡ Some (Some bit)) × (m.out.0 ≡ u)
-    go (inl e) = (0, l, refl, ap (λ (s : Started ℕ). Some (Some s.bit)) e, ap (λ (s : Started ℕ). s.place) e)
-    go (inr k) = let r = started_at ls known (omega (arith, size)) u bit k in (suc r.0, r.1, r.2, r.3, r.4)
-started_at (l ∷ ls) (Some false ∷ known) size u bit h = go (Contains-cases (record { place = l.out.0; bit = false }) (record { place = u; bit = bit }) _ h)
-  where
-    go : (◌≡◌ {A = Started ℕ} (record { place = l.out.0; bit = false }) (record { place = u; bit = bit })) ⊎ Contains (filter_map (λ (m : LatchAt). start_of m.out.0 m.init) (begun_latches ls known)) (record { place = u; bit = bit }) →
-        (j : ℕ) × (m : LatchAt) × (slice_get (l ∷ ls) j ≡ Some m) × (slice_get (Some false ∷ known) j ≡ Some (Some bit)) × (m.out.0 ≡ u)
-    go (inl e) = (0, l, refl, ap (λ (s : Started ℕ). Some (Some s.bit)) e, ap (λ (s : Started ℕ). s.place) e)
-    go (inr k) = let r = started_at ls known (omega (arith, size)) u bit k in (suc r.0, r.1, r.2, r.3, r.4)
+started_at (l ∷ ls) (Some true ∷ known) size u bit h =
+    first_or_later l ls known true u bit (λ k. started_at ls known (omega (arith, size)) u bit k) (Contains-cases (record { place = l.out.0; bit = true }) (record { place = u; bit = bit }) (starts_of ls known) h)
+started_at (l ∷ ls) (Some false ∷ known) size u bit h =
+    first_or_later l ls known false u bit (λ k. started_at ls known (omega (arith, size)) u bit k) (Contains-cases (record { place = l.out.0; bit = false }) (record { place = u; bit = bit }) (starts_of ls known) h)
 
 -- the initial values of the net that begins are known behind the rows
 pub begun_known : (n : NetView) (columns : List ℕ) (rows : List (List Bool)) (known : List (Option Bool)) → length known ≡ length n.latches → AreKnownLatches n columns rows (length rows) known →
@@ -76,6 +78,7 @@ module _ (names : List (List ℕ)) (rows : List (List Bool)) (wide : All (λ (ro
       BeginsWith (circuit_of n) columns rows run
   begins_with n columns are run begins t k p bit number e = go (are.each x.0 k x.1 x.2 x.3)
     where
+      x : (i : ℕ) × (port : Port) × (slice_get n.inputs i ≡ Some port) × (slice_get columns i ≡ Some k) × (port.signal.0 ≡ p)
       x = port_at n.inputs columns p k number
 
       within : t < length rows

@@ -4,8 +4,10 @@
 
 mod cover;
 mod cycle;
+mod sequence;
 mod start;
 mod three_run;
 
+pub use sequence::shown_behind;
 pub use start::restart;
 pub use three_run::{known_behind, known_output};

@@ -1,17 +1,15 @@
 //! A sequence that begins with the rows of a stimulus, and whether it makes a pair differ whatever the circuits power up with.
 
 ghost use Rattle.std.specs.Prelude.{◌≡◌, ◌+◌, ◌++◌, ℕ, Bool, Some, length, slice_get, IfOk, OnOk, IfSome};
-ghost use Rattle.job_after.specs.Sequence.{IsRowUnder, AreRowsUnder, BeginsWithRows, IsShownBehind};
+ghost use Rattle.restart.specs.Sequence.{IsRowUnder, AreRowsUnder, BeginsWithRows, IsShownBehind};
 
+use crate::three_run::known_output;
 use base_tables::NameTable;
 use flat_net::Net;
-use obligations::copy_name;
-use obligations::outcome::{PairName, Witness};
-use restart::known_output;
-use sec_base::{BitRows, Bits, NoMemory, Words};
+use sec_base::{BitRows, Bits, NoMemory, Word, Words};
 use sec_setup::ports::name_tables::table_of_names;
 use std::alloc::Global;
-use witness_report::Stimulus;
+use witness_report::{PairName, Stimulus, Witness};
 
 /// The bit under the name in a row of the stimulus with this header, and 0 where there is none.
 fn bit_of(header: &NameTable, row: &[bool], name: &[u8]) -> bool
@@ -84,25 +82,23 @@ fn joined(
     Ok(Stimulus { names, rows: made })
 }
 
-/// The difference that the sequence of this one shows behind the rows of the stimulus with this header, if in its last cycle both outputs
-/// are known, whatever the circuits power up with, and differ.
-pub(crate) fn shown_behind(
+/// The difference of the outputs of this name that the sequence shows behind the rows of the stimulus with this header, if in its last cycle
+/// both are known, whatever the circuits power up with, and differ.
+pub fn shown_behind(
     alloc: Global,
     a: &Net,
     b: &Net,
     header: &NameTable,
     rows: &[Bits],
-    found: &Witness,
+    name: &Word,
+    sequence: &Stimulus,
 ) -> Result<Option<Witness>, NoMemory>
     ensures { IfOk result (λ shown. IfSome shown (IsShownBehind a.now b.now header.now rows.now)) }
 {
-    let PairName::Output(name) = &found.pair else {
-        return Ok(None);
-    };
-    if found.stimulus.rows.len() == 0 {
+    if sequence.rows.len() == 0 {
         return Ok(None);
     }
-    let stimulus = joined(alloc, header, rows, &found.stimulus)?;
+    let stimulus = joined(alloc, header, rows, sequence)?;
     let Ok(count) = u32::try_from(stimulus.rows.len()) else {
         return Ok(None);
     };
@@ -115,10 +111,10 @@ pub(crate) fn shown_behind(
     if left == right {
         return Ok(None);
     }
-    let pair = copy_name(&found.pair)?;
+    let pair = PairName::Output(name.copy()?);
     Ok(Some(Witness {
         pair,
-        cycle: count.saturating_sub(1),
+        cycle: count - 1,
         left,
         right,
         stimulus,
