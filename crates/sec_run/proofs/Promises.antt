@@ -27,7 +27,8 @@ use Rattle.sec_jobs.proofs.job_induct.induct_meaning.Means.{induct_means}
 use Rattle.sec_jobs.proofs.job_induct.induct_meaning.Complete.{induct_complete}
 use Rattle.sec_jobs.proofs.job_search.search_meaning.Means.{search_means}
 use Rattle.sec_jobs.proofs.job_search.search_meaning.Complete.{search_complete}
-use Rattle.job_after.proofs.Means.{after_means, after_complete}
+use Rattle.job_after.proofs.Means.{after_means}
+use Rattle.job_after.proofs.Complete.{after_complete}
 use Rattle.sec_run.specs.Answer.{IsFinding}
 use Rattle.sec_run.specs.Promises.{Means, IsComplete}
 
