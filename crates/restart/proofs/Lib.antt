@@ -2,3 +2,5 @@ pub mod Covers
 pub mod Bits
 pub mod Starting
 pub mod Begun
+pub mod Rows
+pub mod Shown
