@@ -4,3 +4,4 @@ pub mod Starting
 pub mod Begun
 pub mod Rows
 pub mod Shown
+pub mod Again

@@ -1,5 +1,6 @@
 -- What is known of an output in the last row is so in every run that obeys the rows.
-use Rattle.std.proofs.Common.{◌≡◌, ℕ, ◌-◌, ◌<◌, Bool, List, length, slice_get, sym, subst, arith, Option, Some}
+use mathlib.Core.Bool.{beq}
+use Rattle.std.proofs.Common.{◌≡◌, ℕ, ◌-◌, ◌<◌, Bool, true, false, List, length, slice_get, sym, subst, arith, Option, Some}
 use Rattle.std.specs.List.{All, Contains}
 use Rattle.circuit_theory.specs.Circuit.{Circuit}
 use Rattle.circuit_theory.specs.Run.{IsRun}
@@ -29,3 +30,10 @@ shows n names rows wide name value bit last is knows e =
           known_after_rows (circuit_of n) k.0 rows m run is_run (begins_with names rows wide n k.0 k.1 run (λ t i row nm b p lt r bt ni inp. obeys t i row nm b p (omega (arith, lt, low, is)) r bt ni inp)) last k.2 bit low
           (subst (λ t. IsKnown (circuit_of n) k.0 rows t k.2 bit) (sym is) k.4),
     )
+
+-- two bits that aren't the same
+pub bits_apart : (x y : Bool) → beq x y ≡ false → x ≡ y → ⊥
+bits_apart true true h e = cc
+bits_apart true false h e = cc
+bits_apart false true h e = cc
+bits_apart false false h e = cc

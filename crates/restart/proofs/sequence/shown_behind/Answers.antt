@@ -1,7 +1,7 @@
 -- Both outputs are known in the last cycle, and differ.
 use Rattle.std.proofs.Common.{◌≡◌, ◌-◌, ◌<◌, ◌≤◌, length, ap, arith}
 use Rattle.witness_report.specs.declared.witness.PairName.TheVariants as pair
-use Rattle.restart.proofs.Shown.{shows, knows_same}
+use Rattle.restart.proofs.Shown.{shows, knows_same, bits_apart}
 use Rattle.restart.proofs.sequence.shown_behind.Goals as goal
 
 pub returns : goal.returns
@@ -15,7 +15,6 @@ returns c =
     let r =
         shows c.args.b.now s.names s.rows s.fit c.args.name.now c.in_ok-right.right c.in-Some-Some.right (c.in-Ok.count - 1) last
         (knows_same c.args.b.now _ s.names _ s.rows _ c.args.name.now c.in_ok-right.right c.in_ok-names.ensures c.as_slice-3.ensures c.as_slice-4.ensures c.in_ok-right.ensures) c.in-Some-Some.is-1 in
-    let apart = c.if-left-right.false in
     record {
       begins = c.in_ok-stimulus.ensures.rows;
       behind = omega (arith, size, c.len.ensures, c.if-len-eq0.false, c.in-Ok.ensures, c.len-2.ensures);
@@ -26,7 +25,7 @@ returns c =
         named = ap pair.Output c.in_ok-copy.ensures;
         left_output = l.1;
         right_output = r.1;
-        differ = λ e. absurd (let f = e in cc);
+        differ = bits_apart c.in-Some-Some.left c.in-Some-Some.right c.if-left-right.false;
         left_shows = l.2;
         right_shows = r.2;
       };
