@@ -69,12 +69,7 @@ pub(crate) fn judge_after(
 }
 
 /// Refuses the first name of the stimulus that is no input of a circuit, or an input of both that it lacks.
-fn match_header(
-    alloc: Global,
-    a: &Net,
-    b: &Net,
-    header: &NameTable,
-) -> Result<(), ReplayError>
+fn match_header(alloc: Global, a: &Net, b: &Net, header: &NameTable) -> Result<(), ReplayError>
     ensures { FitsAfter a.now b.now header.now result }
 {
     let opened = opened_by(alloc, a, b, header)?;
