@@ -1,5 +1,5 @@
 -- What a net that begins behind the rows has of the net: what is shown of it by a sequence is shown of the net, and it can be compared.
-use Rattle.std.proofs.Common.{◌≡◌, ℕ, Bool, List, length, subst, arith, Option}
+use Rattle.std.proofs.Common.{ℕ, Bool, List, subst, arith, Option}
 use Rattle.circuit_theory.specs.Circuit.{Circuit, Started}
 use Rattle.flat_net.specs.Comparable.{IsComparable}
 use Rattle.flat_net.specs.View.{NetView, circuit_of}

@@ -1,9 +1,9 @@
 -- The net that begins behind the rows of a stimulus: its circuit has other initial values, which are known there; so what is said of it from
 -- these is said of all runs behind the rows.
-use Rattle.std.proofs.Common.{◌≡◌, ℕ, zero, suc, ◌-◌, ◌<◌, ◌≤◌, Bool, true, false, List, [], ◌∷◌, ◌++◌, length, map, get_or, slice_get, refl, sym, ◌∙◌, ap, subst, arith, inl, inr, ◌⊎◌, Option, Some, None}
+use Rattle.std.proofs.Common.{◌≡◌, ℕ, suc, ◌-◌, ◌<◌, ◌≤◌, Bool, true, false, List, [], ◌∷◌, ◌++◌, length, map, get_or, slice_get, refl, ap, subst, arith, inl, inr, ◌⊎◌, Option, Some, None}
 use Rattle.std.specs.List.{All, Contains, filter_map}
 use Rattle.std.proofs.lemmas.List.Elements.{All-contains}
-use Rattle.std.proofs.lemmas.Option.{slice_get_within, none-some, same_Some, slice_get-get_or}
+use Rattle.std.proofs.lemmas.Option.{slice_get_within, slice_get-get_or}
 use Rattle.circuit_theory.specs.Circuit.{Circuit, Equation, Started}
 use Rattle.circuit_theory.specs.Tree.{StandsBeside}
 use Rattle.circuit_theory.proofs.Lists.{Contains-cases, Contains-map, of_at}
@@ -12,7 +12,7 @@ use Rattle.cycle_laws.specs.Bounded.{AgreeUpTo}
 use Rattle.flat_net.specs.declared.parts.Port.{Port}
 use Rattle.flat_net.specs.declared.parts.LatchAt.{LatchAt}
 use Rattle.flat_net.specs.View.{NetView, circuit_of, named, equation_of_gate, equation_of_latch, start_of}
-use Rattle.start_laws.specs.Known.{IsKnown, BeginsWith, restarted, AreStartsAfter, row_bit}
+use Rattle.start_laws.specs.Known.{IsKnown, BeginsWith, restarted, AreStartsAfter}
 use Rattle.start_laws.proofs.Knowing.{agree_from_starts, agree_up_to_from_starts, bit_within}
 use Rattle.restart.specs.Behind.{IsColumnOf, AreColumnsOf, AreKnownLatches, AreKnownBehind, begun, begun_latches}
 use Rattle.restart.specs.Agreement.{BeginsBy, AgreeBehind, Each, UpTo, Before}

@@ -23,12 +23,7 @@ fn bit_of(header: &NameTable, row: &[bool], name: &[u8]) -> bool
 }
 
 /// The row's bits under these names.
-fn bits_of(
-    alloc: Global,
-    header: &NameTable,
-    row: &[bool],
-    names: &Words,
-) -> Result<Bits, NoMemory>
+fn bits_of(alloc: Global, header: &NameTable, row: &[bool], names: &Words) -> Result<Bits, NoMemory>
     ensures size { IfOk result (λ bits. length bits ≡ length names.now) }
     ensures each { IfOk result (λ bits. IsRowUnder header.now row.now names.now bits) }
 {

@@ -1,5 +1,5 @@
 -- One bit more for each name.
-use Rattle.std.proofs.Common.{◌≡◌, ◌+◌, ℕ, Bool, List, [], ◌∷◌, ◌++◌, Some, length, slice_get, length-append, sym, ◌∙◌, ap, subst, arith}
+use Rattle.std.proofs.Common.{◌≡◌, ◌+◌, ℕ, Bool, List, [], ◌∷◌, ◌++◌, Some, length, slice_get, length-append, sym, ap, subst, arith}
 use Rattle.std.proofs.lemmas.Option.{slice_get_within}
 use Rattle.cycle_sim.proofs.Lists.{item_at}
 use Rattle.restart.proofs.Rows.{RowUpTo, bit_more}

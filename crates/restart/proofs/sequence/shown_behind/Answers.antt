@@ -1,5 +1,5 @@
 -- Both outputs are known in the last cycle, and differ.
-use Rattle.std.proofs.Common.{◌≡◌, ◌-◌, ◌<◌, ◌≤◌, length, ap, arith}
+use Rattle.std.proofs.Common.{◌≡◌, ◌-◌, length, ap, arith}
 use Rattle.witness_report.specs.declared.witness.PairName.TheVariants as pair
 use Rattle.restart.proofs.Shown.{shows, knows_same, bits_apart}
 use Rattle.restart.proofs.sequence.shown_behind.Goals as goal
@@ -10,11 +10,11 @@ returns c =
     let size = c.in_ok-stimulus.ensures.size in
     let last : c.in-Ok.count - 1 ≡ length s.rows - 1 = omega (arith, c.in-Ok.ensures, c.len-2.ensures) in
     let l =
-        shows c.args.a.now s.names s.rows s.fit c.args.name.now c.in_ok-left.left c.in-Some-Some.left (c.in-Ok.count - 1) last
-        (knows_same c.args.a.now _ s.names _ s.rows _ c.args.name.now c.in_ok-left.left c.in_ok-names.ensures c.as_slice.ensures c.as_slice-2.ensures c.in_ok-left.ensures) c.in-Some-Some.is-0 in
+    shows c.args.a.now s.names s.rows s.fit c.args.name.now c.in_ok-left.left c.in-Some-Some.left (c.in-Ok.count - 1) last
+    (knows_same c.args.a.now _ s.names _ s.rows _ c.args.name.now c.in_ok-left.left c.in_ok-names.ensures c.as_slice.ensures c.as_slice-2.ensures c.in_ok-left.ensures) c.in-Some-Some.is-0 in
     let r =
-        shows c.args.b.now s.names s.rows s.fit c.args.name.now c.in_ok-right.right c.in-Some-Some.right (c.in-Ok.count - 1) last
-        (knows_same c.args.b.now _ s.names _ s.rows _ c.args.name.now c.in_ok-right.right c.in_ok-names.ensures c.as_slice-3.ensures c.as_slice-4.ensures c.in_ok-right.ensures) c.in-Some-Some.is-1 in
+    shows c.args.b.now s.names s.rows s.fit c.args.name.now c.in_ok-right.right c.in-Some-Some.right (c.in-Ok.count - 1) last
+    (knows_same c.args.b.now _ s.names _ s.rows _ c.args.name.now c.in_ok-right.right c.in_ok-names.ensures c.as_slice-3.ensures c.as_slice-4.ensures c.in_ok-right.ensures) c.in-Some-Some.is-1 in
     record {
       begins = c.in_ok-stimulus.ensures.rows;
       behind = omega (arith, size, c.len.ensures, c.if-len-eq0.false, c.in-Ok.ensures, c.len-2.ensures);
