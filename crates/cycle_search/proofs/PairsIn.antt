@@ -151,7 +151,7 @@ module _ (s : Setup) (b : Bases) (f : Functions) (setting : IsSetting s) (bases 
         go answer.Equal (Some proof) h = h
         go answer.Different None h = let d = h.1 in (tt, different (asks_pair (asks_at d.place d.is.query d.is.first.at)) d.bits d.is.differs)
         go answer.Different (Some proof) h = h
-        go answer.NotShown None h = no (sym k.asks.decisive_is ∙ h.0)
+        go answer.NotShown None h = absurd (no (sym k.asks.decisive_is ∙ h.0))
         go answer.NotShown (Some proof) h = h
         go answer.Limit None h = h
         go answer.Limit (Some proof) h = undecided (asks_pair (asks_at h.place h.query h.first.at)) conflicts proof h.limit

@@ -165,15 +165,15 @@ under_witness = record {
     found : (x : Variable ℕ) → v ≡ x → Contains (v ∷ []) x
     found x e = subst (Contains (v ∷ [])) e (Contains-head v [])
 
-    side : (x : Variable ℕ) (tree : Tree ℕ) → Contains (Leaf 0 2 ∷ Branch zero_cover Nil ∷ []) tree → HasLeaf x tree → Contains (v ∷ []) x
-    side x tree h stands = found x (side_is x tree h stands)
-
     side_is : (x : Variable ℕ) (tree : Tree ℕ) → Contains (Leaf 0 2 ∷ Branch zero_cover Nil ∷ []) tree → HasLeaf x tree → v ≡ x
     side_is x tree h stands = go (Contains-cases (Leaf 0 2) tree (Branch zero_cover Nil ∷ []) h)
       where
         go : (Leaf 0 2 ≡ tree) ⊎ Contains (Branch zero_cover Nil ∷ []) tree → v ≡ x
         go (inl e) = leaf_is x tree stands (sym e)
         go (inr k) = absurd (no_leaf x tree stands (sym (only (Branch zero_cover Nil) tree k)))
+
+    side : (x : Variable ℕ) (tree : Tree ℕ) → Contains (Leaf 0 2 ∷ Branch zero_cover Nil ∷ []) tree → HasLeaf x tree → Contains (v ∷ []) x
+    side x tree h stands = found x (side_is x tree h stands)
 
     -- a place with a variable of both sides is that of the one variable
     place : (at : ℕ) → HasVariableAt (Leaf 0 2) (Branch zero_cover Nil) at → 2 ≡ at
