@@ -173,7 +173,7 @@ module _ (c : Assumption) (meeting : ℕ → Bool) (a b : NetView) (conflicts : 
     earlier n left right alike meets t small before =
         let e = f.agree_before t before in
         reset_same_at (circuit_of a) (circuit_of b) fits.left fits.right fits.left_base fits.right_base numbered fits.based left right n alike (RowMeets c) (run_holds c (circuit_of a) fits.left fits.reads n left meets)
-        f.place.left f.place.right t e.left_tree e.right_tree small e.left_unfolds e.right_unfolds (λ x all. e.same x (λ k has. all k))
+        f.place.left f.place.right t e.left_tree e.right_tree small e.left_unfolds e.right_unfolds (λ x all. e.same x (tt, λ k has. all k))
 
     first_differs : MakesResetsDifferUnder c (circuit_of a) (circuit_of b) w
     first_differs = record {
