@@ -1,11 +1,11 @@
 -- The bits of the variables by which two successive cycles are read.
-use Rattle.std.proofs.Common.{◌≡◌, ◌∙◌, ◌+◌, ◌-◌, ◌<◌, ◌≤◌, ◌⊎◌, ℕ, Bool, cond, List, [], ◌∷◌, ◌++◌, length, nat_lt, None, sym, ap, arith, inl, inr}
-use Rattle.std.specs.List.{All, Contains}
+use Rattle.std.proofs.Common.{◌≡◌, ◌∙◌, ◌+◌, ◌-◌, ◌<◌, ◌⊎◌, ℕ, Bool, cond, List, [], ◌∷◌, nat_lt, None, ap, arith, inl, inr}
+use Rattle.std.specs.List.{Contains}
 use Rattle.std.proofs.lemmas.List.Elements.{All-contains, All-append}
-use Rattle.circuit_theory.specs.Circuit.{Circuit, Named}
+use Rattle.circuit_theory.specs.Circuit.{Named}
 use Rattle.circuit_theory.specs.Tree.{StandsBeside, IsInputNumber}
 use Rattle.circuit_theory.specs.Joined.{Either}
-use Rattle.circuit_theory.proofs.Lists.{Contains-head, Contains-tail}
+use Rattle.circuit_theory.proofs.Lists.{Contains-tail}
 use Rattle.circuit_laws.proofs.Agreement.{value_of_number, first_value, value_found}
 use Rattle.circuit_laws.proofs.reset_laws.ResetAgreement.{lt_true, lt_false}
 use Rattle.signal_laws.specs.Ties.{side_at}

@@ -1,5 +1,5 @@
 -- The bits of equalities.
-use Rattle.std.proofs.Common.{◌≡◌, ◌∙◌, Bool, true, false, not, refl, sym}
+use Rattle.std.proofs.Common.{◌≡◌, Bool, true, false, not, refl}
 use Rattle.std.specs.Prelude.{◌&&◌}
 use Rattle.signal_refine.specs.Asking.{same_bit}
 

@@ -1,5 +1,5 @@
 -- What is shown of a grown graph, and one tie more.
-use Rattle.std.proofs.Common.{◌≡◌, ◌∙◌, ◌+◌, ◌*◌, ◌<◌, ◌⊎◌, ℕ, Bool, true, not, if◌then◌else◌, List, length, get_or, slice_get, Some, sym, ap, subst, arith, inl, inr}
+use Rattle.std.proofs.Common.{◌≡◌, ◌∙◌, ◌+◌, ◌*◌, ◌<◌, ◌⊎◌, ℕ, Bool, not, if◌then◌else◌, List, length, get_or, slice_get, Some, sym, ap, subst, arith, inl, inr}
 use Rattle.std.specs.List.{All}
 use Rattle.std.proofs.lemmas.Option.{get_or_from_slice_get}
 use Rattle.flat_net.proofs.Places.{All-at}

@@ -1,6 +1,6 @@
 -- Ties that queries show are an inductive invariant.
-use Rattle.std.proofs.Common.{◌≡◌, ◌∙◌, ◌+◌, ◌*◌, ◌^◌, ◌<◌, ◌≤◌, ℕ, Bool, true, false, not, if◌then◌else◌, List, [], length, slice_get, Some, sym, ap, subst, arith}
-use Rattle.std.specs.List.{All, Contains}
+use Rattle.std.proofs.Common.{◌≡◌, ◌∙◌, ◌+◌, ◌*◌, ◌<◌, ℕ, Bool, true, not, if◌then◌else◌, List, [], length, sym, ap, subst, arith}
+use Rattle.std.specs.List.{All}
 use Rattle.std.proofs.lemmas.Option.{slice_get_within}
 use Rattle.circuit_theory.specs.Circuit.{Carries}
 use Rattle.circuit_theory.specs.Joined.{Either}
@@ -12,13 +12,12 @@ use Rattle.aig.proofs.Growth.{Grows-trans}
 use Rattle.signal_laws.specs.declared.anchor.Anchor.{Anchor}
 use Rattle.signal_laws.specs.declared.anchor.Anchor.TheVariants as anchor
 use Rattle.signal_laws.specs.Ties.{side_at, anchor_value, AreTied}
-use Rattle.signal_laws.specs.Invariants.{IsFirstCycle, AreSuccessive}
 use Rattle.signal_refine.specs.declared.nets.SignalNets.{SignalNets}
 use Rattle.signal_refine.specs.declared.leaves.Latches.{Latches}
 use Rattle.signal_refine.specs.declared.leaves.Latches.TheVariants as latches
 use Rattle.signal_refine.specs.declared.leaves.Cycle.{Cycle}
 use Rattle.signal_refine.specs.declared.frame.Frame.{Frame}
-use Rattle.signal_refine.specs.Places.{size_of, places_of, whole, order_of}
+use Rattle.signal_refine.specs.Places.{size_of, places_of, whole}
 use Rattle.signal_refine.specs.Frames.{HaveValues, AreRead, IsReadBy, IsFrame}
 use Rattle.signal_refine.specs.Asking.{AnchorHas, IsCare, AreOne, AreShown}
 use Rattle.signal_refine.specs.Showing.{AreBelow, Begins, Steps, AreInductiveTies}

@@ -1,5 +1,5 @@
 -- What inputs, latches and gates have, by their literals.
-use Rattle.std.proofs.Common.{◌≡◌, ◌∙◌, ◌+◌, ◌*◌, ◌-◌, ◌<◌, ◌≤◌, ℕ, Bool, List, length, map, drop, slice_get, Some, sym, ap, subst, arith, length-drop}
+use Rattle.std.proofs.Common.{◌≡◌, ◌∙◌, ◌+◌, ◌<◌, ℕ, Bool, List, length, map, drop, slice_get, Some, sym, ap, subst, arith, length-drop}
 use Rattle.std.specs.List.{All, Contains}
 use Rattle.std.proofs.lemmas.List.Elements.{All-contains}
 use Rattle.std.proofs.lemmas.Option.{slice_get-get_or}
@@ -11,7 +11,7 @@ use Rattle.circuit_laws.proofs.reset_laws.reset_nets.Starts.{nets_have_starts}
 use Rattle.flat_net.specs.declared.signals.Signal.{Signal}
 use Rattle.flat_net.specs.declared.parts.LatchAt.{LatchAt}
 use Rattle.flat_net.specs.declared.parts.Driver.TheVariants as driver
-use Rattle.flat_net.specs.View.{NetView, circuit_of, cover_of, start_of}
+use Rattle.flat_net.specs.View.{circuit_of, cover_of, start_of}
 use Rattle.flat_net.proofs.Drivers.{gate_equation_stands, gate_out, latch_out, latch_equation_stands}
 use Rattle.aig.specs.declared.node.Lit.{Lit}
 use Rattle.aig.specs.declared.node.Node.{Node}
@@ -21,7 +21,7 @@ use Rattle.block_refine.proofs.block_graph.Numbered.{at_drop}
 use Rattle.signal_laws.specs.Ties.{side_at}
 use Rattle.signal_refine.specs.declared.nets.Spot.{Spot}
 use Rattle.signal_refine.specs.declared.leaves.Cycle.{Cycle}
-use Rattle.signal_refine.specs.Places.{size_of, places_of, whole, order_of}
+use Rattle.signal_refine.specs.Places.{size_of, places_of, whole}
 use Rattle.signal_refine.specs.Frames.{HaveValues, IsReadBy}
 use Rattle.signal_refine.proofs.Parts.{IsAt}
 

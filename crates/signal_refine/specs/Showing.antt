@@ -1,5 +1,5 @@
 -- Ties of the signals of two nets that are an inductive invariant.
-use Rattle.std.specs.Prelude.{◌≡◌, ℕ, ◌+◌, ◌^◌, ◌<◌, ◌≤◌, Bool, List, length}
+use Rattle.std.specs.Prelude.{◌≡◌, ℕ, ◌^◌, ◌<◌, ◌≤◌, Bool, List, length}
 use Rattle.std.specs.List.{All}
 use Rattle.circuit_theory.specs.Joined.{Either}
 use Rattle.signal_laws.specs.declared.anchor.Anchor.{Anchor}

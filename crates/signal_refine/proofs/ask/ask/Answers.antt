@@ -1,5 +1,5 @@
 -- Nothing tells the two apart.
-use Rattle.std.proofs.Common.{◌≡◌, ◌∙◌, ◌*◌, ◌<◌, ◌≤◌, ℕ, Bool, true, false, not, length, sym, ap, arith}
+use Rattle.std.proofs.Common.{◌≡◌, ◌∙◌, ℕ, Bool, true, not, length, sym, ap}
 use Rattle.std.specs.Prelude.{◌&&◌}
 use Rattle.aig.specs.Values.{value}
 use Rattle.aig.proofs.Meaning.{value-grows}

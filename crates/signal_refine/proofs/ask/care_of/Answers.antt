@@ -1,10 +1,9 @@
 -- One equality more.
-use Rattle.std.proofs.Common.{◌≡◌, ◌∙◌, ◌*◌, ◌<◌, ◌≤◌, ℕ, Bool, true, List, length, min, get_or, slice_get, Some, ap, subst, sym, arith}
-use Rattle.std.specs.List.{All}
+use Rattle.std.proofs.Common.{◌*◌, ◌<◌, length, arith}
 use Rattle.std.proofs.lemmas.List.Elements.{All-get_or}
 use Rattle.aig.specs.declared.node.Lit.{Lit}
 use Rattle.aig.proofs.CoverMeaning.{value-one}
-use Rattle.aig.proofs.Growth.{Grows-refl, Grows-trans, Grows-length}
+use Rattle.aig.proofs.Growth.{Grows-refl, Grows-trans}
 use Rattle.aig.proofs.Insert.{graph-some}
 use Rattle.signal_refine.proofs.Caring.{care_more}
 use Rattle.signal_refine.proofs.Framing.{within_grows}

@@ -1,9 +1,9 @@
 -- Two ands and their and.
-use Rattle.std.proofs.Common.{◌≡◌, ◌∙◌, ◌*◌, ◌<◌, ◌≤◌, ℕ, Bool, not, length, sym, ap, arith}
+use Rattle.std.proofs.Common.{◌≡◌, ◌∙◌, ℕ, Bool, not, length, ap, arith}
 use Rattle.std.specs.Prelude.{◌&&◌}
 use Rattle.aig.specs.declared.node.Lit.{Lit}
 use Rattle.aig.specs.Values.{value}
-use Rattle.aig.proofs.Growth.{Grows-length, Grows-trans}
+use Rattle.aig.proofs.Growth.{Grows-length}
 use Rattle.aig.proofs.Meaning.{value-grows}
 use Rattle.signal_refine.specs.Asking.{same_bit}
 use Rattle.signal_refine.proofs.Equals.{equal_is}

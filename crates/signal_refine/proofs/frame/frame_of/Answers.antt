@@ -1,9 +1,4 @@
 -- One signal more.
-use Rattle.std.proofs.Common.{◌≡◌, ◌∙◌, ◌*◌, ◌<◌, length, ap, subst, sym, arith}
-use Rattle.std.specs.List.{All}
-use Rattle.std.proofs.lemmas.Option.{slice_get_within}
-use Rattle.aig.specs.declared.node.Lit.{Lit}
-use Rattle.aig.proofs.Growth.{Grows-refl}
 use Rattle.signal_refine.proofs.Framing.{fit_grows, frame_more, frame_empty}
 use Rattle.signal_refine.proofs.frame.frame_of.Goals as goal
 

@@ -1,4 +1,4 @@
-use Rattle.signal_refine.specs.Frames.{AreFit, IsFrame}
+use Rattle.signal_refine.specs.Frames.{IsFrame}
 use Rattle.signal_refine.proofs.frame.frame_of.Given as goal
 
 abbrev pub invariant-loop-place : goal.invariant-loop-place

@@ -9,7 +9,7 @@ use Rattle.aig.specs.Values.{value}
 use Rattle.signal_laws.specs.Ties.{side_at}
 use Rattle.signal_refine.specs.Places.{size_of}
 use Rattle.signal_refine.specs.Frames.{IsReadBy}
-use Rattle.signal_refine.proofs.Parts.{IsAt, spot_is_at}
+use Rattle.signal_refine.proofs.Parts.{spot_is_at}
 use Rattle.signal_refine.proofs.Results.{ok_map}
 use Rattle.signal_refine.proofs.Sources.{input_value}
 use Rattle.signal_refine.proofs.leaves.input_literal.Goals as goal

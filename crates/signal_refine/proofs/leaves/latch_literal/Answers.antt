@@ -1,15 +1,14 @@
 -- The latch, and what it is read as.
-use Rattle.std.proofs.Common.{◌≡◌, ◌∙◌, ◌+◌, ◌*◌, ◌<◌, ℕ, Bool, true, false, List, length, get_or, slice_get, Some, sym, ap, subst, arith}
+use Rattle.std.proofs.Common.{◌≡◌, ◌∙◌, ◌+◌, true, false, List, length, get_or, slice_get, Some, sym, ap, subst, arith}
 use Rattle.std.proofs.lemmas.Option.{slice_get_within, slice_get-get_or}
 use Rattle.flat_net.specs.declared.parts.LatchAt.{LatchAt}
 use Rattle.flat_net.specs.View.{start_of}
 use Rattle.flat_net.proofs.Drivers.{driven_latch}
 use Rattle.aig.proofs.CoverMeaning.{value-zero, value-one}
-use Rattle.sec_base.specs.declared.basics.Init.{Init}
 use Rattle.signal_refine.specs.declared.leaves.Latches.{Latches}
 use Rattle.signal_refine.specs.Places.{places_of}
 use Rattle.signal_refine.specs.Frames.{AreRead, AreCarriedWithin}
-use Rattle.signal_refine.proofs.Parts.{IsAt, spot_is_at}
+use Rattle.signal_refine.proofs.Parts.{spot_is_at}
 use Rattle.signal_refine.proofs.Sources.{next_among, start_value, carried_value}
 use Rattle.signal_refine.proofs.leaves.latch_literal.Goals as goal
 

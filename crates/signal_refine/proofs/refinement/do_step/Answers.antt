@@ -1,15 +1,12 @@
 -- The ties hold in the next cycle.
-use Rattle.std.proofs.Common.{◌≡◌, ◌∙◌, ◌+◌, ◌*◌, ◌^◌, ◌<◌, ◌≤◌, ℕ, Bool, true, List, length, ap, subst, sym, arith}
+use Rattle.std.proofs.Common.{◌∙◌, ◌+◌, ◌^◌, ◌<◌, ℕ, Bool, ap, subst, sym, arith}
 use Rattle.std.specs.Prelude.{IsTrue}
-use Rattle.std.specs.List.{All}
 use Rattle.std.proofs.lemmas.List.Elements.{All-weaker}
-use Rattle.aig.specs.declared.node.Lit.{Lit}
 use Rattle.signal_refine.specs.declared.leaves.Latches.TheVariants as latches
-use Rattle.signal_refine.specs.Asking.{AreShown, IsCare}
+use Rattle.signal_refine.specs.Asking.{AreShown}
 use Rattle.signal_refine.specs.Places.{size_of, places_of}
 use Rattle.signal_refine.specs.Frames.{HaveValues}
 use Rattle.signal_refine.specs.Showing.{Steps}
-use Rattle.signal_refine.proofs.Framing.{within_grows}
 use Rattle.signal_refine.proofs.Results.{ok_map}
 use Rattle.signal_refine.proofs.Showing.{steps_where_shown}
 use Rattle.signal_refine.proofs.refinement.do_step.Goals as goal

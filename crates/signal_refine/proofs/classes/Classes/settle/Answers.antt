@@ -1,6 +1,6 @@
 -- One tie more.
-use Rattle.std.proofs.Common.{◌≡◌, ◌∙◌, ◌+◌, ◌*◌, ◌<◌, ◌≤◌, ◌⊎◌, ℕ, List, length, get_or, slice_get, Some, sym, ap, subst, arith, inl, inr}
-use Rattle.std.proofs.lemmas.Option.{slice_get_within, get_or_from_slice_get}
+use Rattle.std.proofs.Common.{arith}
+use Rattle.std.proofs.lemmas.Option.{slice_get_within}
 use Rattle.aig.proofs.Growth.{Grows-refl, Grows-trans, Grows-length}
 use Rattle.signal_refine.proofs.Framing.{within_grows}
 use Rattle.signal_refine.proofs.Settling.{shown_more, shown_grows}

@@ -1,8 +1,7 @@
 -- The tie's query says same.
-use Rattle.std.proofs.Common.{◌≡◌, ◌∙◌, ◌*◌, ◌<◌, ℕ, Bool, length, get_or, slice_get, Some, sym, ap, subst, arith}
+use Rattle.std.proofs.Common.{length, get_or, sym, subst, arith}
 use Rattle.std.proofs.lemmas.Option.{slice_get-get_or}
 use Rattle.aig.proofs.Insert.{graph-some}
-use Rattle.aig.specs.Values.{value}
 use Rattle.signal_refine.specs.Asking.{AnchorHas}
 use Rattle.signal_refine.proofs.classes.Classes.try_tie.Goals as goal
 

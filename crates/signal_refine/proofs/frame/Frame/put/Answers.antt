@@ -1,5 +1,5 @@
 -- The signal's own literal, and what it is read as.
-use Rattle.std.proofs.Common.{◌≡◌, ◌∙◌, ◌*◌, ◌<◌, ℕ, Bool, List, length, ap, subst, sym}
+use Rattle.std.proofs.Common.{◌≡◌, ℕ, Bool, List, subst}
 use Rattle.circuit_theory.specs.Joined.{Either}
 use Rattle.aig.specs.declared.node.Lit.{Lit}
 use Rattle.aig.specs.Values.{value}

@@ -1,4 +1,4 @@
-use Rattle.std.proofs.Common.{◌<◌, length, arith}
+use Rattle.std.proofs.Common.{arith}
 use Rattle.signal_refine.proofs.nets.SignalNets.spot.Goals as goal
 
 pub overflow_cast-result-2 : goal.overflow_cast-result-2
