@@ -1,5 +1,5 @@
 -- The example.
-use Rattle.std.proofs.Common.{◌≡◌, ℕ, zero, suc, ◌<◌, Bool, true, false, not, [], ◌∷◌, refl, sym, ◌∙◌, ap, subst, arith, slice_get, Some}
+use Rattle.std.proofs.Common.{◌≡◌, ℕ, zero, suc, Bool, true, false, not, [], ◌∷◌, refl, sym, ◌∙◌, ap, subst, arith, Some}
 use Rattle.std.specs.List.{Contains}
 use Rattle.std.proofs.lemmas.List.Elements.{All-contains}
 use Rattle.circuit_theory.specs.Cover.{cover_value}
