@@ -61,7 +61,7 @@ impl Classes {
         self.blocks.as_slice().get(entry).copied()
     }
 
-    fn phase(&self, entry: usize) -> bool {
+    pub(crate) fn phase(&self, entry: usize) -> bool {
         self.phases.get(entry).copied().unwrap_or(false)
     }
 
