@@ -38,7 +38,8 @@ use Rattle.circuit_laws.specs.reset_laws.class_extension.Telling.{TellsApart, Te
 use Rattle.class_search.specs.class_separations.Telling.{IsToldIn, AreToldIn}
 use Rattle.class_search.specs.class_separations.Apart.{HaveOwnVariables, IsToldOf, AreToldOf}
 use Rattle.class_search.proofs.class_separations.Variables.{variables_same, within_later}
-use Rattle.class_search.proofs.class_separations.Telling.{told_apart, told_always}
+use Rattle.class_search.specs.class_separations.Least.{DifferIn, IsOffIn, IsLeastFrame}
+use Rattle.class_search.proofs.class_separations.Telling.{told_apart, told_least, told_always, always_least}
 use Rattle.event_classes.specs.declared.map.ClassMap.{ClassMap}
 use Rattle.class_search.specs.declared.search.Fit.{Fit}
 use Rattle.class_search.specs.declared.search.Fit.TheVariants as fit
@@ -98,6 +99,7 @@ module _ (a b : EventCircuitView) (v w : EventGraphView) (kept : AreKept a b v) 
         let within_at = within_later v at kept.events told.since vars within_old in
         let tells = told_apart a b at (kept_at at told.kept) taken u latch conflicts (later at told.since u latch function) (own_at at told.since u latch.vars within_latch own) t.difference p x class (later at told.since p x m.function) (own_at at told.since p x.vars mine.0 mine.1) within_at told.compared
         m.before m.after m.split m.class_is (λ q h e. earlier q (m.earlier q h e)) in
+        let least = told_least a b at (kept_at at told.kept) taken u latch conflicts (later at told.since u latch function) (own_at at told.since u latch.vars within_latch own) t.difference p x (later at told.since p x m.function) within_at told.compared in
         let same_vars = variables_same at w told.kept told.until vars within_at in
         let same_value : value w.graph (assigned_to vars bits) x.value.0 ≡ value at.graph (assigned_to vars bits) x.value.0 = value-grows at.graph w.graph told.until.graph (assigned_to vars bits) x.value.0 (later at told.since p x m.function).enable_within in
         record {
@@ -107,6 +109,7 @@ module _ (a b : EventCircuitView) (v w : EventGraphView) (kept : AreKept a b v) 
           enable_at = told.is;
           within = within_later v w kept.events grows_to vars within_old;
           tells = subst (λ (y : Bool). TellsApart s taken class p u (variables_of w vars) bits y (not y)) (sym same_value) (subst (λ (ys : List (Variable (List ℕ))). TellsApart s taken class p u ys bits (value at.graph (assigned_to vars bits) x.value.0) (not (value at.graph (assigned_to vars bits) x.value.0))) (sym same_vars) tells);
+          least = subst (λ (ys : List (Variable (List ℕ))). IsLeastFrame (DifferIn s p u) ys bits) (sym same_vars) least;
         }
       where
         low : (n : ℕ) → All (λ i. i < length v.places) told.enable.vars → Contains told.enable.vars n ⊎ Contains latch.vars n → n < length v.places
@@ -137,10 +140,12 @@ module _ (a b : EventCircuitView) (v w : EventGraphView) (kept : AreKept a b v) 
     are_told_of =
         let within : All (λ n. n < length v.places) always.vars = subst (All (λ n. n < length v.places)) (sym is.0.own) within_latch in
         let tells = told_always a b v kept taken u latch conflicts function own always within is.0 in
+        let least = always_least a b v kept taken u latch conflicts function own always within is.0 in
         record {
           long = is.2;
           within = within_later v w kept.events grows_to always.vars within;
           always_is = subst (λ (ys : List (Variable (List ℕ))). TellsFromAlways s u ys always.bits) (sym (variables_same v w kept.events grows_to always.vars within)) tells;
+          always_least = subst (λ (ys : List (Variable (List ℕ))). IsLeastFrame (IsOffIn s u) ys always.bits) (sym (variables_same v w kept.events grows_to always.vars within)) least;
           each = λ k c t at_c at_t. told_of (suc k) c (have k c at_c) (All-at (λ (d : Class). All (IsReadyEnable w) d.enables.items) classes k c at_c ready) (λ i g x at_g at_x. owns k i c g x at_c at_g at_x) t (told_at k c t at_c at_t);
         }
 

@@ -15,7 +15,7 @@ use Rattle.edbf_unfold.specs.class_queries.Laws.{AreKept}
 use Rattle.event_nodes.specs.View.{EventCircuitView, side_of, Enabled}
 use Rattle.sec_setup.specs.declared.ports.pairs.SignalPair.{SignalPair}
 use Rattle.event_form.specs.event_agreement.pair_events.Counted.{both_starts}
-use Rattle.event_form.specs.event_agreement.pair_events.View.{EventsView, IsWithinLimits, circuit_at, side_of_both}
+use Rattle.event_form.specs.event_agreement.pair_events.View.{EventsView, IsOfStarts, IsWithinLimits, circuit_at, side_of_both}
 use Rattle.event_form.specs.event_agreement.pair_events.Within.{AreTotalsWithin, IsCountedOnce}
 use Rattle.event_form.proofs.event_agreement.pair_events.Within.{is_within}
 use Rattle.event_form.specs.Asked.{IsLater}
@@ -25,7 +25,6 @@ use Rattle.event_form.specs.Stopped.{IsStoppedFor}
 use Rattle.event_form.specs.declared.error.EventFormError.{EventFormError}
 use Rattle.event_form.specs.declared.error.EventFormError.TheVariants as form_error
 use Rattle.event_form.proofs.Stopping.{never_stopped}
-use Rattle.event_comparison.specs.Counted.{AreRefused}
 use Rattle.event_comparison.proofs.Showing.{refused_again}
 
 ones : {X : Type 0} (xs : List X) → sum_by (λ x. 1) xs ≡ length xs
@@ -63,27 +62,27 @@ never_over e kept lefts rights k A over = weight_fits (side_of e.left) (Enabled 
 never_over e kept lefts rights k B over = weight_fits (side_of e.right) (Enabled e.right) (sound_is_net e.right.net kept.right_sound).single rights 2000000 k.right k.right_is k.right_small over
 
 -- once all pairs were unfolded, none is refused
-pub never_again : {X Y : Type 0} (old mid : EventsView) → AreKept old.left old.right old.events → IsLater old mid → AreKept mid.left mid.right mid.events → IsCountedOnce mid → IsWithinLimits mid → (pairs : List SignalPair) → CountsOn pairs old mid → (result : Result X EventFormError) (told : Result Y EventFormError) →
-    ((error : EventFormError) → told ≡ Err error → result ≡ Err error) → IsRefusedFor (left_starts pairs) (right_starts pairs) mid result → AreRefused pairs old told
-never_again {X} {Y} old mid before later kept once within pairs counts result told same k left right h = record {
-  many = λ is. absurd (nodes_fit (side_of_both old) (both_starts (left ++ left_starts pairs) (right ++ right_starts pairs)) 10000 totals.few (again.many is left right h));
-  large = λ side is. absurd (never_over old before (left ++ left_starts pairs) (right ++ right_starts pairs) totals side (again.large side is left right h));
+pub never_again : {X Y : Type 0} (old mid : EventsView) → AreKept old.left old.right old.events → IsOfStarts old → IsLater old mid → AreKept mid.left mid.right mid.events → IsCountedOnce mid → IsWithinLimits mid → (pairs : List SignalPair) → CountsOn pairs old mid → (result : Result X EventFormError) (told : Result Y EventFormError) →
+    ((error : EventFormError) → told ≡ Err error → result ≡ Err error) → IsRefusedFor (left_starts pairs) (right_starts pairs) mid result → IsStoppedFor pairs old told
+never_again {X} {Y} old mid before starts later kept once within pairs counts result told same k = record {
+  many = λ is. absurd (nodes_fit (side_of_both old) (both_starts (starts.left ++ left_starts pairs) (starts.right ++ right_starts pairs)) 10000 totals.few (again.many is starts.left starts.right starts.counted));
+  large = λ side is. absurd (never_over old before (starts.left ++ left_starts pairs) (starts.right ++ right_starts pairs) totals side (again.large side is starts.left starts.right starts.counted));
 }
   where
     again : IsRefusedFor (left_starts pairs) (right_starts pairs) old told
     again = refused_again old mid later (left_starts pairs) (right_starts pairs) counts result told same k
 
-    totals : AreTotalsWithin old.left old.right (left ++ left_starts pairs) (right ++ right_starts pairs)
+    totals : AreTotalsWithin old.left old.right (starts.left ++ left_starts pairs) (starts.right ++ right_starts pairs)
     totals =
-        subst (λ (b : EventCircuitView). AreTotalsWithin old.left b (left ++ left_starts pairs) (right ++ right_starts pairs)) later.right
-        (subst (λ (a : EventCircuitView). AreTotalsWithin a mid.right (left ++ left_starts pairs) (right ++ right_starts pairs)) later.left (is_within mid (left ++ left_starts pairs) (right ++ right_starts pairs) kept once within (counts left right h)))
+        subst (λ (b : EventCircuitView). AreTotalsWithin old.left b (starts.left ++ left_starts pairs) (starts.right ++ right_starts pairs)) later.right
+        (subst (λ (a : EventCircuitView). AreTotalsWithin a mid.right (starts.left ++ left_starts pairs) (starts.right ++ right_starts pairs)) later.left (is_within mid (starts.left ++ left_starts pairs) (starts.right ++ right_starts pairs) kept once within (counts starts.left starts.right starts.counted)))
 
 -- what stops the pairs is told
-pub stopped_told : {X Y : Type 0} (e : EventsView) (pairs : List SignalPair) (result : Result X EventFormError) (told : Result Y EventFormError) → ((error : EventFormError) → told ≡ Err error → result ≡ Err error) → IsStoppedFor pairs e result → AreRefused pairs e told
-stopped_told e pairs result told same k left right h = record {
+pub stopped_told : {X Y : Type 0} (e : EventsView) (pairs : List SignalPair) (result : Result X EventFormError) (told : Result Y EventFormError) → ((error : EventFormError) → told ≡ Err error → result ≡ Err error) → IsStoppedFor pairs e result → IsStoppedFor pairs e told
+stopped_told e pairs result told same k = record {
   many = λ is. k.many (same form_error.TooManyEvents is);
   large = λ side is. k.large side (same (form_error.TooLarge side) is);
 }
 
-pub none_refused : {X : Type 0} (e : EventsView) (pairs : List SignalPair) (x : X) → AreRefused pairs e (Ok x)
-none_refused e pairs x left right h = never_stopped pairs e x
+pub none_refused : {X : Type 0} (e : EventsView) (pairs : List SignalPair) (x : X) → IsStoppedFor pairs e (Ok x)
+none_refused e pairs x = never_stopped pairs e x

@@ -5,12 +5,13 @@ ghost use Rattle.event_form.specs.event_findings.unshown_pairs.class_events.Sepa
 ghost use Rattle.event_form.specs.Asked.{IsLater, IsPairOf};
 ghost use Rattle.event_form.specs.Counted.{left_starts, right_starts};
 ghost use Rattle.event_form.specs.Refused.{IsRefusedFor};
+ghost use Rattle.event_form.specs.Stopped.{IsStoppedFor};
 ghost use Rattle.event_form.specs.declared.event_findings.verdict.EventVerdict.TheVariants as event_verdict;
 ghost use Rattle.obligations.specs.Asked.{AreAsked as AreQueries};
 ghost use Rattle.event_form.specs.event_agreement.pair_events.View.{IsWithinLimits};
 ghost use Rattle.event_comparison.specs.Agreement.{CircuitsAgree};
 ghost use Rattle.event_comparison.specs.Asked.{AreAskedFrom, StayCounted};
-ghost use Rattle.event_comparison.specs.Counted.{AreRefused, ArePairsCounted};
+ghost use Rattle.event_comparison.specs.Counted.{ArePairsCounted};
 ghost use Rattle.event_comparison.specs.Decided.{AreFound};
 ghost use Rattle.event_form.specs.event_findings.Compared.{AreCompared};
 ghost use Rattle.event_form.specs.event_findings.Findings.{FindingsFit};
@@ -42,7 +43,7 @@ pub fn compare_events(
     ensures fits { IfOk result (FindingsFit events.new.left events.new.right compared.now conflicts) }
     ensures agree { IfOk result (λ f. f.verdict ≡ event_verdict.Equal → CircuitsAgree events.new.left events.new.right compared.now.pairs.now) }
     ensures counted { OnOk result (ArePairsCounted compared.now.pairs.now events.old events.new) }
-    ensures refused { AreRefused compared.now.pairs.now events.old result }
+    ensures refused { IsStoppedFor compared.now.pairs.now events.old result }
 {
     events.keeps();
     let asked = ask_pairs(alloc, events, compared.pairs, compared.cut)?;

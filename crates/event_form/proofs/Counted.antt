@@ -16,7 +16,18 @@ counted_same old new more left right k =
     subst (λ (e : EventsView). HaveCounted e left right) (sym more.same) (record { left_counted = k.left_counted; right_counted = k.right_counted; left_nodes = k.left_nodes; right_nodes = k.right_nodes; only = k.only })
 
 pub within_same : (old new : EventsView) → HasGraphMore old new → IsWithinLimits old → IsWithinLimits new
-within_same old new more k = subst IsWithinLimits (sym more.same) (record { left = k.left; right = k.right; nodes = k.nodes })
+within_same old new more k =
+    let c = k.starts.counted in
+    subst IsWithinLimits (sym more.same) (record {
+      starts = record {
+        left = k.starts.left;
+        right = k.starts.right;
+        counted = record { left_counted = c.left_counted; right_counted = c.right_counted; left_nodes = c.left_nodes; right_nodes = c.right_nodes; only = c.only };
+      };
+      left = k.left;
+      right = k.right;
+      nodes = k.nodes;
+    })
 
 -- a pair is counted, first in A, then in B
 pub pair_counted : (old mid then new : EventsView) (p : SignalPair) → GoOnCounting A p.left.0 old mid → GoOnCounting B p.right.0 mid then → HasGraphMore then new → CountPairOn p old new

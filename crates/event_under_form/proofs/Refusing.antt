@@ -6,7 +6,7 @@ use Rattle.event_form.specs.event_agreement.pair_events.View.{EventsView}
 use Rattle.event_form.specs.declared.error.EventFormError.{EventFormError}
 use Rattle.event_form.specs.declared.error.EventFormError.TheVariants as form_error
 use Rattle.event_form.proofs.Stopping.{memory_stopped}
-use Rattle.event_comparison.specs.Counted.{AreRefused}
+use Rattle.event_form.specs.Stopped.{IsStoppedFor}
 use Rattle.event_under_form.specs.event_under_verdicts.assume_queries.UnderError.{UnderError}
 use Rattle.event_under_form.specs.event_under_verdicts.assume_queries.UnderError.TheVariants as asked_error
 use Rattle.event_under_form.specs.Formed.{AreRefusedUnder}
@@ -35,8 +35,8 @@ one_refusal form_error.NoMemory (form_error.TooLarge side) q = cc
 one_refusal form_error.NoMemory form_error.NoMemory q = refl
 
 -- what is refused without one
-pub form_refused : {X : Type 0} (e : EventsView) (pairs : List SignalPair) (error : EventFormError) → AreRefused {X = X} pairs e (Err error) → AreRefusedUnder {X = X} pairs e (Err (refusal_of error))
-form_refused {X} e pairs error k told same = subst (λ (f : EventFormError). AreRefused {X = X} pairs e (Err f)) (one_refusal error told (one_error same)) k
+pub form_refused : {X : Type 0} (e : EventsView) (pairs : List SignalPair) (error : EventFormError) → IsStoppedFor {X = X} pairs e (Err error) → AreRefusedUnder {X = X} pairs e (Err (refusal_of error))
+form_refused {X} e pairs error k told same = subst (λ (f : EventFormError). IsStoppedFor {X = X} pairs e (Err f)) (one_refusal error told (one_error same)) k
 
 -- none of that is the assumption's
 form_over : {X : Type 0} (error : EventFormError) → ◌≡◌ {A = Result X EventUnderError} (Err (refusal_of error)) (Err under_error.AssumptionTooLarge) → ⊥
@@ -52,7 +52,7 @@ pub under_refused : {X : Type 0} (e : EventsView) (pairs : List SignalPair) (err
 under_refused {X} e pairs asked_error.TooLarge told same = absurd (form_over {X = X} told (sym same))
 under_refused {X} e pairs asked_error.NoMemory told same =
     let no_memory : form_error.NoMemory ≡ told = one_refusal form_error.NoMemory told (one_error same) in
-    subst (λ (f : EventFormError). AreRefused {X = X} pairs e (Err f)) no_memory (λ left right h. memory_stopped pairs e)
+    subst (λ (f : EventFormError). IsStoppedFor {X = X} pairs e (Err f)) no_memory (memory_stopped pairs e)
 
 pub under_over : {X : Type 0} (C : Type 0) (error : UnderError) → (error ≡ asked_error.TooLarge → C) → ◌≡◌ {A = Result X EventUnderError} (Err (refusal_under error)) (Err under_error.AssumptionTooLarge) → C
 under_over C asked_error.TooLarge over q = over refl

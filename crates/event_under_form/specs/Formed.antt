@@ -12,7 +12,8 @@ use Rattle.obligations.specs.Verdict.{IsVerdictAt}
 use Rattle.event_form.specs.declared.error.EventFormError.{EventFormError}
 use Rattle.event_form.specs.declared.event_findings.findings.EventFindings.{EventFindings}
 use Rattle.event_form.specs.declared.event_findings.pairs.EventPairs.{EventPairs}
-use Rattle.event_comparison.specs.Counted.{AreRefused, ArePairsCounted}
+use Rattle.event_form.specs.Stopped.{IsStoppedFor}
+use Rattle.event_comparison.specs.Counted.{ArePairsCounted}
 use Rattle.assume_queries.specs.assume_sequences.Assumed.{IsAssumedBy}
 use Rattle.assume_queries.specs.declared.assume_sequences.premise.Premise.{Premise}
 use Rattle.assume_queries.specs.assume_sequences.Filled.{bit_of}
@@ -39,7 +40,7 @@ ArePairsOver weight pairs old new = ArePairsCounted pairs old new × IsOverAtNod
 
 -- what is refused but for the assumption is refused as without one
 abbrev pub AreRefusedUnder : {X : Type 0} → List SignalPair → EventsView → Result X EventUnderError → Type 0
-AreRefusedUnder {X} pairs e result = (error : EventFormError) → result ≡ Err (refusal_of error) → AreRefused {X = X} pairs e (Err error)
+AreRefusedUnder {X} pairs e result = (error : EventFormError) → result ≡ Err (refusal_of error) → IsStoppedFor {X = X} pairs e (Err error)
 
 -- the results are those of the obligations over the graph of their own, and the verdict is shown at the one that gives it, while the event graph grows
 pub record AreFoundUnder (w : EventGraphView) (e : EventsView) (c : EventPairs) (conflicts : ℕ) (s : Shows) (f : EventFindings) : Type 0 where

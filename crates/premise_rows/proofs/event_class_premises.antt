@@ -8,6 +8,8 @@ pub mod Encodings
 pub mod AtLimit
 pub mod Visited
 pub mod Totals
+pub mod ClearedLatch
+pub mod ClassLimit
 pub mod OneNode
 pub mod Heavy
 pub mod AlwaysFits

@@ -4,6 +4,7 @@ pub mod Members
 pub mod TwoEnables
 pub mod AtLimit
 pub mod Totals
+pub mod ClassLimit
 pub mod OneNode
 pub mod Heavy
 pub mod AlwaysFits

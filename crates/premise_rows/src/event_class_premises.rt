@@ -2,6 +2,7 @@
 
 ghost use Rattle.premise_rows.specs.event_class_premises.AlwaysFits.{AlwaysMeetsPremises};
 ghost use Rattle.premise_rows.specs.event_class_premises.AtLimit.{LimitsMeetPremises};
+ghost use Rattle.premise_rows.specs.event_class_premises.ClassLimit.{ClassLimitIsMet};
 ghost use Rattle.premise_rows.specs.event_class_premises.ClassMap.{ClassMapMeetsPremises};
 ghost use Rattle.premise_rows.specs.event_class_premises.Enables.{EnableMeetsPremises};
 ghost use Rattle.premise_rows.specs.event_class_premises.Heavy.{HeavyMeetsPremises};
@@ -45,6 +46,11 @@ pub fn always_meets_premises()
 /// Where no conflicts are allowed and the lists of variables are long, both meet the limit.
 pub fn limits_meet_premises()
     ensures { LimitsMeetPremises }
+{}
+
+/// A latch that an input clears, in a gate that reads sixteen inputs more: the class map ends at the limit of its query.
+pub fn class_limit_is_met()
+    ensures { ClassLimitIsMet }
 {}
 
 /// What is counted of the enables of the two that load under one input.

@@ -33,6 +33,8 @@ use Rattle.circuit_laws.proofs.reset_laws.class_extension.Keeping.{variables_sta
 use Rattle.class_search.specs.declared.class_separations.apart.Apart.{Apart}
 use Rattle.class_search.specs.class_separations.Telling.{HasKept, IsApartOf, always_apart}
 use Rattle.class_search.specs.class_separations.Apart.{IsSeparationBy, IsApart, AreApart, HaveOwnVariables, AreToldApart, AreTakenMembers, IsToldOf, AreToldOf, pairs_below, number_of}
+use Rattle.class_search.specs.class_separations.Least.{DifferIn, IsOffIn, IsLeastFrame, TellsIn}
+use Rattle.class_search.proofs.class_separations.Least.{least_of_fewer, off_before, differ_before}
 use Rattle.class_search.proofs.class_separations.Variables.{variables_same, within_later}
 
 -- no two classes stand behind those below the next one
@@ -70,7 +72,15 @@ told_grows a b w x place taken classes aparts is grows told = record {
     long = told.apart.long;
     each = λ low high below within.
         let y = told.apart.each low high below within in
-        (y.0, y.1, record { within = within_later w x is grows y.0.vars y.2.within; separates = separates_grows (both_of a b) w x place taken low high y.0 y.0.low (variables_same w x is grows y.0.vars y.2.within) y.2.separates });
+        let same = variables_same w x is grows y.0.vars y.2.within in (
+          y.0,
+          y.1,
+          record {
+            within = within_later w x is grows y.0.vars y.2.within;
+            separates = separates_grows (both_of a b) w x place taken low high y.0 y.0.low same y.2.separates;
+            least = subst (λ (vs : List (Variable (List ℕ))). IsLeastFrame (TellsIn (both_of a b) place y.0.low y.0.high) vs y.0.bits) (sym same) y.2.least;
+          },
+        );
   };
 }
 
@@ -93,8 +103,29 @@ module _ (a b : EventCircuitView) (ks ls : List ℕ) (w : EventGraphView) (place
   separates_stays low high y (Some t) (p, h) =
       (p, (separations_stay_in_nets (circuit_of a.net) (circuit_of b.net) (length a.net.drivers) (length b.net.drivers) a.order b.order (class_map a b) (class_map (record a { classes = ks }) (record b { classes = ls })) taken rest u next (variables_of w y.vars) y.bits).0 low high (place t) (place y.high) y.left y.right h)
 
+  -- a latch of these that were taken is one of those that have their class now
+  among : (before after : List (Either ℕ ℕ)) (p : Either ℕ ℕ) → taken ≡ before ++ p ∷ after → Contains (taken ++ u ∷ []) p
+  among before after p split = Contains-append_left taken (u ∷ []) p (subst (λ (ps : List (Either ℕ ℕ)). Contains ps p) (sym split) (Contains-append_right before (p ∷ after) p (Contains-head p after)))
+
+  last : Contains (taken ++ u ∷ []) u
+  last = Contains-append_right taken (u ∷ []) u (Contains-head u [])
+
+  off_then : (p : Either ℕ ℕ) → Contains (taken ++ u ∷ []) p → (frame : ℕ → List ℕ → Bool) → IsOffIn T p frame → IsOffIn S p frame
+  off_then p h frame e = off_before (circuit_of a.net) (circuit_of b.net) (length a.net.drivers) (length b.net.drivers) a.order b.order (class_map a b) (class_map (record a { classes = ks }) (record b { classes = ls })) taken rest u next p h frame e
+
+  differ_then : (p q : Either ℕ ℕ) → Contains (taken ++ u ∷ []) p → Contains (taken ++ u ∷ []) q → (frame : ℕ → List ℕ → Bool) → DifferIn T p q frame → DifferIn S p q frame
+  differ_then p q h k frame e = differ_before (circuit_of a.net) (circuit_of b.net) (length a.net.drivers) (length b.net.drivers) a.order b.order (class_map a b) (class_map (record a { classes = ks }) (record b { classes = ls })) taken rest u next p q h k frame e
+
+  tells_then : (low high : ℕ) (y : Apart) (t : Option Tag) → IsSeparationBy S w place taken low high y t → (frame : ℕ → List ℕ → Bool) → TellsIn T place t y.high frame → TellsIn S place t y.high frame
+  tells_then low high y None (e, l, r, h) frame k = off_then (place y.high) (among h.founder_is.before h.founder_is.after (place y.high) h.founder_is.split) frame k
+  tells_then low high y (Some t) (p, h) frame k = differ_then (place t) (place y.high) (among h.before h.after (place t) h.split) (among h.founder_is.before h.founder_is.after (place y.high) h.founder_is.split) frame k
+
   apart_stays : (low high : ℕ) (y : Apart) → IsApart S w place taken low high y → IsApart T w place (taken ++ u ∷ []) low high y
-  apart_stays low high y is = record { within = is.within; separates = separates_stays low high y y.low is.separates }
+  apart_stays low high y is = record {
+    within = is.within;
+    separates = separates_stays low high y y.low is.separates;
+    least = least_of_fewer (TellsIn S place y.low y.high) (TellsIn T place y.low y.high) (variables_of w y.vars) y.bits (tells_then low high y y.low is.separates) is.least;
+  }
 
   module _ (classes : List Class) (aparts : List Apart) (have : AreTakenMembers place taken classes) (told : AreToldApart a b w place taken classes aparts) where
     -- a member was taken
@@ -183,6 +214,7 @@ module _ (a b : EventCircuitView) (ks ls : List ℕ) (w : EventGraphView) (place
               record {
                 within = of.within;
                 separates = (refl, refl, refl, subst (λ (p : Either ℕ ℕ). IsSeparationFromAlways T (taken ++ u ∷ []) founded p (variables_of w always.vars) always.bits) (sym is_u) (subst (λ (n : ℕ). IsSeparationFromAlways T (taken ++ u ∷ []) n u (variables_of w always.vars) always.bits) class_is begins));
+                least = subst (λ (p : Either ℕ ℕ). IsLeastFrame (IsOffIn T p) (variables_of w always.vars) always.bits) (sym is_u) (least_of_fewer (IsOffIn S u) (IsOffIn T u) (variables_of w always.vars) always.bits (off_then u last) of.always_least);
               },
             )
 
@@ -202,9 +234,13 @@ module _ (a b : EventCircuitView) (ks ls : List ℕ) (w : EventGraphView) (place
             let framed = subst (λ (vs : List ℕ). IsSeparation T (taken ++ u ∷ []) (suc k) founded (place h.tag) u (variables_of w vs) y.bits y.left y.right) (sym is.vars) (subst (λ (bs : List Bool). IsSeparation T (taken ++ u ∷ []) (suc k) founded (place h.tag) u (variables_of w vars) bs y.left y.right) (sym is.bits) valued) in
             let high : u ≡ place y.high = sym is_u ∙ ap place (sym is.high) in
             let low : Some h.tag ≡ y.low = ap Some same_tag ∙ sym is.low in
+            let member = among h.tells.before h.tells.after (place h.tag) h.tells.split in
+            let least = least_of_fewer (DifferIn S (place h.tag) u) (DifferIn T (place h.tag) u) (variables_of w vars) bits (differ_then (place h.tag) u member last) h.least in
+            let least_framed = subst (λ (vs : List ℕ). IsLeastFrame (DifferIn T (place h.tag) u) (variables_of w vs) y.bits) (sym is.vars) (subst (λ (bs : List Bool). IsLeastFrame (DifferIn T (place h.tag) u) (variables_of w vars) bs) (sym is.bits) least) in
             record {
               within = subst (λ (vs : List ℕ). All (λ n. n < length w.places) vs) (sym is.vars) h.within;
               separates = subst (IsSeparationBy T w place (taken ++ u ∷ []) (suc k) founded y) low (omega arith, subst (λ (p : Either ℕ ℕ). IsSeparation T (taken ++ u ∷ []) (suc k) founded (place h.tag) p (variables_of w y.vars) y.bits y.left y.right) high framed);
+              least = subst (λ (t : Option Tag). IsLeastFrame (TellsIn T place t y.high) (variables_of w y.vars) y.bits) low (subst (λ (p : Either ℕ ℕ). IsLeastFrame (DifferIn T (place h.tag) p) (variables_of w y.vars) y.bits) high least_framed);
             }
 
         class_at : (k : ℕ) → suc k < founded → (y : Apart) × (slice_get new (number_of (suc k) founded) ≡ Some y) × IsApart T w place (taken ++ u ∷ []) (suc k) founded y

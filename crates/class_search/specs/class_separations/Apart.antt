@@ -16,16 +16,18 @@ use Rattle.class_search.specs.declared.class.Class.{Class}
 use Rattle.class_search.specs.declared.told.Difference.{Difference}
 use Rattle.class_search.specs.declared.told.Told.{Told}
 use Rattle.class_search.specs.declared.class_separations.apart.Apart.{Apart}
+use Rattle.class_search.specs.class_separations.Least.{DifferIn, IsOffIn, TellsIn, IsLeastFrame}
 
 -- it is the separation from a latch of the lower class, or from `always`, in the frame of its variables
 abbrev pub IsSeparationBy : EventSide (Either ℕ ℕ) → EventGraphView → (Tag → Either ℕ ℕ) → List (Either ℕ ℕ) → ℕ → ℕ → Apart → Option Tag → Type 0
 IsSeparationBy s w place order low high x None = (low ≡ 0) × (x.left ≡ true) × (x.right ≡ false) × IsSeparationFromAlways s order high (place x.high) (variables_of w x.vars) x.bits
 IsSeparationBy s w place order low high x (Some t) = (0 < low) × IsSeparation s order low high (place t) (place x.high) (variables_of w x.vars) x.bits x.left x.right
 
--- what tells the two classes apart
+-- what tells the two classes apart, up to 16 variables by the least frame that does
 pub record IsApart (s : EventSide (Either ℕ ℕ)) (w : EventGraphView) (place : Tag → Either ℕ ℕ) (order : List (Either ℕ ℕ)) (low high : ℕ) (x : Apart) : Type 0 where
   pub within : All (λ v. v < length w.places) x.vars
   pub separates : IsSeparationBy s w place order low high x x.low
+  pub least : IsLeastFrame (TellsIn s place x.low x.high) (variables_of w x.vars) x.bits
 
 -- how many two classes there are below a class
 abbrev pub pairs_below : ℕ → ℕ
@@ -60,7 +62,7 @@ pub record AreToldApart (a b : EventCircuitView) (w : EventGraphView) (place : T
   pub own : HaveOwnVariables (both_of a b) w place classes
   pub apart : AreApart (both_of a b) w place taken (length classes) aparts
 
--- what tells the latch from a class: from the first of its members, each enable once, from which it differs
+-- what tells the latch from a class: from the first of its members, each enable once, from which it differs, by the least frame
 pub record IsToldOf (s : EventSide (Either ℕ ℕ)) (w : EventGraphView) (place : Tag → Either ℕ ℕ) (taken : List (Either ℕ ℕ)) (u : Either ℕ ℕ) (class : ℕ) (c : Class) (t : Told) : Type 0 where
   pub tag : Tag
   pub enable : Enable
@@ -69,10 +71,12 @@ pub record IsToldOf (s : EventSide (Either ℕ ℕ)) (w : EventGraphView) (place
   pub within : All (λ v. v < length w.places) t.difference.vars
   pub tells : TellsApart s taken class (place tag) u (variables_of w t.difference.vars) t.difference.bits (value w.graph (assigned_to t.difference.vars t.difference.bits) enable.value.0)
       (not (value w.graph (assigned_to t.difference.vars t.difference.bits) enable.value.0))
+  pub least : IsLeastFrame (DifferIn s (place tag) u) (variables_of w t.difference.vars) t.difference.bits
 
 -- what tells it from `always` and from each class
 pub record AreToldOf (s : EventSide (Either ℕ ℕ)) (w : EventGraphView) (place : Tag → Either ℕ ℕ) (taken : List (Either ℕ ℕ)) (u : Either ℕ ℕ) (classes : List Class) (always : Difference) (told : List Told) : Type 0 where
   pub long : length told ≡ length classes
   pub within : All (λ v. v < length w.places) always.vars
   pub always_is : TellsFromAlways s u (variables_of w always.vars) always.bits
+  pub always_least : IsLeastFrame (IsOffIn s u) (variables_of w always.vars) always.bits
   pub each : (k : ℕ) (c : Class) (t : Told) → slice_get classes k ≡ Some c → slice_get told k ≡ Some t → IsToldOf s w place taken u (suc k) c t

@@ -7,7 +7,8 @@ use Rattle.event_comparison.specs.class_events.Made.{AreEnablesCounted}
 use Rattle.edbf_unfold.specs.class_queries.Laws.{AreKept}
 use Rattle.event_form.specs.event_agreement.pair_events.View.{EventsView, IsEvents}
 use Rattle.event_form.specs.event_agreement.pair_events.Within.{IsCountedOnce}
-use Rattle.event_comparison.specs.Counted.{AreRefused, ArePairsCounted}
+use Rattle.event_form.specs.Stopped.{IsStoppedFor}
+use Rattle.event_comparison.specs.Counted.{ArePairsCounted}
 use Rattle.event_setup.specs.event_meaning.event_names.EventFormError.{EventFormError}
 use Rattle.event_setup.specs.event_meaning.event_names.EventFormError.TheVariants as form_error
 use Rattle.event_setup.proofs.event_meaning.event_names.event_fits.Counting.{count_is, map_made, pairs_within, refused_large, refused_many}
@@ -27,7 +28,7 @@ module _ (e : EventsView) (is : IsEvents e) (k : AreEnablesCounted e) (few : e.c
   }
 
   -- or why they can't be unfolded
-  pub not_unfolded : {Y : Type 0} (error : EventFormError) → AreRefused {X = Y} pairs e (Err error) → AreNotUnfolded e.left e.right pairs (refusal_of error)
-  not_unfolded form_error.TooManyEvents h = let stop = (h k.lefts k.rights k.counted).many refl in (map_made e is k few, refused_many e is k few pairs stop.0 stop.1 stop.2)
-  not_unfolded (form_error.TooLarge side) h = let stop = (h k.lefts k.rights k.counted).large side refl in (map_made e is k few, refused_large e is k few pairs side stop.0 stop.1)
+  pub not_unfolded : {Y : Type 0} (error : EventFormError) → IsStoppedFor {X = Y} pairs e (Err error) → AreNotUnfolded e.left e.right pairs (refusal_of error)
+  not_unfolded form_error.TooManyEvents h = let stop = h.many refl in (map_made e is k few, refused_many e is k few pairs stop.0 stop.1 stop.2)
+  not_unfolded (form_error.TooLarge side) h = let stop = h.large side refl in (map_made e is k few, refused_large e is k few pairs side stop.0 stop.1)
   not_unfolded form_error.NoMemory h = tt

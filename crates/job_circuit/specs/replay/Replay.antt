@@ -72,6 +72,11 @@ Replays mode a b header rows (Err refused.NoMemory) = Unit {0}
 Replays mode a b header rows (Err (refused.Unknown name)) = FitsOr a b header (Err (refused.Unknown name))
 Replays mode a b header rows (Err (refused.Missing name)) = FitsOr a b header (Err (refused.Missing name))
 
+-- The header fits both nets, or this is the first name that doesn't, whichever latches count as enabled.
+abbrev pub HasFitting : NetView → NetView → List (List ℕ) → Result Replayed ReplayError → Type 0
+HasFitting a b header (Ok replayed) = FitsBoth a b header
+HasFitting a b header (Err e) = FitsOr a b header (Err e)
+
 -- the header, of which this is the table, fits both nets, and these are the names of the latches that are cut open
 pub record IsFitting (a b : NetView) (enabled_a enabled_b : List Bool) (table names header : List (List ℕ)) (rows : List (List Bool)) : Type 0 where
   pub distinct : AreDistinct (map (λ (p : Port). p.name) b.outputs)

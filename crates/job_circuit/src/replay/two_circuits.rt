@@ -5,7 +5,7 @@ ghost use Rattle.circuit_theory.specs.declared.Mode.{Mode};
 ghost use Rattle.base_tables.specs.Table.{AreDistinct};
 ghost use Rattle.signal_graph.specs.inner_cone.latch_cone.Cones.{MarksEnabled};
 ghost use Rattle.sec_setup.specs.Matching.{InterfacesMatch};
-ghost use Rattle.job_circuit.specs.replay.Replay.{Replays, IsFitting, FindsReplay};
+ghost use Rattle.job_circuit.specs.replay.Replay.{Replays, HasFitting, IsFitting, FindsReplay};
 
 use crate::replay::cut_sides::{cut_side, pairs_of};
 use crate::replay::replay_header::{ReplayError, opened_by};
@@ -20,8 +20,8 @@ use witness_report::Stimulus;
 /// The differences that two circuits show on a stimulus, where both power up with zeros: by cycle and then by pair, each pair that is
 /// settled in both and differs. And of each pair, in order, the first cycle in which it is settled in both. The names of the stimulus that are no inputs are those of latches of both circuits, which are cut
 /// open: each takes its values from the stimulus, and what it takes over is compared behind the outputs. The latches whose bits are
-/// set count as enabled; the differences are those of each mode whose enabled latches are exactly these. First a name is refused
-/// that is neither an input of one of the circuits nor a latch of both, then an input of both that the stimulus lacks. An input that
+/// set count as enabled; the differences are those of each mode whose enabled latches are exactly these. Whichever bits are set, first a name
+/// is refused that is neither an input of one of the circuits nor a latch of both, then an input of both that the stimulus lacks. An input that
 /// isn't shared is read by nothing and has no effect. The outputs of the second circuit have distinct names. Circuits with 2^32
 /// outputs or more, the cut latches among them, answer want of memory.
 pub fn replay(
@@ -37,7 +37,8 @@ pub fn replay(
     requires left_bits { length enabled_a.now ≡ length a.now.latches }
     requires right_bits { length enabled_b.now ≡ length b.now.latches }
     requires few { length stimulus.now.rows < 2 ^ 32 }
-    ensures { (mode : Mode) → MarksEnabled mode a.now enabled_a.now → MarksEnabled mode b.now enabled_b.now → Replays mode a.now b.now stimulus.now.names stimulus.now.rows result }
+    ensures fits { HasFitting a.now b.now stimulus.now.names result }
+    ensures replays { (mode : Mode) → MarksEnabled mode a.now enabled_a.now → MarksEnabled mode b.now enabled_b.now → Replays mode a.now b.now stimulus.now.names stimulus.now.rows result }
 {
     let header = table_of_names(alloc, &stimulus.names)?;
     let names = opened_by(alloc, a, b, &header)?;

@@ -62,7 +62,7 @@ once : IsCountedOnce with_enables
 once = record { left = counted_once; right = counted_once }
 
 within : IsWithinLimits with_enables
-within = record { left = left_counted.weighed; right = right_counted.weighed; nodes = omega arith }
+within = record { starts = record { left = enable_start ∷ []; right = enable_start ∷ []; counted = counted }; left = left_counted.weighed; right = right_counted.weighed; nodes = omega arith }
 
 first : CanBeCompared with_enables held_compared
 first = record {

@@ -11,7 +11,7 @@ use Rattle.premise_rows.proofs.event_pair_premises.HeldCompared.{from_always, gr
 use Rattle.premise_rows.proofs.event_pair_premises.HeldPair.{classes, order}
 
 apart : TellsFromAlways at_root
-apart = record { within = All-from_recursion (λ v. v < 2) (0 ∷ 1 ∷ []) (omega arith, (omega arith, tt)); separates = (refl, refl, refl, from_always) }
+apart = record { within = All-from_recursion (λ v. v < 2) (0 ∷ 1 ∷ []) (omega arith, (omega arith, tt)); separates = (refl, refl, refl, from_always); least = λ few. (0, refl, λ m below. absurd (omega (arith, below))) }
 
 pub meets_premises : OneClassMeetsPremises
 meets_premises = record {

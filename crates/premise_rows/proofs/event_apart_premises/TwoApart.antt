@@ -8,10 +8,11 @@ use Rattle.circuit_theory.specs.Classes.{IsFounder}
 use Rattle.circuit_theory.specs.EventFrames.{AreNodeVariables, IsClassTree, IsEnableTree, IsSeparation, IsSeparationFromAlways, frame_of}
 use Rattle.circuit_theory.specs.Frame.{NodeBefore}
 use Rattle.circuit_theory.specs.Joined.{Either, Left, Right}
-use Rattle.circuit_theory.specs.Query.{HasLeaf, HasLeafIn, Variable}
+use Rattle.circuit_theory.specs.Query.{HasLeaf, HasLeafIn, Variable, bits_of}
 use Rattle.circuit_theory.specs.Tree.{Tree}
 use Rattle.circuit_laws.proofs.JoinedParts.{joined_same}
 use Rattle.class_search.specs.class_separations.Apart.{IsApart, number_of}
+use Rattle.class_search.specs.class_separations.Least.{DifferIn, IsLeastFrame}
 use Rattle.class_search.specs.declared.class_separations.apart.Apart.{Apart}
 use Rattle.class_search.specs.event_order.Order.{IsTagOf, place_of}
 use Rattle.event_form.specs.event_findings.unshown_pairs.class_events.Named.{NamesLatches}
@@ -144,17 +145,28 @@ separation = record {
   differ = differ;
 }
 
+-- where neither input is 1 both enables are 0
+none_less : (m : ℕ) → m < 1 → DifferIn both_loading (Left 3) (Left 4) (frame_of three_variables (bits_of m 3)) → ⊥
+none_less m below d =
+    let first : m ≡ 0 = omega (arith, below) in
+    let e = subst (λ (n : ℕ). DifferIn both_loading (Left 3) (Left 4) (frame_of three_variables (bits_of n 3))) first d in
+    e.2 false (hold_enable both_loading joined_same single number_once (codes "q") (Left 3) (Left 5) left_q_latch left_q (frame_of three_variables (bits_of 0 3)) [])
+    (hold_enable both_loading joined_same single number_once (codes "r") (Left 4) (Left 6) left_r_latch left_r (frame_of three_variables (bits_of 0 3)) [])
+
+pub q_r_least : IsLeastFrame (DifferIn both_loading (Left 3) (Left 4)) three_variables e_alone
+q_r_least = λ few. (1, refl, none_less)
+
 abbrev Tells : ℕ → ℕ → Apart → Type 0
 Tells low high x = IsApart both_loading three_inputs (place_of shows_and.net shows_or.net) joining low high x
 
 tells_q : Tells 0 1 q_from_always
-tells_q = record { within = All-from_recursion (λ v. v < 3) (0 ∷ 2 ∷ []) (omega arith, (omega arith, tt)); separates = (refl, refl, refl, q_off) }
+tells_q = record { within = All-from_recursion (λ v. v < 3) (0 ∷ 2 ∷ []) (omega arith, (omega arith, tt)); separates = (refl, refl, refl, q_off); least = λ few. (0, refl, λ m below. absurd (omega (arith, below))) }
 
 tells_r : Tells 0 2 r_from_always
-tells_r = record { within = All-from_recursion (λ v. v < 3) (1 ∷ 2 ∷ []) (omega arith, (omega arith, tt)); separates = (refl, refl, refl, r_off) }
+tells_r = record { within = All-from_recursion (λ v. v < 3) (1 ∷ 2 ∷ []) (omega arith, (omega arith, tt)); separates = (refl, refl, refl, r_off); least = λ few. (0, refl, λ m below. absurd (omega (arith, below))) }
 
 tells_both : Tells 1 2 q_from_r
-tells_both = record { within = All-from_recursion (λ v. v < 3) (0 ∷ 1 ∷ 2 ∷ []) (omega arith, (omega arith, (omega arith, tt))); separates = (omega arith, separation) }
+tells_both = record { within = All-from_recursion (λ v. v < 3) (0 ∷ 1 ∷ 2 ∷ []) (omega arith, (omega arith, (omega arith, tt))); separates = (omega arith, separation); least = q_r_least }
 
 each_two : (low high : ℕ) → low < high → high ≤ 2 → (x : Apart) × (slice_get two_apart (number_of low high) ≡ Some x) × Tells low high x
 each_two low zero less most = absurd (omega (arith, less))

@@ -12,6 +12,7 @@ use Rattle.event_nodes.specs.aig.Node.{Node}
 use Rattle.event_nodes.specs.aig.Node.TheVariants.{Constant, Input, And}
 use Rattle.event_nodes.specs.Nodes.{IsEventGraph}
 use Rattle.obligations.specs.declared.outcome.verdict.PairResult.{PairResult}
+use Rattle.event_form.proofs.event_findings.unshown_pairs.class_events.Begin.{begins}
 use Rattle.event_form.specs.Asked.{IsPairOf}
 use Rattle.event_form.specs.declared.event_findings.unshown_pairs.separations.ToldSeparation.{ToldSeparation}
 use Rattle.event_form.specs.declared.event_findings.verdict.EventVerdict.TheVariants as verdict
@@ -79,7 +80,7 @@ first = record {
   events = record { classes = classes; number = refl; depths = depths; left_depths = side.depths and_cover and_sound refl; right_depths = side.depths or_cover or_sound refl };
   pairs = All-from_recursion (IsPairOf with_two) (and_or_pair ∷ []) (record { left = omega arith; right = omega arith }, tt);
   compared = compared;
-  within = record { left = record { sum = refl; small = omega arith; few = omega arith }; right = record { sum = refl; small = omega arith; few = omega arith }; nodes = omega arith };
+  within = record { starts = record { left = []; right = []; counted = begins with_two refl refl refl }; left = record { sum = refl; small = omega arith; few = omega arith }; right = record { sum = refl; small = omega arith; few = omega arith }; nodes = omega arith };
 }
 
 not_different : answer.NotShown ≢ answer.Different

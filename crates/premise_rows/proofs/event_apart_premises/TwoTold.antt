@@ -13,6 +13,7 @@ use Rattle.circuit_theory.specs.Run.{IsEnabled}
 use Rattle.circuit_theory.proofs.Lists.{Contains-cases, Contains-head, only}
 use Rattle.circuit_laws.proofs.JoinedParts.{joined_same}
 use Rattle.sec_base.specs.declared.basics.Tag.{Tag}
+use Rattle.class_search.specs.class_separations.Least.{DifferIn, IsLeastFrame, TellsIn}
 use Rattle.class_search.specs.event_order.Order.{IsTagOf, place_of}
 use Rattle.event_form.specs.declared.event_findings.unshown_pairs.separations.ToldSeparation.{ToldSeparation}
 use Rattle.event_form.specs.event_findings.unshown_pairs.Reached.{PairLatches}
@@ -21,7 +22,7 @@ use Rattle.call_rows.proofs.circuit_samples.Each.{each_pair}
 use Rattle.call_rows.proofs.circuit_samples.event_samples.HoldCells.{at_root}
 use Rattle.premise_rows.specs.event_apart_premises.TwoClasses.{and_or_pair, TellsQFromR, TwoClassesAreToldApart}
 use Rattle.premise_rows.specs.event_apart_premises.TwoLoads.{shows_and, shows_or, both_loading, joining, three_variables, e_alone}
-use Rattle.premise_rows.proofs.event_apart_premises.TwoApart.{separated, separation}
+use Rattle.premise_rows.proofs.event_apart_premises.TwoApart.{separated, separation, q_r_least}
 use Rattle.premise_rows.proofs.event_apart_premises.TwoPair.{all_hold, classes, left_q_latch, left_r_latch, loads_one, number_once, single, whole}
 
 -- each latch is of class 1 or 2
@@ -121,6 +122,8 @@ module _ (t : ToldSeparation) (tells : TellsQFromR t) where
     bits = e_alone;
     founder = subst (IsTagOf shows_and.net shows_or.net) (sym tells.high_latch) (omega arith);
     separates = subst (λ latch. SeparatesBy shows_and shows_or joining t latch three_variables e_alone) (sym tells.low_latch) (omega (arith, tells.low_is), omega arith, between);
+    least = subst (λ latch. IsLeastFrame (TellsIn both_loading place latch t.high_latch) three_variables e_alone) (sym tells.low_latch)
+        (subst (λ founder. IsLeastFrame (DifferIn both_loading (Left 3) (place founder)) three_variables e_alone) (sym tells.high_latch) q_r_least);
     frame = tells.told;
   }
 

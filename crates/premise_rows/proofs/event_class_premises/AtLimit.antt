@@ -46,7 +46,7 @@ node_number Constant = 0
 node_number (Input v) = suc v
 node_number (And l r) = 18
 
-many_kept : IsEventGraph many_inputs
+pub many_kept : IsEventGraph many_inputs
 many_kept = record {
   is_graph = record {
     constant = refl;
@@ -93,7 +93,7 @@ bare n x node at = no_operand node (leaf n node at)
     no_operand (And a b) l r = l
 
 -- e against 1
-abbrev off_query : Query
+abbrev pub off_query : Query
 off_query = record { left = record { 0 = 2 }; right = record { 0 = 1 }; care = record { 0 = 1 }; vars = all_seventeen }
 
 module _ (nodes : List ℕ) (part : List Node) (k n : ℕ) where
@@ -129,7 +129,7 @@ off_apart : IsTrivial off_query → ⊥
 off_apart (inl e) = omega (arith, e)
 off_apart (inr e) = omega (arith, e)
 
-off_limit : IsAtLimit many_inputs.graph off_query 0 e_is_off
+pub off_limit : IsAtLimit many_inputs.graph off_query 0 e_is_off
 off_limit = record {
   wide = record { apart = off_apart; many = omega arith };
   encoding = off_encoding;

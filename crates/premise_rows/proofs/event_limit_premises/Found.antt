@@ -9,6 +9,7 @@ use Rattle.witness_report.specs.declared.witness.PairName.TheVariants as pair
 use Rattle.event_nodes.specs.View.{Enabled}
 use Rattle.obligations.specs.declared.outcome.verdict.PairResult.{PairResult}
 use Rattle.event_setup.proofs.event_meaning.event_meaning_under.Bare.{bare_kept}
+use Rattle.event_form.proofs.event_findings.unshown_pairs.class_events.Begin.{begins}
 use Rattle.event_form.specs.Asked.{IsPairOf}
 use Rattle.event_form.specs.event_findings.Compared.{AreCompared}
 use Rattle.event_form.specs.event_findings.Findings.{IsFirstLimit}
@@ -54,7 +55,7 @@ first = record {
   };
   pairs = All-from_recursion (IsPairOf before_choice) (chosen_pair ∷ []) (record { left = omega arith; right = omega arith }, tt);
   compared = compared;
-  within = record { left = record { sum = refl; small = omega arith; few = omega arith }; right = record { sum = refl; small = omega arith; few = omega arith }; nodes = omega arith };
+  within = record { starts = record { left = []; right = []; counted = begins before_choice refl refl refl }; left = record { sum = refl; small = omega arith; few = omega arith }; right = record { sum = refl; small = omega arith; few = omega arith }; nodes = omega arith };
 }
 
 separated : AreSeparated before_choice []

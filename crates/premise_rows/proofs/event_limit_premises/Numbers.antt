@@ -23,6 +23,16 @@ in_seventeen k l = of_at seventeen k k (at (λ i. i) [] k l)
 pub of_seventeen : (k : ℕ) → Contains seventeen k → k < 17
 of_seventeen k h = let i = at_of seventeen k h in let m = is_at (λ i. i) i.0 k i.1 in subst (λ j. j < 17) m.1 m.0
 
+-- the same of eighteen
+pub in_eighteen : (k : ℕ) → k < 18 → Contains (numbers_from 0 18) k
+in_eighteen k l = of_at (numbers_from 0 18) k k (at_number (λ i. i) [] 18 0 k k l (omega arith))
+
+pub of_eighteen : (k : ℕ) → Contains (numbers_from 0 18) k → k < 18
+of_eighteen k h =
+    let i = at_of (numbers_from 0 18) k h in
+    let l : i.0 < 18 = slice_get_within (numbers_from 0 18) i.0 k i.1 in
+    subst (λ j. j < 18) (same_Some i.0 k (sym (at_number (λ j. j) [] 18 0 i.0 i.0 l (omega arith)) ∙ i.1)) l
+
 -- each number stands at its place, and so do the letters
 pub own_place : (i k : ℕ) → slice_get seventeen i ≡ Some k → i ≡ k
 own_place i k h = (is_at (λ j. j) i k h).1

@@ -72,7 +72,7 @@ compared = record {
 }
 
 within : IsWithinLimits at_first
-within = record { left = record { sum = refl; small = omega arith; few = omega arith }; right = record { sum = refl; small = omega arith; few = omega arith }; nodes = omega arith }
+within = record { starts = record { left = []; right = []; counted = begins at_first refl refl refl }; left = record { sum = refl; small = omega arith; few = omega arith }; right = record { sum = refl; small = omega arith; few = omega arith }; nodes = omega arith }
 
 first : CanBeCompared at_first y_compared
 first = record {

@@ -135,7 +135,7 @@ once : IsCountedOnce at_last
 once = record { left = one_place (0, 0); right = one_place (0, 1) }
 
 within : IsWithinLimits at_last
-within = record { left = left_counted.weighed; right = right_counted.weighed; nodes = omega arith }
+within = record { starts = record { left = left_starts (y_pair ∷ []); right = right_starts (y_pair ∷ []); counted = counted }; left = left_counted.weighed; right = right_counted.weighed; nodes = omega arith }
 
 pub pair_is_counted : PairIsCounted
 pair_is_counted = record {

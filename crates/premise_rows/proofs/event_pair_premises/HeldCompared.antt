@@ -17,6 +17,7 @@ use Rattle.sec_setup.specs.declared.ports.pairs.SignalPair.{SignalPair}
 use Rattle.flat_net.specs.View.{circuit_of}
 use Rattle.event_nodes.specs.Nodes.{GrowsEvents}
 use Rattle.obligations.specs.declared.outcome.verdict.PairResult.{PairResult}
+use Rattle.event_form.proofs.event_findings.unshown_pairs.class_events.Begin.{begins}
 use Rattle.event_form.specs.Asked.{IsPairOf}
 use Rattle.event_form.specs.event_agreement.pair_events.View.{IsEvents, IsWithinLimits}
 use Rattle.event_form.specs.event_findings.Compared.{AreCompared}
@@ -58,7 +59,7 @@ compared = record {
 }
 
 pub within : IsWithinLimits with_classes
-within = record { left = record { sum = refl; small = omega arith; few = omega arith }; right = record { sum = refl; small = omega arith; few = omega arith }; nodes = omega arith }
+within = record { starts = record { left = []; right = []; counted = begins with_classes refl refl refl }; left = record { sum = refl; small = omega arith; few = omega arith }; right = record { sum = refl; small = omega arith; few = omega arith }; nodes = omega arith }
 
 first : CanBeCompared with_classes held_compared
 first = record {
@@ -118,7 +119,7 @@ separated = record {
     each = λ low high less most.
         let l : low ≡ 0 = omega (arith, less, most) in
         let h : high ≡ 1 = omega (arith, less, most) in
-        rw (l, h) (_, refl, record { within = All-from_recursion (λ v. v < 2) (0 ∷ 1 ∷ []) (omega arith, (omega arith, tt)); separates = (refl, refl, refl, from_always) });
+        rw (l, h) (_, refl, record { within = All-from_recursion (λ v. v < 2) (0 ∷ 1 ∷ []) (omega arith, (omega arith, tt)); separates = (refl, refl, refl, from_always); least = λ few. (0, refl, λ m below. absurd (omega (arith, below))) });
   };
 }
 

@@ -49,7 +49,7 @@ returns-in_err-asked-clause-refused c =
 pub returns-in_err-findings-clause-refused : goal.returns-in_err-findings-clause-refused
 returns-in_err-findings-clause-refused c =
     let p = err_from_is_err_and c.from_residual-in_err-findings.result c.from_residual-in_err-findings.ensures.1 in
-    rw (p.1, p.2) (never_again c.args.events.now c.ask_pairs.new.events c.keeps.ensures.kept c.in_ok-asked.ensures.later c.keeps-2.ensures.kept c.keeps-2.ensures.once c.in_ok-asked.ensures.within c.args.compared.now.pairs.now c.in_ok-asked.ensures.counted _ _
+    rw (p.1, p.2) (never_again c.args.events.now c.ask_pairs.new.events c.keeps.ensures.kept c.requires.within.starts c.in_ok-asked.ensures.later c.keeps-2.ensures.kept c.keeps-2.ensures.once c.in_ok-asked.ensures.within c.args.compared.now.pairs.now c.in_ok-asked.ensures.counted _ _
     (λ error is. ap Err (error_is is)) c.in_err-findings.ensures.refused)
 
 pub returns-clause-refused : goal.returns-clause-refused

@@ -1,5 +1,5 @@
 -- What an unfolding of one circuit gives for both.
-use Rattle.std.proofs.Common.{ℕ, Result, Ok, Err}
+use Rattle.std.proofs.Common.{ℕ, [], ◌∷◌, ◌++◌, Result, Ok, Err}
 use Rattle.std.specs.Prelude.{IfOk, OnOk}
 use Rattle.circuit_theory.specs.declared.Side.TheVariants.{A, B}
 use Rattle.circuit_theory.specs.Joined.{Left, Right}
@@ -44,7 +44,12 @@ module _ (e : EventsView) (w : EventGraphView) (d : CounterView) (p : ℕ) (resu
     left_is_counted = on_ok result (HasCountedStart e.left (signal_start p) w.children e.left_count d) (GoOnCounting A p e left_new) (λ k. left_goes_on e kept w d p counting k) counted
 
     pub left_is_within : IsWithinLimits e → OnOk result (IsWithinLimits left_new)
-    left_is_within before = on_ok result (HasCountedStart e.left (signal_start p) w.children e.left_count d) (IsWithinLimits left_new) (λ k. record { left = k.on.weighed; right = before.right; nodes = k.on.few }) counted
+    left_is_within before = on_ok result (HasCountedStart e.left (signal_start p) w.children e.left_count d) (IsWithinLimits left_new) (λ k. record {
+      starts = record { left = before.starts.left ++ signal_start p ∷ []; right = before.starts.right; counted = left_goes_on e kept w d p counting k before.starts.left before.starts.right before.starts.counted };
+      left = k.on.weighed;
+      right = before.right;
+      nodes = k.on.few;
+    }) counted
 
     pub left_is_refused : IsRefusedBy A p e result
     left_is_refused = record {
@@ -69,7 +74,12 @@ module _ (e : EventsView) (w : EventGraphView) (d : CounterView) (p : ℕ) (resu
     right_is_counted = on_ok result (HasCountedStart e.right (signal_start p) w.children e.right_count d) (GoOnCounting B p e right_new) (λ k. right_goes_on e kept w d p counting k) counted
 
     pub right_is_within : IsWithinLimits e → OnOk result (IsWithinLimits right_new)
-    right_is_within before = on_ok result (HasCountedStart e.right (signal_start p) w.children e.right_count d) (IsWithinLimits right_new) (λ k. record { left = before.left; right = k.on.weighed; nodes = k.on.few }) counted
+    right_is_within before = on_ok result (HasCountedStart e.right (signal_start p) w.children e.right_count d) (IsWithinLimits right_new) (λ k. record {
+      starts = record { left = before.starts.left; right = before.starts.right ++ signal_start p ∷ []; counted = right_goes_on e kept w d p counting k before.starts.left before.starts.right before.starts.counted };
+      left = before.left;
+      right = k.on.weighed;
+      nodes = k.on.few;
+    }) counted
 
     pub right_is_refused : IsRefusedBy B p e result
     right_is_refused = record {

@@ -13,6 +13,7 @@ use Rattle.sec_base.specs.declared.basics.Tag.{Tag}
 use Rattle.event_form.specs.event_findings.unshown_pairs.class_events.Separated.{AreSeparated}
 use Rattle.class_search.specs.declared.class_separations.apart.Apart.{Apart}
 use Rattle.class_search.specs.class_separations.Apart.{IsApart, IsSeparationBy, number_of}
+use Rattle.class_search.specs.class_separations.Least.{IsLeastFrame, TellsIn}
 use Rattle.event_form.specs.event_findings.unshown_pairs.class_events.Named.{NamesLatches}
 use Rattle.event_nodes.specs.Nodes.{IsEventGraph}
 use Rattle.class_search.specs.event_order.Order.{place_of, IsTagOf}
@@ -62,6 +63,8 @@ module _ (e : EventsView) (aparts : List Apart) (sep : AreSeparated e aparts) wh
       bits = t.apart.bits;
       founder = subst (IsTagOf e.left.net e.right.net) (sym t.high_latch) names.high;
       separates = subst (λ (o : Option Tag). SeparatesBy e.left e.right order x o (variables_of e.events t.apart.vars) t.apart.bits) (sym t.low_latch) (by_latch t.apart.low refl is.separates);
+      least = subst (λ (o : Option Tag). IsLeastFrame (TellsIn (side_of_both e) place o x.high_latch) (variables_of e.events t.apart.vars) t.apart.bits) (sym t.low_latch)
+          (subst (λ (u : Tag). IsLeastFrame (TellsIn (side_of_both e) place t.apart.low u) (variables_of e.events t.apart.vars) t.apart.bits) (sym t.high_latch) is.least);
       frame = bits_told e.events t.apart.vars t.apart.bits x.frame.items t.frame;
     }
 

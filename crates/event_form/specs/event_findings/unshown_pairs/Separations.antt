@@ -9,6 +9,7 @@ use Rattle.circuit_theory.specs.EventFrames.{IsSeparation, IsSeparationFromAlway
 use Rattle.circuit_theory.specs.Frame.{EventSide, IsNode}
 use Rattle.edbf_unfold.specs.class_queries.Enables.{both_of}
 use Rattle.event_nodes.specs.View.{EventCircuitView}
+use Rattle.class_search.specs.class_separations.Least.{IsLeastFrame, TellsIn}
 use Rattle.class_search.specs.event_order.Order.{place_of, IsTagOf}
 use Rattle.sec_setup.specs.declared.ports.pairs.SignalPair.{SignalPair}
 use Rattle.sec_base.specs.declared.basics.Tag.{Tag}
@@ -27,12 +28,13 @@ SeparatesBy a b order x None variables bits = (x.low ≡ 0) × (x.left ≡ true)
 SeparatesBy a b order x (Some t) variables bits =
     (0 < x.low) × IsTagOf a.net b.net t × IsSeparation (both_of a b) order x.low x.high (place_of a.net b.net t) (place_of a.net b.net x.high_latch) variables bits x.left x.right
 
--- What is told of two classes is a separation of the class map.
+-- What is told of two classes is a separation of the class map, up to 16 variables by the least frame.
 pub record Separates (a b : EventCircuitView) (order : List (Either ℕ ℕ)) (x : ToldSeparation) : Type 0 where
   pub variables : List (Variable (List ℕ))
   pub bits : List Bool
   pub founder : IsTagOf a.net b.net x.high_latch
   pub separates : SeparatesBy a b order x x.low_latch variables bits
+  pub least : IsLeastFrame (TellsIn (both_of a b) (place_of a.net b.net) x.low_latch x.high_latch) variables bits
   pub frame : TellsBits variables bits x.frame.items
 
 -- by the lower class, then by the higher one

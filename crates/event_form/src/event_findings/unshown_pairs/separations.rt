@@ -23,7 +23,7 @@ pub struct ToldSeparation {
     /// The values of their enables; that of `always` is 1.
     pub left: bool,
     pub right: bool,
-    /// A bit for each variable of both enables, in their order. All else is 0.
+    /// A bit for each variable of both enables, in their order. All else is 0. Up to 16 variables no lesser frame tells the classes apart.
     pub frame: Vec<FrameBit>,
 }
 

@@ -105,7 +105,7 @@ returns-in_err-findings-clause-refused c =
     let pairs = c.args.compared.now.pairs.now in
     let error = c.in_err-findings.field-0.0 in
     refused_by (AreRefusedUnder pairs old) c.from_residual-in_err-findings.result (refusal_of error) c.from_residual-in_err-findings.ensures.1
-    (form_refused old pairs error (never_again old e c.keeps.ensures.kept c.in_ok-obligations.ensures.later c.keeps-2.ensures.kept c.keeps-2.ensures.once c.in_ok-obligations.ensures.within pairs c.in_ok-obligations.ensures.counted _ _ (λ f is. ap Err (error_is is)) c.in_err-findings.ensures.refused))
+    (form_refused old pairs error (never_again old e c.keeps.ensures.kept c.requires.within.starts c.in_ok-obligations.ensures.later c.keeps-2.ensures.kept c.keeps-2.ensures.once c.in_ok-obligations.ensures.within pairs c.in_ok-obligations.ensures.counted _ _ (λ f is. ap Err (error_is is)) c.in_err-findings.ensures.refused))
 
 pub returns-clause-refused : goal.returns-clause-refused
 returns-clause-refused c = none_refused c.args.events.now c.args.compared.now.pairs.now c.in_ok-findings.findings

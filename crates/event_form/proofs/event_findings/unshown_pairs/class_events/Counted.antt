@@ -42,7 +42,12 @@ enables_counted a b m sound_a sound_b is = record {
   classes = is.classes;
   few = subst (λ (us : List (Either ℕ ℕ)). length us ≤ 30000) (sym is.order) (subst (λ n. n ≤ 30000) (sym (length-map (places_in m) m.taken.items)) is.few);
   within = subst (AreWithin m.left m.right) (sym is.order) is.within;
-  limits = record { left = is.made.within.left; right = is.made.within.right; nodes = is.made.within.nodes };
+  limits = record {
+    starts = record { left = is.counts.lefts; right = is.counts.rights; counted = starts_counted m sound_a sound_b is.counts };
+    left = is.made.within.left;
+    right = is.made.within.right;
+    nodes = is.made.within.nodes;
+  };
   starts = is.counts.starts;
   are = subst (λ (us : List (Either ℕ ℕ)). AreStarts (both_of m.left m.right) us [] is.counts.starts) (sym is.order) is.counts.are;
   lefts = is.counts.lefts;

@@ -15,6 +15,7 @@ use Rattle.class_search.specs.event_variables.Variables.{variables_of}
 use Rattle.event_form.specs.event_agreement.pair_events.Enables.{both_of}
 use Rattle.event_classes.specs.KeptApart.{Apart}
 use Rattle.event_classes.specs.Apart.{IsSeparationBy, AreApart}
+use Rattle.class_search.specs.class_separations.Least.{IsLeastFrame, TellsIn}
 use Rattle.event_classes.proofs.Variables.{variables_same, within_later}
 use Rattle.event_classes.specs.declared.map.ClassMap.{ClassMap}
 use Rattle.event_classes.specs.Map.{IsClassMapOf}
@@ -41,6 +42,7 @@ pub apart_stays : ApartStays
 apart_stays s w v place order low high x is grows k = record {
   within = within_later w v is grows x.vars k.within;
   separates = separates_stays s w v place order low high x x.low (variables_same w v is grows x.vars k.within) k.separates;
+  least = subst (λ (vs : List (Variable (List ℕ))). IsLeastFrame (TellsIn s place x.low x.high) vs x.bits) (sym (variables_same w v is grows x.vars k.within)) k.least;
 }
 
 -- the same over these circuits, with so many classes
