@@ -4,6 +4,7 @@ pub mod AssumedPair
 pub mod EventRuns
 pub mod ExposedPair
 pub mod HoldCells
+pub mod NeverPair
 pub mod Opened
 pub mod Places
 pub mod Reached

@@ -1,6 +1,7 @@
 pub mod Always
 pub mod Assumed
 pub mod Events
+pub mod Never
 pub mod Places
 pub mod Premises
 pub mod Reader

@@ -6,15 +6,19 @@ ghost use Rattle.circuit_theory.specs.declared.Mode.TheVariants.{Event};
 ghost use Rattle.circuit_theory.specs.Run.{IsEnabled};
 ghost use Rattle.circuit_theory.specs.Depth.{IsDepth};
 ghost use Rattle.circuit_theory.specs.Query.{Variable, IsSame};
-ghost use Rattle.circuit_theory.specs.Fits.{MakesDiffer};
+ghost use Rattle.circuit_theory.specs.Fits.{IsPairDepth, MakesDiffer};
 ghost use Rattle.circuit_theory.specs.Agree.{cut, Agree, AgreeOnward};
 ghost use Rattle.circuit_theory.specs.Joined.{Left, Right, joined};
 ghost use Rattle.circuit_theory.specs.EventFrames.{AreNodeVariables, IsPairTree, HaveDifferentEvents, IsEventDifference, IsSeparation, IsSeparationFromAlways};
 ghost use Rattle.circuit_theory.specs.EventFits.{ReachesAlways};
+ghost use Rattle.settle_laws.specs.Settles.{HaveNoCare, HaveNoCareUnder};
+ghost use Rattle.circuit_theory.specs.EventQueries.{IsEventPairQuery};
+ghost use Rattle.circuit_theory.specs.Net.{IsNet};
 ghost use Rattle.assume_laws.specs.Assume.{IsAssumption, ReadsInputs, PlaceUnfolds, AgreeUnder, AgreeOnwardUnder};
 ghost use Rattle.assume_laws.specs.Sequences.{RowsMeet, IsMeetingDifference, IsMeetingRow, IsPairTreeUnder, IsEventDifferenceUnder, HaveDifferentEventsUnder, assumption_query};
 ghost use Rattle.call_rows.specs.circuit_samples.event_samples.Reader.{HasSettledReader};
 ghost use Rattle.call_rows.specs.circuit_samples.event_samples.Always.{always_loads, nothing, always_both, no_class, always_side, always_query, always_variables, one_always, never, assumed_query, meeting_row, ok_tree, never_tree};
+ghost use Rattle.call_rows.specs.circuit_samples.event_samples.Never.{never_loads, one_class, never_side, never_query};
 ghost use Rattle.call_rows.specs.circuit_samples.event_samples.Samples.{before, behind, cleared, exposed, opened_before, opened_behind, opened_cleared, opened_side, numbers, class_of};
 ghost use Rattle.call_rows.specs.circuit_samples.event_samples.Places.{CountByPlaces};
 ghost use Rattle.call_rows.specs.circuit_samples.event_samples.Assumed.{a_is_one, PairsAreEqualUnder};
@@ -141,4 +145,22 @@ pub fn settled_reader()
 pub fn separated()
     ensures classes { IsSeparation opened_side opened_order 1 2 (Left 3) (Left 5) (root_variable 0 ∷ root_variable 1 ∷ root_variable 2 ∷ []) (true ∷ false ∷ false ∷ []) true false }
     ensures always { IsSeparationFromAlways opened_side opened_order 1 (Left 3) (root_variable 0 ∷ root_variable 2 ∷ []) (false ∷ false ∷ []) }
+{}
+
+/// A latch that takes over itself, so that it never loads, against the constant 0: no frame has care for it, so none has for the pair, also where no
+/// latch is exposed by name, and under the assumption that the input is 1. The pair's query has the care 0.
+pub fn never_pair()
+    ensures sides { AreEventSides never_loads nothing 2 2 (0 ∷ []) (0 ∷ []) one_class }
+    ensures exposed { AreExposedSides never_loads nothing 2 2 [] (0 ∷ []) (0 ∷ []) one_class }
+    ensures pair { HaveNoCare never_side (Left 1) (Right 1) }
+    ensures side { HaveNoCare never_side (Left 1) (Left 1) }
+    ensures assumption { IsAssumption one_always 2 × ReadsInputs one_always never_loads (0 ∷ []) }
+    ensures under { HaveNoCareUnder one_always never_side (Left 1) (Right 1) }
+    ensures query { IsEventPairQuery never_side (Left 1) (Right 1) never_query }
+{}
+
+/// Two constants, settled from cycle 0 on.
+pub fn constant_pair()
+    ensures net { IsNet nothing 2 }
+    ensures depth { IsPairDepth nothing nothing 1 1 0 }
 {}
