@@ -1,0 +1,10 @@
+pub mod One
+pub mod Kept
+pub mod Built
+pub mod Ordered
+pub mod Inputs
+pub mod OneGraph
+pub mod Folds
+pub mod Lists
+pub mod Places
+pub mod Waiting

@@ -1,0 +1,4 @@
+pub mod Making
+pub mod Numbering
+pub mod Rooted
+pub mod Walking
