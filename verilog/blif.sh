@@ -31,6 +31,10 @@ quoted() {
 script() {
   local name=$1 top=$2 x=$3 file it
   shift 3
+  for file in "${cells[@]}"; do echo "yosys read_verilog -defer $(quoted "$file")"; done
+  for file in "${liberties[@]}"; do
+    echo "yosys read_liberty -ignore_miss_func -ignore_miss_dir -ignore_miss_data_latch $(quoted "$file")"
+  done
   for file in "$@"; do
     printf 'yosys read_verilog'
     case $file in
@@ -77,6 +81,7 @@ by_yosys() {
     rm -f "$at.blif" "$at.facts"
     stop 65 "yosys refuses the $side design"
   fi
+  mv "$scratch/yosys.names" "$scratch/$name.names" || exit 73
   # What a selection doesn't find is no news, and what has no driver is told behind the report.
   grep -h '^Warning' "$at.log" | grep -v 'did not match any\|is used but has no driver' | sed "s/^/sec-verilog: $side: /" >&2
   if grep -q '^Replacing .*([$]_\(DLATCH\|SR\|ALDFF\|DFFSR\)' "$at.log"; then
@@ -90,6 +95,7 @@ to_blif() {
     4,*.blif)
       cp "$4" "$folder/$1.blif" || stop 6 "$4 can't be read"
       : > "$folder/$1.facts"
+      : > "$scratch/$1.names"
       ;;
     *) by_yosys "$@" ;;
   esac

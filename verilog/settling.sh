@@ -1,5 +1,5 @@
 # shellcheck shell=bash disable=SC2154,SC2034
-# Since when pairs are settled in a random run behind a reset. Read by sec-verilog.
+# Which inputs reset a design, and since when pairs are settled in a random run behind a reset. Read by sec-verilog.
 
 # The inputs of the first file but for both clocks.
 inputs() {
@@ -56,6 +56,22 @@ stimulus() {
     }' "$scratch/resets" "$scratch/columns"
 }
 
+# Which inputs are held at what, in words.
+resets_told() {
+  awk '{ print $1 " at " $2 }' "$scratch/resets" | paste -s -d ',' | sed 's/,/, /g'
+}
+
+# A stimulus of some rows in which the resets are held, and all other inputs are 0: held_rows ROWS
+held_rows() {
+  awk -v rows="$1" '
+    FILENAME == ARGV[1] { held_at[$1] = $2; next }
+    { names = names " " $1; line = line ($1 in held_at ? held_at[$1] : 0) }
+    END {
+      print "inputs" names
+      while (rows-- > 0) print line
+    }' "$scratch/resets" "$scratch/columns"
+}
+
 # Sets `settled` to how many pairs are settled, and since when, in a random run behind a reset.
 look_at_settling() {
   local rows=256 held=8 mode=() last never it
@@ -65,7 +81,7 @@ look_at_settling() {
   stimulus "$rows" "$held" > "$scratch/stimulus"
   it="a run of $rows random cycles"
   ! grep -q '^exposed [1-9]' "$report" || it+=' with the exposed flip-flops as inputs'
-  [ ! -s "$scratch/resets" ] || it+=", the first $held with $(awk '{ print $1 " at " $2 }' "$scratch/resets" | paste -s -d ',' | sed 's/,/, /g')"
+  [ ! -s "$scratch/resets" ] || it+=", the first $held with $(resets_told)"
   if ! sec_to "$scratch/settle" settle "$a" "$b" "$scratch/stimulus" "${mode[@]}"; then
     settled="$(head -n 1 "$scratch/settle") over $it"
     return

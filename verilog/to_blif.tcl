@@ -149,5 +149,8 @@ yosys dfflegalize -cell {$_DFF_?_} 01 -cell {$_DFF_???_} 01
 yosys rename -wire -suffix .flop {t:$_DFF_???_}
 write_resets $resets
 yosys techmap -map $resets
+# All names of each bit, before those go that nothing needs.
+yosys opt_clean
+yosys write_blif $scratch.names
 yosys opt_clean -purge
 yosys write_blif -noalias $blif

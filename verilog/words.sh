@@ -1,7 +1,7 @@
 # shellcheck shell=bash disable=SC2034
 # The words of sec-verilog. Read by it.
-old=() new=() check=() parameters=() reading=() defines=() values=('') reset_inputs=()
-side=old top='' new_top='' sv='' keep='' wrong='' any_clock='' any_start=''
+old=() new=() check=() parameters=() reading=() defines=() values=('') reset_inputs=() cells=() liberties=()
+side=old cycles=20 top='' new_top='' sv='' keep='' wrong='' any_clock='' any_start=''
 
 # What is wrong first is told: complain WHY
 complain() {
@@ -36,13 +36,15 @@ read_words() {
         usage
         exit 0
         ;;
-      --top | --new-top | --keep | --reset-input | -P | -D | -I) value "$1" $# "${2:-}" ;;
+      --top | --new-top | --keep | --reset-input | --cells | --liberty | -P | -D | -I) value "$1" $# "${2:-}" ;;
     esac
     case $1 in
       --top) top=${2:-} && shift ;;
       --new-top) new_top=${2:-} && shift ;;
       --keep) keep=${2:-} && shift ;;
       --reset-input) reset_inputs+=("${2:-}") && shift ;;
+      --cells) cells+=("${2:-}") && shift ;;
+      --liberty) liberties+=("${2:-}") && shift ;;
       -P) parameters+=("${2:-}") && shift ;;
       -D) defines+=("${2:-}") && shift ;;
       -I) reading+=("-I${2:-}") && shift ;;
@@ -86,11 +88,39 @@ look_at_words() {
   case "$any_start ${check[*]} " in
     'yes '*'--reset '*) complain "--any-start and --reset are two questions" ;;
   esac
+  for it in "${cells[@]}" "${liberties[@]}"; do
+    case $it in
+      -* | '') complain "--cells and --liberty want a file, and not $it" ;;
+    esac
+  done
   for it in "${reading[@]#-I}" "$keep"; do
     case $it in
       -*) keep='' && complain "no folder: $it" ;;
     esac
   done
+}
+
+# Without --reset a number of cycles is that of the searches for a difference, and not a word of check.
+take_cycles() {
+  local it last='' kept=()
+  case " ${check[*]} " in
+    *' --reset '*) return ;;
+  esac
+  for it in "${check[@]}"; do
+    case $it,$last in
+      --cycles,*) ;;
+      --cycles=*) cycles=${it#*=} ;;
+      *,--cycles) cycles=$it ;;
+      *) kept+=("$it") ;;
+    esac
+    last=$it
+  done
+  [ "$last" != --cycles ] || complain "--cycles wants a word behind it"
+  case $cycles in
+    '' | *[!0-9]* | ?????*) complain "--cycles wants a number from 0 to 1000, and not $cycles" ;;
+    *) [ "$cycles" -le 1000 ] || complain "--cycles wants a number from 0 to 1000, and not $cycles" ;;
+  esac
+  check=("${kept[@]}")
 }
 
 # Some options of check with the words behind them, a line each: valued OPTION..
