@@ -90,13 +90,13 @@ and_from_initial_values() {
   started "$a" "$scratch/old.$number.blif"
   started "$b" "$scratch/new.$number.blif"
   from_initial_values "$scratch/old.$number.blif" "$scratch/new.$number.blif"
-  start="$from from any power-up, where outputs are settled$behind; $(answer_of "$report") from the initial values, by $way"
+  start="$from from any power-up, where outputs are settled; $(answer_of "$report") from the initial values, by $way"
   [ "$(sum_of free)" -eq 0 ] || start+=", with the $(sum_of free) flip-flops at 0 that have none"
 }
 
 # Asks what is to be asked of two designs.
 compare() {
-  local start from behind=''
+  local start from
   a=$folder/$old_name.blif b=$folder/$new_name.blif exposed='' settled=''
   if [ -n "$is_reset" ]; then
     from_initial_values "$a" "$b"
@@ -107,8 +107,7 @@ compare() {
     from=$(answer_of "$report")
     look_at_exposed
     [ "$status" -ne 0 ] || look_at_settling
-    behind_a_reset
-    start="${behind:+$from }from any power-up, where outputs are settled$behind"
+    start='from any power-up, where outputs are settled'
     if [ "$(sum_of started)" -eq 0 ]; then
       start+='; no flip-flop has an initial value'
     elif [ -n "$any_start" ]; then

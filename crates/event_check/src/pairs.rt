@@ -15,6 +15,7 @@ use crate::event_answers::{
     Asked, EventFormError, EventPairs, Found, Names, Separated, compare_events, named_findings,
 };
 use event_form::Events;
+use event_form::event_findings::Apart;
 use event_settles::{PairCares, settle_pairs};
 use event_setup::event_meaning::CompareError;
 use sec_base::{MAX_CONFLICTS, NoMemory};
@@ -48,7 +49,7 @@ pub(crate) fn compare_pairs(
         Ok(findings) => {
             events.keeps();
             let classes = events.classes();
-            let cares = cares_of(alloc, events, &compared, conflicts, settles)?;
+            let cares = cares_of(alloc, events, aparts, &compared, conflicts, settles)?;
             let found = named_findings(alloc, names, findings, classes, cares)?;
             Ok(found)
         }
@@ -60,10 +61,12 @@ pub(crate) fn compare_pairs(
 fn cares_of(
     alloc: Global,
     events: &mut Events,
+    aparts: &[Apart],
     compared: &EventPairs<'_>,
     conflicts: u32,
     settles: bool,
 ) -> Result<PairCares, NoMemory>
+    requires separated { AreSeparated events.old aparts.now }
     requires pairs { All (IsPairOf events.old) compared.now.pairs.now }
     requires within { IsWithinLimits events.old }
     requires conflicts { conflicts ≤ MAX_CONFLICTS }
@@ -72,7 +75,7 @@ fn cares_of(
     if !settles {
         return Ok(PairCares::new(alloc));
     }
-    settle_pairs(alloc, events, compared, conflicts)
+    settle_pairs(alloc, events, aparts, compared, conflicts)
 }
 
 /// Why circuits whose pairs can't be unfolded aren't compared.

@@ -23,7 +23,7 @@ care_query q = record { left = q.care; right = record { 0 = 0 }; care = record {
 -- some bits of the query's variables meet its care; or no assignment does; or the limit was met
 abbrev pub CareDecides : List Node → Query → ℕ → Care → Type 0
 CareDecides g q conflicts care.Met = (bits : List Bool) × (value g (assigned_to q.vars bits) q.care.0 ≡ true)
-CareDecides g q conflicts care.Never = (a : ℕ → Bool) → value g a q.care.0 ≡ false
+CareDecides g q conflicts (care.Never idle) = (a : ℕ → Bool) → value g a q.care.0 ≡ false
 CareDecides g q conflicts (care.Limit proof) = IsAtLimit g (care_query q) conflicts proof
 
 -- that is found of the one query's care

@@ -1,2 +1,4 @@
+pub mod Undecided
+pub mod Idle
 pub mod Cares
 pub mod Deciding

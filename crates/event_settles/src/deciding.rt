@@ -50,7 +50,12 @@ fn decide_care(
 }
 
 /// Whether some assignment meets the query's care.
-fn care_met(alloc: Global, aig: &Aig, query: &Query, conflicts: u32) -> Result<Care, NoMemory>
+pub(crate) fn care_met(
+    alloc: Global,
+    aig: &Aig,
+    query: &Query,
+    conflicts: u32,
+) -> Result<Care, NoMemory>
     requires graph { IsGraph aig.now }
     requires query { IsQuery aig.now query.now }
     requires conflicts { conflicts ≤ MAX_CONFLICTS }
@@ -58,7 +63,7 @@ fn care_met(alloc: Global, aig: &Aig, query: &Query, conflicts: u32) -> Result<C
 {
     let asked = care_query(query)?;
     match decide(alloc, aig, &asked, conflicts)? {
-        Decision::Same(_) => Ok(Care::Never),
+        Decision::Same(_) => Ok(Care::Never(None)),
         Decision::Differs(_) => Ok(Care::Met),
         Decision::Limit(proof) => Ok(Care::Limit(proof)),
     }

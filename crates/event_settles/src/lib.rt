@@ -3,7 +3,9 @@
 
 mod cares;
 mod deciding;
+mod idle;
 mod settling;
+mod telling;
 
-pub use cares::{Care, PairCare, PairCares};
+pub use cares::{Care, IdleLatch, PairCare, PairCares};
 pub use settling::{settle_pairs, settle_pairs_under};

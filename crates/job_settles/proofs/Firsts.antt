@@ -6,7 +6,8 @@ use Rattle.std.proofs.lemmas.List.{append_assoc, drop_all, drop_more}
 use Rattle.std.proofs.lemmas.List.Elements.{filter_map-append}
 use Rattle.obligations.specs.outcome.Proof.{Proof}
 use Rattle.event_settles.specs.declared.cares.PairCare.{PairCare}
-use Rattle.job_settles.specs.Report.{care_proof, first_where}
+use Rattle.event_settles.specs.declared.cares.IdleLatch.{IdleLatch}
+use Rattle.job_settles.specs.Report.{care_proof, first_idle, first_where, idle_with}
 
 module _ (test : PairCare → Bool) (cares : List PairCare) (i : ℕ) (c : PairCare) (before : first_where test cares ≡ first_where test (drop i cares)) (within : i < length cares) (is : c ≡ get_or cares i c) where
   here : first_where test cares ≡ first_where test (c ∷ drop (i + 1) cares)
@@ -36,3 +37,26 @@ pub one_more : (front : List Proof) (cs : List PairCare) (c : PairCare) → (fro
 one_more front cs c =
     append_assoc front (filter_map care_proof cs) (option_to_list (care_proof c))
     ∙ ap (λ (ps : List Proof). front ++ ps) (ap (λ (ps : List Proof). filter_map care_proof cs ++ ps) (sym (of_one c)) ∙ sym (filter_map-append care_proof cs (c ∷ [])))
+
+-- the first latch of a class whose loads can't happen
+module _ (cares : List PairCare) (i : ℕ) (c : PairCare) (before : first_idle cares ≡ first_idle (drop i cares)) (within : i < length cares) (is : c ≡ get_or cares i c) where
+  idle_here : first_idle cares ≡ first_idle (c ∷ drop (i + 1) cares)
+  idle_here = before ∙ ap first_idle (drop_more cares i c within ∙ ap (λ (x : PairCare). x ∷ drop (i + 1) cares) (sym is))
+
+  -- it is this one
+  pub idle_found : (x : IdleLatch) → idle_with c.care ≡ Some x → first_idle cares ≡ Some x
+  idle_found x e = idle_here ∙ of_first e
+    where
+      of_first : idle_with c.care ≡ Some x → first_idle (c ∷ drop (i + 1) cares) ≡ Some x
+      of_first h = rw h refl
+
+  -- or one behind it
+  pub idle_passed : idle_with c.care ≡ None → first_idle cares ≡ first_idle (drop (i + 1) cares)
+  idle_passed e = idle_here ∙ behind e
+    where
+      behind : idle_with c.care ≡ None → first_idle (c ∷ drop (i + 1) cares) ≡ first_idle (drop (i + 1) cares)
+      behind h = rw h refl
+
+-- or there is none
+pub no_idle : (cares : List PairCare) (i : ℕ) → first_idle cares ≡ first_idle (drop i cares) → length cares ≤ i → first_idle cares ≡ None
+no_idle cares i before past = before ∙ ap first_idle (drop_all i cares past)

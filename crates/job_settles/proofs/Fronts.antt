@@ -16,7 +16,7 @@ use Rattle.obligations.specs.declared.outcome.verdict.Verdict.{Verdict}
 use Rattle.obligations.specs.declared.outcome.verdict.Verdict.TheVariants as verdict
 use Rattle.obligations.specs.outcome.Report.{knows_exposed, knows_pairs, counts_text, reset_line, assume_line, exposed_line, classes_line, pairs_text, through_line, pair_line, pair_text, report_text, verdict_text}
 use Rattle.event_settles.specs.declared.cares.PairCare.{PairCare}
-use Rattle.job_settles.specs.Report.{care_line, equal_by, equal_text, first_limit, first_never, front_text, settles_text, settles_verdict}
+use Rattle.job_settles.specs.Report.{care_line, idle_text, equal_by, equal_text, first_limit, first_never, front_text, settles_text, settles_verdict}
 
 -- the report is that and the verdict
 pub report_parts : (settings : Settings) (o : Outcome) → report_text settings o ≡ front_text settings o ++ verdict_text settings.conflicts o.verdict
@@ -52,14 +52,14 @@ front_long settings o event known =
 -- without cares it is the report
 pub no_cares : (settings : Settings) (o : Outcome) (cares : List PairCare) → cares ≡ [] → report_text settings o ≡ settles_text settings o cares
 no_cares settings o cares none =
-    report_parts settings o ∙ (same o.verdict (front_text settings o) ∙ ap (λ (cs : List PairCare). front_text settings o ++ flat_map care_line cs ++ settles_verdict settings.conflicts o.verdict cs) (sym none))
+    report_parts settings o ∙ (same o.verdict (front_text settings o) ∙ ap (λ (cs : List PairCare). front_text settings o ++ flat_map care_line cs ++ idle_text cs ++ settles_verdict settings.conflicts o.verdict cs) (sym none))
   where
-    same : (v : Verdict) (front : List ℕ) → front ++ verdict_text settings.conflicts v ≡ front ++ flat_map care_line [] ++ settles_verdict settings.conflicts v []
-    same verdict.Equal front = ap (λ (t : List ℕ). t ++ verdict_text settings.conflicts verdict.Equal) (sym (append-nil front))
-    same (verdict.Different w) front = ap (λ (t : List ℕ). t ++ verdict_text settings.conflicts (verdict.Different w)) (sym (append-nil front))
-    same (verdict.DifferentFrom w) front = ap (λ (t : List ℕ). t ++ verdict_text settings.conflicts (verdict.DifferentFrom w)) (sym (append-nil front))
-    same (verdict.NotShown reason) front = ap (λ (t : List ℕ). t ++ verdict_text settings.conflicts (verdict.NotShown reason)) (sym (append-nil front))
-    same (verdict.Limit at) front = ap (λ (t : List ℕ). t ++ verdict_text settings.conflicts (verdict.Limit at)) (sym (append-nil front))
+    same : (v : Verdict) (front : List ℕ) → front ++ verdict_text settings.conflicts v ≡ front ++ flat_map care_line [] ++ idle_text [] ++ settles_verdict settings.conflicts v []
+    same verdict.Equal front = ap (λ (t : List ℕ). t ++ verdict_text settings.conflicts verdict.Equal) (sym (append-nil (front ++ []) ∙ append-nil front))
+    same (verdict.Different w) front = ap (λ (t : List ℕ). t ++ verdict_text settings.conflicts (verdict.Different w)) (sym (append-nil (front ++ []) ∙ append-nil front))
+    same (verdict.DifferentFrom w) front = ap (λ (t : List ℕ). t ++ verdict_text settings.conflicts (verdict.DifferentFrom w)) (sym (append-nil (front ++ []) ∙ append-nil front))
+    same (verdict.NotShown reason) front = ap (λ (t : List ℕ). t ++ verdict_text settings.conflicts (verdict.NotShown reason)) (sym (append-nil (front ++ []) ∙ append-nil front))
+    same (verdict.Limit at) front = ap (λ (t : List ℕ). t ++ verdict_text settings.conflicts (verdict.Limit at)) (sym (append-nil (front ++ []) ∙ append-nil front))
 
 pub front_of : (settings : Settings) (o : Outcome) (n : ℕ) (whole : List ℕ) → whole ≡ report_text settings o → n ≡ length (front_text settings o) → take n whole ≡ front_text settings o
 front_of settings o n whole is long = rw (is, long) (ap (take (length (front_text settings o))) (report_parts settings o) ∙ take-seam (front_text settings o) (verdict_text settings.conflicts o.verdict))
@@ -72,9 +72,10 @@ pub rest_of : (settings : Settings) (o : Outcome) (n : ℕ) (whole : List ℕ) �
 rest_of settings o n whole is long = rw (is, long) (ap (drop (length (front_text settings o))) (report_parts settings o) ∙ drop-append_seam (front_text settings o) (verdict_text settings.conflicts o.verdict))
 
 -- the report in its parts
-pub whole_text : (settings : Settings) (o : Outcome) (cares : List PairCare) (whole x y z : List ℕ) (n : ℕ) → whole ≡ report_text settings o → n ≡ length (front_text settings o) → x ≡ take n whole → y ≡ x ++ flat_map care_line cares → z ≡ y ++ settles_verdict settings.conflicts o.verdict cares → z ≡ settles_text settings o cares
-whole_text settings o cares whole x y z n is long first second third =
-    third ∙ ap (λ (t : List ℕ). t ++ settles_verdict settings.conflicts o.verdict cares) (second ∙ ap (λ (t : List ℕ). t ++ flat_map care_line cares) (first ∙ front_of settings o n whole is long))
+pub whole_text : (settings : Settings) (o : Outcome) (cares : List PairCare) (whole x y t z : List ℕ) (n : ℕ) → whole ≡ report_text settings o → n ≡ length (front_text settings o) → x ≡ take n whole → y ≡ x ++ flat_map care_line cares → t ≡ y ++ idle_text cares → z ≡ t ++ settles_verdict settings.conflicts o.verdict cares →
+    z ≡ settles_text settings o cares
+whole_text settings o cares whole x y t z n is long first second idle third =
+    third ∙ ap (λ (l : List ℕ). l ++ settles_verdict settings.conflicts o.verdict cares) (idle ∙ ap (λ (l : List ℕ). l ++ idle_text cares) (second ∙ ap (λ (l : List ℕ). l ++ flat_map care_line cares) (first ∙ front_of settings o n whole is long)))
 
 -- no pair
 pub no_length : {X : Type 0} (xs : List X) → true ≡ (length xs == 0) → xs ≡ []

@@ -123,7 +123,7 @@ all_met (c ∷ rest) never limit = by c.care refl (λ n l. all_met rest n l)
 
     by : (x : Care) → c.care ≡ x → (first_never rest ≡ None → first_limit rest ≡ None → All IsMet rest) → All IsMet (c ∷ rest)
     by care.Met e more = All-cons IsMet c rest e (more (passed is_never c rest (of is_never care.Met e) never) (passed is_limit c rest (of is_limit care.Met e) limit))
-    by care.Never e more = absurd (found is_never c rest (of is_never care.Never e) never)
+    by (care.Never idle) e more = absurd (found is_never c rest (of is_never (care.Never idle) e) never)
     by (care.Limit proof) e more = absurd (found is_limit c rest (of is_limit (care.Limit proof) e) limit)
 
 -- so it is where that is said

@@ -65,7 +65,7 @@ module _ (a b : NetView) (s : Settings) (o : Outcome) (cares : List PairCare) (s
   never_of_all (inr k) some =
       subst (λ (ps : List (NamedPair ℕ ℕ)). AllZip (SaysNever a b) ps cares) k.listed
       (zip_places (CareFits (both_of k.left k.right) s.conflicts) (SaysNever a b)
-      (λ p c h. record { named = h.name_is; never = λ e. event_never a b s.expose o.exposed k.left k.right sa sb k.reached.circuits k.classes p.left.0 p.right.0 (subst (CareIs _ _ s.conflicts) e h.care_is) }) k.pairs cares k.each)
+      (λ p c h. record { named = h.name_is; never = λ idle e. event_never a b s.expose o.exposed k.left k.right sa sb k.reached.circuits k.classes p.left.0 p.right.0 (subst (CareIs _ _ s.conflicts) e h.care_is) }) k.pairs cares k.each)
 
   never_of_all_under : (c : NetView) → CaresFitUnder a b c s o cares → SaysNeverOfAllUnder a b c o cares
   never_of_all_under c (inl none) some = absurd (some none.1)
@@ -75,7 +75,7 @@ module _ (a b : NetView) (s : Settings) (o : Outcome) (cares : List PairCare) (s
         (zip_places (CareFitsUnder (assumed_by k.met.assumed) (both_of k.left k.right) s.conflicts) (SaysNeverUnder (assumed_by k.met.assumed) a b)
         (λ p x h. record {
           named = h.name_is;
-          never = λ e. event_never_under a b s.expose o.exposed k.left k.right sa sb k.reached.circuits k.classes (assumed_by k.met.assumed) k.reads p.left.0 p.right.0 (subst (CareIs _ _ s.conflicts) e h.care_is);
+          never = λ idle e. event_never_under a b s.expose o.exposed k.left k.right sa sb k.reached.circuits k.classes (assumed_by k.met.assumed) k.reads p.left.0 p.right.0 (subst (CareIs _ _ s.conflicts) e h.care_is);
         }) k.pairs cares k.each),
   )
 

@@ -1,5 +1,5 @@
 -- The text of the report of a comparison with the cares of its pairs, and what it says.
-use Rattle.std.specs.Prelude.{ℕ, Bool, true, false, List, [], ◌∷◌, ◌++◌, codes, find, if◌then◌else◌, Option, option_map, Some, None}
+use Rattle.std.specs.Prelude.{ℕ, Bool, true, false, List, [], ◌∷◌, ◌++◌, codes, find, option_to_list, if◌then◌else◌, Option, option_map, Some, None}
 use Rattle.std.specs.Fmt.{decimal}
 use Rattle.std.specs.List.{filter_map, flat_map}
 use Rattle.sec_base.specs.declared.settings.Settings.{Settings}
@@ -8,9 +8,10 @@ use Rattle.obligations.specs.outcome.Proof.{Proof}
 use Rattle.obligations.specs.declared.outcome.verdict.Outcome.{Outcome}
 use Rattle.obligations.specs.declared.outcome.verdict.Verdict.{Verdict}
 use Rattle.obligations.specs.declared.outcome.verdict.Verdict.TheVariants as verdict
-use Rattle.obligations.specs.outcome.Report.{pair_text, counts_text, reset_line, assume_line, exposed_line, pairs_text, knows_exposed, knows_pairs, verdict_text}
+use Rattle.obligations.specs.outcome.Report.{latch_text, pair_text, counts_text, reset_line, assume_line, exposed_line, pairs_text, knows_exposed, knows_pairs, verdict_text}
 use Rattle.event_settles.specs.declared.cares.Care.{Care}
 use Rattle.event_settles.specs.declared.cares.Care.TheVariants as care
+use Rattle.event_settles.specs.declared.cares.IdleLatch.{IdleLatch}
 use Rattle.event_settles.specs.declared.cares.PairCare.{PairCare}
 use Rattle.job_base.specs.Written.{outcome_proofs}
 use Rattle.job_base.specs.declared.finding.Judgement.{Judgement}
@@ -23,11 +24,34 @@ named_line front name = front ++ pair_text name ++ 10 ∷ []
 -- the line of a pair that has no care, and of one of which it isn't known
 abbrev pub line_of : Care → PairName → List ℕ
 line_of care.Met name = []
-line_of care.Never name = named_line (codes "never ") name
+line_of (care.Never idle) name = named_line (codes "never ") name
 line_of (care.Limit proof) name = named_line (codes "undecided ") name
 
 abbrev pub care_line : PairCare → List ℕ
 care_line c = line_of c.care c.name
+
+-- the latch that stands with a pair without care, if any
+abbrev pub idle_with : Care → Option IdleLatch
+idle_with care.Met = None
+idle_with (care.Never idle) = idle
+idle_with (care.Limit proof) = None
+
+abbrev pub or_later : Option IdleLatch → Option IdleLatch → Option IdleLatch
+or_later None later = later
+or_later (Some x) later = Some x
+
+-- the first one of several pairs
+abbrev pub first_idle : List PairCare → Option IdleLatch
+first_idle [] = None
+first_idle (c ∷ cares) = or_later (idle_with c.care) (first_idle cares)
+
+-- the line of the first latch of a class whose loads can't happen
+abbrev pub idle_line : IdleLatch → List ℕ
+idle_line x = codes "load " ++ latch_text x.side x.name ++ codes " never" ++ 10 ∷ []
+
+-- It stands once, however many pairs have no care.
+abbrev pub idle_text : List PairCare → List ℕ
+idle_text cares = flat_map idle_line (option_to_list (first_idle cares))
 
 -- no frame has care for the pair
 abbrev pub is_never : PairCare → Bool
@@ -35,7 +59,7 @@ is_never c = by c.care
   where
     by : Care → Bool
     by care.Met = false
-    by care.Never = true
+    by (care.Never idle) = true
     by (care.Limit proof) = false
 
 -- it isn't known whether one has
@@ -44,7 +68,7 @@ is_limit c = by c.care
   where
     by : Care → Bool
     by care.Met = false
-    by care.Never = false
+    by (care.Never idle) = false
     by (care.Limit proof) = true
 
 -- the name of the first such pair
@@ -80,7 +104,7 @@ front_text settings o =
 
 -- the whole report
 abbrev pub settles_text : Settings → Outcome → List PairCare → List ℕ
-settles_text settings o cares = front_text settings o ++ flat_map care_line cares ++ settles_verdict settings.conflicts o.verdict cares
+settles_text settings o cares = front_text settings o ++ flat_map care_line cares ++ idle_text cares ++ settles_verdict settings.conflicts o.verdict cares
 
 -- what it says where all pairs are equal
 abbrev pub judged_by : Option PairName → Option PairName → Judgement
@@ -102,7 +126,7 @@ settles_judgement (verdict.Limit at) cares = judgement.Limit
 -- the proof of a care that met the limit
 abbrev pub proof_of : Care → Option Proof
 proof_of care.Met = None
-proof_of care.Never = None
+proof_of (care.Never idle) = None
 proof_of (care.Limit proof) = Some proof
 
 abbrev pub care_proof : PairCare → Option Proof

@@ -5,13 +5,13 @@ ghost use Rattle.std.specs.List.{filter_map, flat_map};
 ghost use Rattle.circuit_theory.specs.declared.Mode.TheVariants.{Event};
 ghost use Rattle.obligations.specs.outcome.Report.{knows_pairs, pair_text, verdict_text};
 ghost use Rattle.job_base.specs.declared.finding.Finding.TheVariants as finding;
-ghost use Rattle.job_settles.specs.Report.{care_line, care_proof, equal_text, front_text, named_line, settles_judgement, settles_proofs, settles_text, settles_verdict};
+ghost use Rattle.job_settles.specs.Report.{care_line, care_proof, equal_text, front_text, idle_line, idle_text, idle_with, named_line, settles_judgement, settles_proofs, settles_text, settles_verdict};
 
 use event_check::event_answers::Settled;
-use event_settles::{Care, PairCare, PairCares};
+use event_settles::{Care, IdleLatch, PairCare, PairCares};
 use job_base::{Finding, Judgement, Proofs, proofs_of};
 use obligations::outcome::{Outcome, PairName, Settings, Verdict, report};
-use sec_base::{NoMemory, Seq, Text, put, put_number};
+use sec_base::{NoMemory, Seq, Side, Text, put, put_number};
 use std::alloc::Global;
 use std::mem;
 
@@ -35,7 +35,8 @@ pub(crate) fn found_of(
     Ok(Finding::Judged(judgement, proofs, text))
 }
 
-/// The report. Where cares were asked about, a line of each pair that has none, or of which it isn't known, stands before the verdict.
+/// The report. Where cares were asked about, a line of each pair that has none, or of which it isn't known, stands before the verdict, and behind these
+/// the line of a class whose loads can't happen.
 fn text_of(
     alloc: Global,
     outcome: &mut Outcome,
@@ -54,6 +55,7 @@ fn text_of(
     let mut text = Vec::new(alloc);
     put(&mut text, &whole.as_slice()[..length])?;
     put_cares(&mut text, cares)?;
+    put_idle(&mut text, cares)?;
     let verdict = &whole.as_slice()[length..];
     put_verdict(
         alloc,
@@ -99,9 +101,52 @@ fn put_care(text: &mut Vec<u8>, care: &PairCare) -> Result<(), NoMemory>
 {
     match &care.care {
         Care::Met => Ok(()),
-        Care::Never => put_named(text, b"never ", &care.name),
+        Care::Never(_) => put_named(text, b"never ", &care.name),
         Care::Limit(_) => put_named(text, b"undecided ", &care.name),
     }
+}
+
+/// Puts the line of the latch that stands with the first pair that has one.
+fn put_idle(text: &mut Vec<u8>, cares: &[PairCare]) -> Result<(), NoMemory>
+    ensures { OnOk result (text.new.items ≡ text.old.items ++ idle_text cares.now) }
+{
+    match first_idle(cares) {
+        Some(latch) => put_load(text, latch),
+        None => Ok(()),
+    }
+}
+
+/// The latch that stands with the first pair that has one.
+fn first_idle(cares: &[PairCare]) -> Option<&IdleLatch>
+    ensures { option_map (λ latch. latch.now) result ≡ Rattle.job_settles.specs.Report.first_idle cares.now }
+{
+    for care in cares {
+        if let Some(latch) = idle_of(&care.care) {
+            return Some(latch);
+        }
+    }
+    None
+}
+
+fn idle_of(care: &Care) -> Option<&IdleLatch>
+    ensures { option_map (λ latch. latch.now) result ≡ idle_with care.now }
+{
+    match care {
+        Care::Never(Some(latch)) => Some(latch),
+        _ => None,
+    }
+}
+
+fn put_load(text: &mut Vec<u8>, latch: &IdleLatch) -> Result<(), NoMemory>
+    ensures { OnOk result (text.new.items ≡ text.old.items ++ idle_line latch.now) }
+{
+    put(text, b"load ")?;
+    match latch.side {
+        Side::A => put(text, b"A:")?,
+        Side::B => put(text, b"B:")?,
+    }
+    put(text, latch.name.as_slice())?;
+    put(text, b" never\n")
 }
 
 /// Puts a line of the pair behind what stands before it.
@@ -170,7 +215,7 @@ fn first_never(cares: &[PairCare]) -> Option<&PairName>
     ensures { option_map (λ name. name.now) result ≡ Rattle.job_settles.specs.Report.first_never cares.now }
 {
     for care in cares {
-        if let Care::Never = &care.care {
+        if let Care::Never(_) = &care.care {
             return Some(&care.name);
         }
     }

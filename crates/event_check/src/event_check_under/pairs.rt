@@ -18,6 +18,7 @@ use crate::event_answers::{Asked, EventPairs, Found, Names, Separated, named_fin
 use crate::event_check_under::event_answers_under::{CompareError, Premise};
 use assume_laws::assume_shape::ShapeFault;
 use event_form::Events;
+use event_form::event_findings::Apart;
 use event_settles::{PairCares, settle_pairs_under};
 use event_under_form::{EventUnderError, compare_events_under};
 use sec_base::{MAX_CONFLICTS, NoMemory};
@@ -54,7 +55,9 @@ pub(crate) fn compare_pairs(
         Ok(findings) => {
             events.keeps();
             let classes = events.classes();
-            let cares = cares_of(alloc, events, &compared, premise, conflicts, settles)?;
+            let cares = cares_of(
+                alloc, events, aparts, &compared, premise, conflicts, settles,
+            )?;
             let found = named_findings(alloc, names, findings, classes, cares)?;
             Ok(found)
         }
@@ -69,11 +72,13 @@ pub(crate) fn compare_pairs(
 fn cares_of(
     alloc: Global,
     events: &mut Events,
+    aparts: &[Apart],
     compared: &EventPairs<'_>,
     premise: &Premise,
     conflicts: u32,
     settles: bool,
 ) -> Result<PairCares, NoMemory>
+    requires separated { AreSeparated events.old aparts.now }
     requires pairs { All (IsPairOf events.old) compared.now.pairs.now }
     requires within { IsWithinLimits events.old }
     requires premise { CanBeAssumed premise.now (length compared.now.names.now) }
@@ -84,7 +89,7 @@ fn cares_of(
     if !settles {
         return Ok(PairCares::new(alloc));
     }
-    settle_pairs_under(alloc, events, compared, premise, conflicts)
+    settle_pairs_under(alloc, events, aparts, compared, premise, conflicts)
 }
 
 /// Why circuits whose pairs can't be unfolded, or are too many for the assumption, aren't compared.

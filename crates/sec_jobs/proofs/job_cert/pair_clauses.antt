@@ -4,3 +4,5 @@ pub mod Places
 pub mod Differing
 pub mod Few
 pub mod Given
+pub mod Anew
+pub mod OneEncoding

@@ -4,6 +4,8 @@ use Rattle.std.specs.List.{All}
 use Rattle.sec_setup.specs.declared.ports.pairs.SignalPair.{SignalPair}
 use Rattle.event_check.specs.event_answers.Asked.{IsPairOf}
 use Rattle.event_check.specs.event_answers.Finding.{AreNotUnfolded, IsNamedFound, refusal_of}
+use Rattle.event_form.specs.event_findings.unshown_pairs.class_events.Separated.{AreSeparated}
+use Rattle.event_form.proofs.event_findings.unshown_pairs.class_events.Telling.{separated_stay}
 use Rattle.event_comparison.proofs.Comparing.{pairs_later}
 use Rattle.event_check.proofs.event_answers.Finding.{not_unfolded}
 use Rattle.event_check.proofs.Finding.{found_named, pairs_found}
@@ -17,6 +19,12 @@ compare_events-requires-clause-compared c = c.requires.askable.compared _ (c.as_
 
 pub compare_events-requires-clause-within : goal.compare_events-requires-clause-within
 compare_events-requires-clause-within c = c.requires.counted.limits
+
+pub cares_of-requires-clause-separated : goal.cares_of-requires-clause-separated
+cares_of-requires-clause-separated c =
+    let later = c.in-Ok.ensures.counted.later in
+    separated_stay c.args.separated.now.events c.compare_events.new.events c.as_slice-aparts.result.now c.keeps.ensures.kept.events later.left later.right later.count later.grows
+    (subst (AreSeparated c.args.separated.now.events) (sym c.as_slice-aparts.ensures.value) c.requires.separated)
 
 pub cares_of-requires-clause-pairs : goal.cares_of-requires-clause-pairs
 cares_of-requires-clause-pairs c =

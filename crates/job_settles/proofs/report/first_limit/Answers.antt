@@ -15,7 +15,7 @@ loop-care-preserved c = passed is_limit c.args.cares.now c.loop-care.care-index 
   where
     other : (x : Care) → c.care-item.result.care ≡ x → is_limit c.care-item.result ≡ false
     other care.Met e = ap (λ (y : Care). is_limit (record { name = c.care-item.result.name; care = y })) e
-    other care.Never e = ap (λ (y : Care). is_limit (record { name = c.care-item.result.name; care = y })) e
+    other (care.Never idle) e = ap (λ (y : Care). is_limit (record { name = c.care-item.result.name; care = y })) e
     other (care.Limit proof) e = absurd (c.in_default.not-Limit proof e)
 
 pub returns : goal.returns

@@ -15,7 +15,7 @@ loop-care-preserved c = passed is_never c.args.cares.now c.loop-care.care-index 
   where
     other : (x : Care) → c.care-item.result.care ≡ x → is_never c.care-item.result ≡ false
     other care.Met e = ap (λ (y : Care). is_never (record { name = c.care-item.result.name; care = y })) e
-    other care.Never e = absurd (c.in_default.not-Never e)
+    other (care.Never idle) e = absurd (c.in_default.not-Never idle e)
     other (care.Limit proof) e = ap (λ (y : Care). is_never (record { name = c.care-item.result.name; care = y })) e
 
 pub returns : goal.returns

@@ -14,12 +14,12 @@ use Rattle.aig.specs.Graph.{IsGraph}
 use Rattle.aig.specs.Values.{value}
 use Rattle.aig.specs.Builds.{HasTreeValues}
 use Rattle.aig.proofs.CoverMeaning.{value-one}
-use Rattle.cbf_unfold.specs.declared.unfold_places.signal_function.Unfolded.{Unfolded}
+use Rattle.cbf_unfold.specs.Unfolded.{IsLiteralOf}
+use Rattle.tree_graph.specs.Numbering.{IsGraphOf}
 use Rattle.proof_check.specs.Clauses.{Unsatisfiable}
 use Rattle.pair_decide.specs.declared.cnf_encode.cnf.Cnf.{Cnf}
 use Rattle.pair_decide.specs.cnf_encode.Encoding.{MeansDifference, ShowsDifference, IsSmall, IsEncoding}
 use Rattle.plain_asked.specs.outcome_fits.Outcome.{HaveDifferentFunctions}
-use Rattle.plain_asked.specs.Pairs.{IsFunctionOf}
 use Rattle.sec_jobs.specs.job_cert.pair_clauses.Clauses.{CanBeMet, TellDifference, AreEncoded}
 
 -- the bit of the variable that stands for an input at a shift
@@ -62,17 +62,17 @@ same_or_not true false = inr (λ e. cc)
 same_or_not false true = inr (λ e. cc)
 same_or_not false false = inl refl
 
-module _ (a b : NetView) (left right : List ℕ) (g : List Node) (places : List (ℕ × ℕ)) (s t : ℕ) (l r : Unfolded) (net_a : IsNet (circuit_of a) (length a.drivers)) (net_b : IsNet (circuit_of b) (length b.drivers))
-    (graph : IsGraph g) (distinct : AreDistinct places) (values : HasTreeValues g) (left_is : IsFunctionOf a left g places s l) (right_is : IsFunctionOf b right g places t r)
-    (cnf : Cnf) (means : MeansDifference g l.lit.0 r.lit.0 1 cnf) where
+module _ (a b : NetView) (left right : List ℕ) (g : List Node) (places : List (ℕ × ℕ)) (s t : ℕ) (l r : ℕ) (net_a : IsNet (circuit_of a) (length a.drivers)) (net_b : IsNet (circuit_of b) (length b.drivers))
+    (graph : IsGraph g) (distinct : AreDistinct places) (values : HasTreeValues g) (left_is : IsLiteralOf a left g places s l) (right_is : IsLiteralOf b right g places t r)
+    (cnf : Cnf) (means : MeansDifference g l r 1 cnf) where
   abbrev Takes : (ℕ → ℕ → Bool) → (ℕ → Bool) → Type 0
   Takes bits y = (v : ℕ) (p : ℕ × ℕ) → slice_get places v ≡ Some p → y v ≡ bits p.0 p.1
 
-  left_value : (bits : ℕ → ℕ → Bool) (y : ℕ → Bool) → Takes bits y → value g y l.lit.0 ≡ tree_value bits left_is.tree
-  left_value bits y takes = values places bits y left_is.tree l.lit.0 takes left_is.builds
+  left_value : (bits : ℕ → ℕ → Bool) (y : ℕ → Bool) → Takes bits y → value g y l ≡ tree_value bits left_is.tree
+  left_value bits y takes = values places bits y left_is.tree l takes left_is.builds
 
-  right_value : (bits : ℕ → ℕ → Bool) (y : ℕ → Bool) → Takes bits y → value g y r.lit.0 ≡ tree_value bits right_is.tree
-  right_value bits y takes = values places bits y right_is.tree r.lit.0 takes right_is.builds
+  right_value : (bits : ℕ → ℕ → Bool) (y : ℕ → Bool) → Takes bits y → value g y r ≡ tree_value bits right_is.tree
+  right_value bits y takes = values places bits y right_is.tree r takes right_is.builds
 
   from_met : CanBeMet cnf.clauses → HaveDifferentFunctions (circuit_of a) (circuit_of b) left right s t
   from_met met =
@@ -96,7 +96,7 @@ module _ (a b : NetView) (left right : List ℕ) (g : List Node) (places : List 
       let y : ℕ → Bool = λ v. bits (get_or places v (0, 0)).0 (get_or places v (0, 0)).1 in
       let takes : Takes bits y = λ v p at. ap (λ (z : ℕ × ℕ). bits z.0 z.1) (get_or_from_slice_get places v p (0, 0) at) in
       let v : ℕ → Bool = λ n. value g y (2 * get_or cnf.nodes (n - 1) 0) in
-      let shown : ShowsDifference g l.lit.0 r.lit.0 1 cnf.nodes v = record {
+      let shown : ShowsDifference g l r 1 cnf.nodes v = record {
         bits = y;
         values = λ k n at. ap (λ m. value g y (2 * m)) (ap (λ j. get_or cnf.nodes j 0) (let e : k + 1 - 1 ≡ k = omega arith in e) ∙ get_or_from_slice_get cnf.nodes k n 0 at);
         care_holds = value-one g graph y;
@@ -143,8 +143,8 @@ module _ (a b : NetView) (left right : List ℕ) (g : List Node) (places : List 
   pub told : IsSmall cnf → length cnf.clauses ≤ 2 ^ 30 → TellDifference (circuit_of a) (circuit_of b) left right s t cnf
   told small few = record { exactly = (from_met, to_met_by); equal = never_met; small = small; few = few }
 
-  pub encoded : IsEncoding g l.lit.0 r.lit.0 1 cnf → AreEncoded (circuit_of a) (circuit_of b) left right s t cnf
-  encoded is = record {
+  pub encoded : IsGraphOf left_is.tree right_is.tree places g l r → IsEncoding g l r 1 cnf → AreEncoded (circuit_of a) (circuit_of b) left right s t cnf
+  encoded numbered is = record {
     left_depth = left_is.depth;
     right_depth = right_is.depth;
     left_tree = left_is.tree;
@@ -155,8 +155,11 @@ module _ (a b : NetView) (left right : List ℕ) (g : List Node) (places : List 
     places = places;
     is_graph = graph;
     distinct = distinct;
-    left_lit = l.lit.0;
-    right_lit = r.lit.0;
+    left_lit = l;
+    right_lit = r;
+    left_within = left_is.within;
+    right_within = right_is.within;
+    numbered = numbered;
     left_built = left_is.builds;
     right_built = right_is.builds;
     clauses = is;

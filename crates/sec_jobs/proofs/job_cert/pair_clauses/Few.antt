@@ -9,6 +9,7 @@ use Rattle.aig.specs.Graph.{IsGraph}
 use Rattle.pair_decide.specs.declared.cnf_encode.cnf.Cnf.{Cnf}
 use Rattle.pair_decide.specs.cnf_encode.Encoding.{IsEncoding, IsSmall}
 use Rattle.pair_decide.proofs.Reached.{reached-within}
+use Rattle.tree_graph.specs.declared.covers.TheConstants.{MOST_NODES}
 use Rattle.std.proofs.lemmas.List.{get_or_default}
 use Rattle.std.proofs.lemmas.Option.{slice_get_within}
 
@@ -31,11 +32,9 @@ increasing_few n (x ∷ xs) h within =
     same : Rattle.std.specs.Prelude.slice_index_or (x ∷ xs) (length xs) (slice_index (x ∷ xs) (length xs)) ≡ slice_index (x ∷ xs) (length xs)
     same = get_or_default (x ∷ xs) (length xs) (slice_index (x ∷ xs) (length xs)) 0 (omega arith)
 
--- the clauses of two literals of a graph of so many nodes
-pub clauses_few : (g : List Node) (left right : ℕ) (cnf : Cnf) → IsGraph g → left < 2 * length g → right < 2 * length g → length g ≤ 4000001 → IsEncoding g left right 1 cnf → IsSmall cnf → length cnf.clauses ≤ 2 ^ 30
-clauses_few g left right cnf graph l r few is small =
-    let nodes : length cnf.nodes ≤ length g = increasing_few (length g) cnf.nodes is.nodes_are.increasing (λ n h. reached-within g graph.ordered (left ∷ right ∷ 1 ∷ []) roots (is.nodes_are.reached n h)) in
-    omega (arith, nodes, few, is.variables_are, small.clauses)
+-- the nodes of the cone are those of the graph
+pub cone_within : (g : List Node) (left right : ℕ) (cnf : Cnf) → IsGraph g → left < 2 * length g → right < 2 * length g → IsEncoding g left right 1 cnf → (n : ℕ) → Contains cnf.nodes n → n < length g
+cone_within g left right cnf graph l r is n h = reached-within g graph.ordered (left ∷ right ∷ 1 ∷ []) roots (is.nodes_are.reached n h)
   where
     some : 0 < length g
     some = slice_get_within g 0 _ graph.constant
@@ -54,6 +53,12 @@ clauses_few g left right cnf graph l r few is small =
         first : (left ≡ x) ⊎ Contains (right ∷ 1 ∷ []) x → x < 2 * length g
         first (inl e) = omega (arith, e, l)
         first (inr k) = second (Contains-cases right x (1 ∷ []) k)
+
+-- the clauses of two literals of a graph of so many nodes
+pub clauses_few : (g : List Node) (left right : ℕ) (cnf : Cnf) → IsGraph g → left < 2 * length g → right < 2 * length g → length g ≤ MOST_NODES → IsEncoding g left right 1 cnf → IsSmall cnf → length cnf.clauses ≤ 2 ^ 30
+clauses_few g left right cnf graph l r few is small =
+    let nodes : length cnf.nodes ≤ length g = increasing_few (length g) cnf.nodes is.nodes_are.increasing (cone_within g left right cnf graph l r is) in
+    omega (arith, nodes, few, is.variables_are, small.clauses)
 
 -- the literal that is true
 pub true_within : (g : List Node) → IsGraph g → 1 < 2 * length g

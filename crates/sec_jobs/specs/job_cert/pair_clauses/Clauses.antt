@@ -1,8 +1,9 @@
 -- The clauses of the outputs of one name.
-use Rattle.std.specs.Prelude.{◌≡◌, ◌↔◌, ℕ, ◌≤◌, ◌^◌, Bool, false, List, length, slice_get, Some, Result, Ok, Err}
+use Rattle.std.specs.Prelude.{◌≡◌, ◌↔◌, ℕ, ◌*◌, ◌<◌, ◌≤◌, ◌^◌, Bool, false, List, length, slice_get, Some, Result, Ok, Err}
 use Rattle.std.specs.List.{Contains}
 use Rattle.circuit_theory.specs.declared.Mode.TheVariants.{Plain}
 use Rattle.circuit_theory.specs.Circuit.{Circuit}
+use Rattle.circuit_theory.specs.Net.{IsNet}
 use Rattle.circuit_theory.specs.Interface.{shared_inputs, AreNumbersOf}
 use Rattle.circuit_theory.specs.Tree.{Tree, Unfolds, HaveEqualFunctions}
 use Rattle.base_tables.specs.Table.{AreDistinct}
@@ -11,6 +12,7 @@ use Rattle.sec_setup.specs.declared.ports.pairs.SignalPair.{SignalPair}
 use Rattle.aig.specs.declared.node.Node.{Node}
 use Rattle.aig.specs.Graph.{IsGraph}
 use Rattle.aig.specs.Builds.{Builds}
+use Rattle.tree_graph.specs.Numbering.{IsGraphOf}
 use Rattle.proof_check.specs.Literals.{Literal}
 use Rattle.proof_check.specs.Clauses.{Satisfies, Unsatisfiable}
 use Rattle.pair_decide.specs.declared.cnf_encode.cnf.Cnf.{Cnf}
@@ -42,7 +44,8 @@ pub record TellDifference {P Q : Type 0} (a : Circuit P) (b : Circuit Q) (left r
   pub few : length cnf.clauses ≤ 2 ^ 30
 
 -- The clauses are those of two literals of a graph without double nodes, and of a care that holds always. The literals are built from
--- the function trees of the two places by the rules of covers alone, where no input at a shift has two variables.
+-- the function trees of the two places by the rules of covers alone, where no input at a shift has two variables; and the graph is that
+-- of the two trees, so that its nodes, by which the clauses' variables go, are numbered by the trees alone.
 pub record AreEncoded {P Q : Type 0} (a : Circuit P) (b : Circuit Q) (left right : List ℕ) (p : P) (q : Q) (cnf : Cnf) : Type 0 where
   pub left_depth : ℕ
   pub right_depth : ℕ
@@ -58,7 +61,16 @@ pub record AreEncoded {P Q : Type 0} (a : Circuit P) (b : Circuit Q) (left right
   pub right_lit : ℕ
   pub left_built : Builds graph places left_tree left_lit
   pub right_built : Builds graph places right_tree right_lit
+  pub left_within : left_lit < 2 * length graph
+  pub right_within : right_lit < 2 * length graph
+  pub numbered : IsGraphOf left_tree right_tree places graph left_lit right_lit
   pub clauses : IsEncoding graph left_lit right_lit 1 cnf
+
+-- two places have one number of variables and one list of clauses
+abbrev pub HaveOneEncoding : Type 0
+HaveOneEncoding =
+    (a b : NetView) (left right : List ℕ) (p q : ℕ) (c d : Cnf) → IsNet (circuit_of a) (length a.drivers) → IsNet (circuit_of b) (length b.drivers) →
+    AreEncoded (circuit_of a) (circuit_of b) left right p q c → AreEncoded (circuit_of a) (circuit_of b) left right p q d → (c.variables ≡ d.variables) × (c.clauses ≡ d.clauses)
 
 -- nothing keeps the circuits from being compared where no latch is cut open
 pub record CanBeUnfolded (a b : NetView) : Type 0 where

@@ -5,6 +5,8 @@ use Rattle.event_setup.specs.event_meaning.event_meaning_under.CompareError.{Com
 use Rattle.event_check.specs.event_answers.Asked.{IsPairOf}
 use Rattle.event_check.specs.event_answers.Finding.{IsNamedFound}
 use Rattle.event_check.specs.event_check_under.event_answers_under.Pairs.{FindsPairsUnder}
+use Rattle.event_form.specs.event_findings.unshown_pairs.class_events.Separated.{AreSeparated}
+use Rattle.event_form.proofs.event_findings.unshown_pairs.class_events.Telling.{separated_stay}
 use Rattle.event_comparison.proofs.Comparing.{pairs_later}
 use Rattle.event_check.proofs.event_check_under.Finding.{found_named, found_refused, pairs_found}
 use Rattle.event_check.proofs.event_check_under.pairs.compare_pairs.Goals as goal
@@ -17,6 +19,12 @@ compare_events_under-requires-clause-compared c = c.requires.askable.compared _ 
 
 pub compare_events_under-requires-clause-within : goal.compare_events_under-requires-clause-within
 compare_events_under-requires-clause-within c = c.requires.counted.limits
+
+pub cares_of-requires-clause-separated : goal.cares_of-requires-clause-separated
+cares_of-requires-clause-separated c =
+    let later = c.in-Ok.ensures.light.0.later in
+    separated_stay c.args.separated.now.events c.compare_events_under.new.events c.as_slice-aparts.result.now c.keeps.ensures.kept.events later.left later.right later.count later.grows
+    (subst (AreSeparated c.args.separated.now.events) (sym c.as_slice-aparts.ensures.value) c.requires.separated)
 
 pub cares_of-requires-clause-pairs : goal.cares_of-requires-clause-pairs
 cares_of-requires-clause-pairs c =

@@ -1,9 +1,11 @@
 -- Nothing is refused before the name is looked for.
 use Rattle.std.proofs.Common.{◌≡◌, ◌<◌, List, Err, length, refl, sym, subst, arith}
 use Rattle.std.specs.List.{All}
+use Rattle.std.proofs.lemmas.Option.{slice_get_within}
 use Rattle.circuit_theory.specs.Interface.{shared_inputs}
 use Rattle.flat_net.specs.View.{ports_of}
 use Rattle.sec_setup.specs.declared.ports.pairs.SignalPair.{SignalPair}
+use Rattle.cbf_unfold.proofs.shift_variables.Reading.{item_at}
 use Rattle.plain_asked.specs.Pairs.{Unfolds, AreFunctions, AreLight, left_signals, right_signals}
 use Rattle.plain_asked.proofs.Refusals.{lefts_within, rights_within}
 use Rattle.plain_asked.proofs.PairAt.{left_within, right_within, left_here, right_here}
@@ -13,8 +15,7 @@ use Rattle.sec_jobs.specs.declared.job_cert.pair_clauses.error.CertError.TheVari
 use Rattle.sec_jobs.proofs.job_cert.pair_clauses.Given.{is_order, paired, unfolded, are_clauses}
 use Rattle.sec_jobs.proofs.job_cert.pair_clauses.Refused.{refused_by, unfolding_refused, unnamed_gives}
 use Rattle.sec_jobs.proofs.job_cert.pair_clauses.Outputs.{no_left, no_right}
-use Rattle.sec_jobs.proofs.job_cert.pair_clauses.Differing.{told, encoded}
-use Rattle.sec_jobs.proofs.job_cert.pair_clauses.Few.{clauses_few, true_within}
+use Rattle.sec_jobs.proofs.job_cert.pair_clauses.Places.{is_named}
 use Rattle.sec_jobs.proofs.job_cert.pair_clauses.clauses.clauses_of_acyclic.Goals as goal
 
 pub unfold_pairs-requires-clause-left_order : goal.unfold_pairs-requires-clause-left_order
@@ -84,18 +85,45 @@ index-requires-2 c =
     let h = right_within n.left.now n.right.now c.in_ok-pairs.pairs c.in-Some.place named.0 named.1 o.left o.right f are in
     omega (arith, h, f.right.ok.0)
 
-pub encode-requires : goal.encode-requires
-encode-requires c =
+pub bounds-as_slice-place : goal.bounds-as_slice-place
+bounds-as_slice-place c =
+    let pairs = c.in_ok-pairs.pairs in
+    let named = subst (λ (ps : List SignalPair). IsPairNamed ps c.args.pair.now c.in-Some.place) c.as_slice-2.ensures c.in-Some.ensures in
+    subst (λ (ps : List SignalPair). c.in-Some.place < length ps) (sym c.as_slice-3.ensures) (slice_get_within pairs c.in-Some.place named.0 named.1)
+
+pub clauses_of_pair-requires-clause-left_order : goal.clauses_of_pair-requires-clause-left_order
+clauses_of_pair-requires-clause-left_order c =
+    let n = c.args.nets.now in
+    is_order n.left.now (shared_inputs (ports_of n.left.now) (ports_of n.right.now)) c.args.orders.now.left c.args.orders.now.right c.requires.orders.left_is
+
+pub clauses_of_pair-requires-clause-right_order : goal.clauses_of_pair-requires-clause-right_order
+clauses_of_pair-requires-clause-right_order c =
+    let n = c.args.nets.now in
+    is_order n.right.now (shared_inputs (ports_of n.left.now) (ports_of n.right.now)) c.args.orders.now.right c.args.orders.now.left c.requires.orders.right_is
+
+pub clauses_of_pair-requires-clause-left : goal.clauses_of_pair-requires-clause-left
+clauses_of_pair-requires-clause-left c =
     let n = c.args.nets.now in
     let o = c.args.orders.now in
     let f = c.in_ok-functions.functions in
+    let pairs = c.in_ok-pairs.pairs in
+    let p : SignalPair = c.index-as_slice-place.result in
     let named = subst (λ (ps : List SignalPair). IsPairNamed ps c.args.pair.now c.in-Some.place) c.as_slice-2.ensures c.in-Some.ensures in
+    let at = item_at pairs c.as_slice-3.result.now c.in-Some.place p c.as_slice-3.ensures (subst (λ (ps : List SignalPair). c.in-Some.place < length ps) (sym c.as_slice-3.ensures) (slice_get_within pairs c.in-Some.place named.0 named.1)) c.index-as_slice-place.is in
     let are = subst (λ (ps : List SignalPair). AreFunctions n.left.now n.right.now o.left o.right ps f) c.as_slice.ensures c.in_ok-functions.ensures.unfolds.2 in
-    record {
-      left = (left_here n.left.now n.right.now c.in_ok-pairs.pairs c.in-Some.place named.0 named.1 o.left o.right f are c.index.result.now c.index.ensures).within;
-      right = (right_here n.left.now n.right.now c.in_ok-pairs.pairs c.in-Some.place named.0 named.1 o.left o.right f are c.index-2.result.now c.index-2.ensures).within;
-      care = true_within f.aig c.keeps-3.ensures.graph;
-    }
+    left_here n.left.now n.right.now pairs c.in-Some.place p at o.left o.right f are c.index.result.now c.index.ensures
+
+pub clauses_of_pair-requires-clause-right : goal.clauses_of_pair-requires-clause-right
+clauses_of_pair-requires-clause-right c =
+    let n = c.args.nets.now in
+    let o = c.args.orders.now in
+    let f = c.in_ok-functions.functions in
+    let pairs = c.in_ok-pairs.pairs in
+    let p : SignalPair = c.index-as_slice-place.result in
+    let named = subst (λ (ps : List SignalPair). IsPairNamed ps c.args.pair.now c.in-Some.place) c.as_slice-2.ensures c.in-Some.ensures in
+    let at = item_at pairs c.as_slice-3.result.now c.in-Some.place p c.as_slice-3.ensures (subst (λ (ps : List SignalPair). c.in-Some.place < length ps) (sym c.as_slice-3.ensures) (slice_get_within pairs c.in-Some.place named.0 named.1)) c.index-as_slice-place.is in
+    let are = subst (λ (ps : List SignalPair). AreFunctions n.left.now n.right.now o.left o.right ps f) c.as_slice.ensures c.in_ok-functions.ensures.unfolds.2 in
+    right_here n.left.now n.right.now pairs c.in-Some.place p at o.left o.right f are c.index-2.result.now c.index-2.ensures
 
 pub returns : goal.returns
 returns c =
@@ -103,19 +131,14 @@ returns c =
     let o = c.args.orders.now in
     let e = c.args.exposure.now in
     let pairs = c.in_ok-pairs.pairs in
-    let f = c.in_ok-functions.functions in
-    let cnf = c.in_ok-cnf.cnf in
+    let name = c.args.pair.now in
+    let place = c.in-Some.place in
     let own = paired n.left.now n.right.now e pairs c.requires.chosen c.requires.matches c.requires.right c.in_ok-pairs.ensures in
-    let named = subst (λ (ps : List SignalPair). IsPairNamed ps c.args.pair.now c.in-Some.place) c.as_slice-2.ensures c.in-Some.ensures in
-    let are = subst (λ (ps : List SignalPair). AreFunctions n.left.now n.right.now o.left o.right ps f) c.as_slice.ensures c.in_ok-functions.ensures.unfolds.2 in
-    let left = left_here n.left.now n.right.now pairs c.in-Some.place named.0 named.1 o.left o.right f are c.index.result.now c.index.ensures in
-    let right = right_here n.left.now n.right.now pairs c.in-Some.place named.0 named.1 o.left o.right f are c.index-2.result.now c.index-2.ensures in
+    let p : SignalPair = c.index-as_slice-place.result in
+    let named = subst (λ (ps : List SignalPair). IsPairNamed ps name place) c.as_slice-2.ensures c.in-Some.ensures in
+    let at = item_at pairs c.as_slice-3.result.now place p c.as_slice-3.ensures (subst (λ (ps : List SignalPair). place < length ps) (sym c.as_slice-3.ensures) (slice_get_within pairs place named.0 named.1)) c.index-as_slice-place.is in
     let can =
     unfolded n.left.now n.right.now e pairs c.requires.matches c.requires.chosen own (subst (λ (ps : List SignalPair). AreLight n.left.now (left_signals ps)) c.as_slice.ensures c.in_ok-functions.ensures.unfolds.0)
     (subst (λ (ps : List SignalPair). AreLight n.right.now (right_signals ps)) c.as_slice.ensures c.in_ok-functions.ensures.unfolds.1) in
-    let few = clauses_few f.aig c.index.result.now.lit.0 c.index-2.result.now.lit.0 cnf c.keeps-3.ensures.graph left.within right.within (omega (arith, c.in_ok-functions.ensures.small)) c.in_ok-cnf.ensures.encoding c.in_ok-cnf.ensures.small in
-    are_clauses n.left.now n.right.now e o.left o.right pairs c.args.pair.now c.in-Some.place cnf can c.requires.orders c.in_ok-pairs.ensures (c.requires.chosen.closed refl) named
-    (encoded n.left.now n.right.now o.left o.right f.aig f.places named.0.left.0 named.0.right.0 c.index.result.now c.index-2.result.now c.keeps.ensures.net c.keeps-2.ensures.net c.keeps-3.ensures.graph c.keeps-4.ensures c.keeps-3.ensures.values
-    left right cnf c.in_ok-cnf.ensures.meaning c.in_ok-cnf.ensures.encoding)
-    (told n.left.now n.right.now o.left o.right f.aig f.places named.0.left.0 named.0.right.0 c.index.result.now c.index-2.result.now c.keeps.ensures.net c.keeps-2.ensures.net c.keeps-3.ensures.graph c.keeps-4.ensures c.keeps-3.ensures.values
-    left right cnf c.in_ok-cnf.ensures.meaning c.in_ok-cnf.ensures.small few)
+    are_clauses n.left.now n.right.now e o.left o.right pairs name place c.in_ok-cnf.cnf can c.requires.orders c.in_ok-pairs.ensures (c.requires.chosen.closed refl) (p, at, is_named pairs name place p at named)
+    c.in_ok-cnf.ensures.encoded c.in_ok-cnf.ensures.tell

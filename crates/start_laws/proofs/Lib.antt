@@ -1,4 +1,0 @@
-pub mod Covers
-pub mod Knowing
-pub mod Three
-pub mod Sampling
