@@ -8,13 +8,13 @@ use Rattle.circuit_theory.specs.EventFrames.{AreNodeVariables, IsPairTree}
 use Rattle.circuit_theory.specs.Frame.{EventSide, ConeLatches, HasCare}
 use Rattle.base_tables.specs.Table.{AreDistinct}
 use Rattle.aig.specs.declared.node.Node.{Node}
+use Rattle.aig.specs.Builds.{TakesBits, ReadOnly}
 use Rattle.aig.specs.Graph.{IsGraph}
 use Rattle.aig.specs.Values.{value}
 use Rattle.obligations.specs.cnf_encode.Encoding.{IsEncoding}
 use Rattle.obligations.specs.sat_search.Found.{IsFruitless}
 use Rattle.obligations.specs.outcome.Proof.{Proof}
 use Rattle.sec_setup.specs.declared.ports.pairs.SignalPair.{SignalPair}
-use Rattle.event_form.specs.Answers.{TakesBits, ReadOnly}
 use Rattle.assume_laws.specs.Assume.{Assumption, HasCareUnder}
 use Rattle.assume_laws.specs.Sequences.{IsPairTreeUnder}
 use Rattle.event_settles.specs.declared.cares.Care.{Care}
