@@ -113,8 +113,8 @@ asks = record {
   left = λ bits. refl;
   right = λ bits. refl;
   care = λ bits. (
-    (λ e. record { left = care_of (Left 0) bits; right = care_of (Right 1) bits; meets = λ node h. row_meets (λ i. bits i node) (subst (λ (n : List ℕ). bits 1 n ≡ true) (node_is node h) e) }),
-    λ care. meets_row (λ i. bits i []) (care.meets [] root_is_read),
+    (λ e. ((care_of (Left 0) bits, care_of (Right 1) bits), λ node h. row_meets (λ i. bits i node) (subst (λ (n : List ℕ). bits 1 n ≡ true) (node_is node h) e))),
+    λ care. meets_row (λ i. bits i []) (care.1 [] root_is_read),
   );
 }
 

@@ -1,11 +1,12 @@
 -- Under the assumption the comparison isn't too large: its two functions read inputs of one cycle alone.
 use Rattle.std.proofs.Common.{◌≡◌, ◌∙◌, ℕ, ◌+◌, ◌*◌, ◌<◌, ◌≤◌, Bool, false, List, [], ◌∷◌, ◌++◌, length, Option, Some, None, sym, ap, subst, arith, inl, inr}
-use Rattle.std.specs.Prelude.{◌≢◌}
+use Rattle.std.specs.Prelude.{◌≢◌, ◌⊎◌}
 use Rattle.std.specs.List.{AllPairs, AllZip, Contains, sum_by, filter_map}
 use Rattle.circuit_theory.specs.Agree.{cut, place_named}
 use Rattle.circuit_theory.specs.Circuit.{Circuit, Named, IsLatch}
+use Rattle.circuit_theory.specs.Query.{HasLeaf}
 use Rattle.circuit_theory.specs.Sizes.{Visits}
-use Rattle.circuit_theory.proofs.Lists.{Contains-head, Contains-tail, length-map}
+use Rattle.circuit_theory.proofs.Lists.{Contains-head, Contains-tail, Contains-cases, length-map, only}
 use Rattle.circuit_laws.proofs.LeafVisits.{leaf_visits}
 use Rattle.flat_net.specs.declared.parts.Port.{Port}
 use Rattle.flat_net.specs.View.{NetView, named, circuit_of}
@@ -55,8 +56,17 @@ module _ (c d : Circuit ℕ) (left : (name : List ℕ) (u next : ℕ) → IsLatc
   read_now x k r = by r.read
     where
       by : HasVariableAt r.left_tree r.right_tree k → k ≡ 0
-      by (i, inl h) = let v = leaf_visits c own x.left 0 (record { input = i; at = k }) r.left_unfolds Visits.itself h in visits_now c left v.2
-      by (i, inr h) = let v = leaf_visits d others x.right 0 (record { input = i; at = k }) r.right_unfolds Visits.itself h in visits_now d right v.2
+      by (tree, i, one, h) = go (Contains-cases r.left_tree tree (r.right_tree ∷ []) one)
+        where
+          of_left : HasLeaf (record { input = i; at = k }) r.left_tree → k ≡ 0
+          of_left l = let v = leaf_visits c own x.left 0 (record { input = i; at = k }) r.left_unfolds Visits.itself l in visits_now c left v.2
+
+          of_right : HasLeaf (record { input = i; at = k }) r.right_tree → k ≡ 0
+          of_right l = let v = leaf_visits d others x.right 0 (record { input = i; at = k }) r.right_unfolds Visits.itself l in visits_now d right v.2
+
+          go : (r.left_tree ≡ tree) ⊎ Contains (r.right_tree ∷ []) tree → k ≡ 0
+          go (inl e) = of_left (subst (HasLeaf (record { input = i; at = k })) (sym e) h)
+          go (inr m) = of_right (subst (HasLeaf (record { input = i; at = k })) (sym (only r.right_tree tree m)) h)
 
   own_few : (pairs : List (NamedPair ℕ ℕ)) (each : List (List ℕ)) → length pairs ≤ 1 → AllZip (ArePairPlaces c d own others) pairs each → sum_by length each ≤ 1
   own_few [] [] few zip = omega arith
