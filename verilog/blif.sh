@@ -93,14 +93,16 @@ hide_box_clocks() {
       line = more ? "" : ".outputs"
       for (at = more ? 1 : 2; at <= NF; at++) {
         root = $at in of ? of[$at] : $at
-        if ($at != "\\" && is_pin($at) && (root in is_clock || $at ~ /[.](RD|WR)_CLK(\[[0-9]+\])?$/)) print "box " $at " clock " root >> facts
+        if ($at != "\\" && is_pin($at) && (root in is_clock || $at ~ /[.](RD|WR)_CLK(\[[0-9]+\])?$/)) { hidden[$at] = 1; print "box " $at " clock " root >> facts }
         else line = line " " $at
       }
       more = $NF == "\\"
       print line
       next
     }
-    { print }' "$1.facts" "$1.blif" "$1.blif" > "$scratch/hidden" || exit 73
+    $1 == ".names" && NF == 3 && $3 in hidden { skipped = 1; next }
+    $1 ~ /^[.]/ { skipped = 0 }
+    !skipped { print }' "$1.facts" "$1.blif" "$1.blif" > "$scratch/hidden" || exit 73
   cp "$scratch/hidden" "$1.blif" || exit 73
 }
 
