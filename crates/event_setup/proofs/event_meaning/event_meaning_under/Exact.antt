@@ -27,7 +27,7 @@ use Rattle.event_setup.specs.event_meaning.event_names.event_fits.Circuits.{IsRe
 use Rattle.event_setup.specs.event_meaning.event_meaning_under.Laws.{AnswersAreExactUnder}
 
 module _ (c : Assumption) (a b : EventCircuitView) (left_ready : IsReadyCircuit a) (right_ready : IsReadyCircuit b) where
-  pub one_tree : (p : Either ℕ ℕ) (l r : Tree (List ℕ)) → EventUnfolds (both_of a b) (IsEnabled (both_of a b).circuit) None p [] l → EventUnfolds (both_of a b) (IsEnabled (both_of a b).circuit) None p [] r → l ≡ r
+  one_tree : (p : Either ℕ ℕ) (l r : Tree (List ℕ)) → EventUnfolds (both_of a b) (IsEnabled (both_of a b).circuit) None p [] l → EventUnfolds (both_of a b) (IsEnabled (both_of a b).circuit) None p [] r → l ≡ r
   one_tree p l r h k =
       let na = sound_is_net a.net left_ready.sound in
       let nb = sound_is_net b.net right_ready.sound in
