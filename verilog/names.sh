@@ -69,6 +69,8 @@ read_words='
   is_names { buffer = $1 == ".names" && NF == 3; source = $2; alias = $3; next }
   kind == "" && ($1 == ".inputs" || $1 == ".outputs") { kind = $1; $1 = "" }
   kind != "" { for (at = 1; at <= NF; at++) if ($at != "" && $at != "\\") { ports[side, kind, ++port_count[side, kind]] = $at; is_port[side, kind, $at] = used[side, $at] = 1 }; if ($NF != "\\") kind = ""; next }
+  copied != "" && $1 == "1" && $2 == "1" { copy[side, copied] = source }
+  { copied = $1 == ".names" && NF == 3 ? $3 : ""; source = $2 }
   $1 ~ /^\./ { for (at = 2; at <= NF; at++) used[side, $at] = 1 }
   $1 == ".latch" { latches[side, ++count[side]] = $3 }
   function gather(   it, at, name, latch) {
@@ -80,7 +82,7 @@ read_words='
       for (at = 1; at <= alias_count[side]; at++) {
         name = aliases[side, at]
         latch = of[side, root(side, name)]
-        if (latch != "" && name !~ /^\$/ && !((side, name) in used)) named[side, name] = latch
+        if (latch != "" && name !~ /^\$/ && (!((side, name) in used) || copy[side, name] == latch)) named[side, name] = latch
       }
     }
   }'
@@ -159,7 +161,8 @@ shared_names() {
     }' "$folder/$old_name.blif" "$folder/$new_name.blif" "$scratch/$old_name.names" "$scratch/$new_name.names"
 }
 
-# Gives a file its other names: rename SIDE FROM TO, from and to being files. An output whose net is called otherwise gets a buffer.
+# Gives a file its other names: rename SIDE FROM TO, from and to being files. An output whose net is called otherwise gets a buffer, and one that
+# was a buffer of what has its name now loses it.
 rename() {
   awk -v side="$1" '
     FILENAME == ARGV[1] { if ($1 == side && $2 == "net") net[$3] = $4; else if ($1 == side) port[$3] = $4; next }
@@ -174,6 +177,9 @@ rename() {
       print
       next
     }
+    $1 == ".names" && NF == 3 && ($2 in net) && net[$2] == $3 && !($3 in net) { skipped = 1; next }
+    $1 ~ /^\./ { skipped = 0 }
+    skipped { next }
     $1 == ".end" { printf "%s", buffers; buffers = "" }
     $1 ~ /^\./ || more { for (at = 1; at <= NF; at++) if ($at in net) $at = net[$at] }
     { more = $NF == "\\"; print }

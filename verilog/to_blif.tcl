@@ -138,7 +138,7 @@ proc keep_boxes {boxes} {
 # In a flat design: what is kept whole, and memories of more bits than N, if there is an N, become ports: their outputs are inputs, and what they read
 # are outputs. Returns what they are, cell by cell, with all that makes one another than the next.
 proc expose_boxes {boxes most scratch} {
-  if {$most ne ""} { yosys memory -nomap }
+  if {$most ne ""} { yosys memory -nomap -nordff }
   set picked {}
   foreach box $boxes {
     lappend picked t:$box "t:\$paramod*\\\\$box" "t:\$paramod\\\\$box\\\\*" c:$box
@@ -252,7 +252,7 @@ foreach {name width size} [memories_of $scratch] {
 }
 foreach line [expose_boxes $boxes $box_memories $scratch] { puts $out "box $line" }
 close $out
-yosys synth -run coarse: -flatten -nofsm -noshare -noabc -top $top
+yosys synth -run coarse: -flatten -nofsm -noshare -noabc -nordff -top $top
 if {$clocks eq ""} {
   yosys async2sync {t:$_ALDFF*} {t:$_DFFSR*} {t:$_SR_*} {t:$_DLATCH*}
   yosys dfflegalize -cell {$_DFF_?_} 01 -cell {$_DFF_???_} 01
