@@ -6,6 +6,7 @@ clocks='' exposed='' settled=''
 # One answer more. What is refused, or can't be read or written, is the end.
 answered() {
   statuses+=("$status") reports+=("$report") files+=("$a" "$b") pairs+=("$number")
+  tell_alone
   case $status in
     0 | 1 | 2 | 3 | 9) ;;
     *) finish ;;
@@ -24,11 +25,16 @@ notes() {
   local it
   [ -z "${starts[$1]}" ] || echo "${starts[$1]}"
   it=$(sum_of timeless)
-  if [ -n "$clocks" ]; then
+  if [ -n "$is_clocked" ]; then
+    echo "clock: clocks are inputs (--clocks); a cycle is a step of time, and flip-flops load where their clock changes"
+  elif [ -n "$clocks" ]; then
     echo "$clocks"
   elif [ "$it" -gt 0 ]; then
     echo "clock: $it flip-flops have none, and count as loaded by the clock of the others"
   fi
+  it=$(facts "$old_name" box | awk 'NF == 2 { print $1 }' | sort -u | paste -s -d ' ')
+  # shellcheck disable=SC2086
+  [ -z "$it" ] || echo "boxes: $(some $it): their pins are compared; boxes of one name are taken to do and to hold the same"
   it=$(of_both undriven)
   [ -z "$it" ] || echo "undriven: nets that something reads count as inputs undriven:NET: $it"
   it=$(of_both x)
@@ -65,8 +71,13 @@ finish() {
   sed 's/^/sec-verilog: /' "$folder/notes" >&2
   if grep -q '^verdict different\|^verdict not-shown cut' "${reports[decides]}"; then
     if [ -z "$keep" ]; then
-      say "with --keep FOLDER the counterexample is drawn as waves"
-    elif command -v python3 >/dev/null; then
+      say "with --keep FOLDER the counterexample is drawn as waves, and made shorter"
+      exit "${statuses[decides]}"
+    fi
+    if grep -q '^verdict different' "${reports[decides]}" && shorten "${reports[decides]}" "${files[2 * decides]}" "${files[2 * decides + 1]}"; then
+      say "$folder/rows: $(sed 's/^sec-shorten: //' "$scratch/shortened")"
+    fi
+    if command -v python3 >/dev/null; then
       "$here/sec-waves" "${reports[decides]}" "${files[2 * decides]}" "${files[2 * decides + 1]}" -o "$folder/waves.vcd"
     fi
   fi
@@ -85,6 +96,29 @@ look_at_exposed() {
   esac
 }
 
+# Whether sec-shorten makes a sequence for the pair of a report, for 30 seconds at most; what it says goes to a file: shorten REPORT OLD NEW
+shorten() {
+  local words=() bound=()
+  command -v python3 >/dev/null || return 1
+  ! command -v timeout >/dev/null || bound=(timeout 30)
+  mapfile -t words < <(valued --assume | sed -n 's/^--assume=//p; /^--assume$/{ n; p; }' | tail -n 1 | sed '1i--assume')
+  ! grep -q '^assume ' "$1" && words=()
+  "${bound[@]}" "$here/sec-shorten" "$1" "$2" "$3" -o "$folder/rows" "${words[@]}" 2> "$scratch/shortened"
+  [ $? -eq 1 ] && [ -s "$folder/rows" ]
+}
+
+# A frame that is a run is a difference: the frame's report is an answer then, and that of replay the next one.
+look_at_frame() {
+  ran=''
+  grep -q '^verdict not-shown events' "$report" || return 0
+  shorten "$report" "$a" "$b" || return 0
+  sec_to "$scratch/run.$number" replay "$a" "$b" "$folder/rows" --mode event
+  [ $? -eq 1 ] || return 0
+  answered
+  report=$scratch/run.$number status=1
+  ran="its frame is a run over which $(sed 's/^sec-shorten: //' "$scratch/shortened")"
+}
+
 # Asks from the initial values behind an answer from any power-up, and sets `start` to both.
 and_from_initial_values() {
   started "$a" "$scratch/old.$number.blif"
@@ -96,7 +130,7 @@ and_from_initial_values() {
 
 # Asks what is to be asked of two designs.
 compare() {
-  local start from
+  local start from ran=''
   a=$folder/$old_name.blif b=$folder/$new_name.blif exposed='' settled=''
   if [ -n "$is_reset" ]; then
     from_initial_values "$a" "$b"
@@ -105,9 +139,12 @@ compare() {
   else
     from_any_power_up
     from=$(answer_of "$report")
+    look_at_frame
+    [ -z "$ran" ] || from="different ($ran)"
     look_at_exposed
     [ "$status" -ne 0 ] || look_at_settling
     start='from any power-up, where outputs are settled'
+    [ -z "$ran" ] || start="different, as $ran"
     if [ "$(sum_of started)" -eq 0 ]; then
       start+='; no flip-flop has an initial value'
     elif [ -n "$any_start" ]; then

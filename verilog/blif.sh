@@ -1,11 +1,11 @@
-# shellcheck shell=bash disable=SC2154
+# shellcheck shell=bash disable=SC2154,SC2034
 # From Verilog to BLIF by Yosys, and what the files say. Read by sec-verilog.
 
 # What earlier runs left in the folder of --keep goes, and nothing else does.
 clear_folder() {
   local name
   [ -d "$keep" ] || return 0
-  for name in {old,new}{,.x0,.x1}.{blif,tcl,log,facts} resets.v report notes waves.vcd waves.gtkw; do
+  for name in {old,new}{,.x0,.x1}.{blif,tcl,log,facts} resets.v report rows notes waves.vcd waves.gtkw; do
     rm -f "$keep/$name"
   done
 }
@@ -50,6 +50,10 @@ script() {
   done
   echo "set top $(quoted "$top")"
   echo "set x {$x}"
+  echo "set clocks {$is_clocked}"
+  printf 'set boxes [list'
+  for it in "${boxes[@]}"; do printf ' %s' "$(quoted "$it")"; done
+  printf ']\nset box_memories {%s}\nset flops %s\n' "$box_memories" "$most_flops"
   echo "set scratch $(quoted "$scratch/yosys")"
   for it in resets.v blif:"$name.blif" facts:"$name.facts"; do
     echo "set ${it%%[.:]*} $(quoted "$folder/${it#*:}")"
@@ -72,16 +76,57 @@ latches() {
     }' "$1"
 }
 
+# The most flip-flops that a memory may become.
+most_flops=500000
+
+# A box's clock is none of the outputs that are compared; which clock it has is a fact: hide_box_clocks FILE
+hide_box_clocks() {
+  awk -v facts="$1.facts" '
+    FILENAME == facts { if ($1 == "box" && NF == 3) cells[$2] = 1; next }
+    FNR == 1 { file++ }
+    file == 1 { if ($1 == ".latch" && NF > 4) is_clock[$5] = 1; if (pending && $1 == "1" && $2 == "1") of[buffer] = source; pending = $1 == ".names" && NF == 3; source = $2; buffer = $3; next }
+    function is_pin(name,   cell) {
+      for (cell in cells) if (index(name, cell ".") == 1) return 1
+      return 0
+    }
+    $1 == ".outputs" || more {
+      line = more ? "" : ".outputs"
+      for (at = more ? 1 : 2; at <= NF; at++) {
+        root = $at in of ? of[$at] : $at
+        if ($at != "\\" && is_pin($at) && (root in is_clock || $at ~ /[.](RD|WR)_CLK(\[[0-9]+\])?$/)) { hidden[$at] = 1; print "box " $at " clock " root >> facts }
+        else line = line " " $at
+      }
+      more = $NF == "\\"
+      print line
+      next
+    }
+    $1 == ".names" && NF == 3 && $3 in hidden { skipped = 1; next }
+    $1 ~ /^[.]/ { skipped = 0 }
+    !skipped { print }' "$1.facts" "$1.blif" "$1.blif" > "$scratch/hidden" || exit 73
+  cp "$scratch/hidden" "$1.blif" || exit 73
+}
+
+# Boxes of both designs that aren't alike.
+look_at_boxes() {
+  local left right
+  left=$(facts "$old_name" box | sort) right=$(facts "$new_name" box | sort)
+  [ "$left" != "$right" ] || return 0
+  stop 4 "refused: boxes aren't alike in both designs: $(diff <(echo "$left") <(echo "$right") | sed -n 's/^< /in old /p; s/^> /in new /p' | cut -c 1-120 | head -n 4 | paste -s -d ';' | sed 's/;/; /g')"
+}
+
 # Runs Yosys on one design, and tells what it warns of: by_yosys NAME TOP X FILE..
 by_yosys() {
-  local name=$1 at=$folder/$1 side=${1%.x?}
+  local name=$1 at=$folder/$1 side=${1%.x?} is_large
   script "$@" > "$at.tcl" || exit 73
   if ! yosys -Q -T -c "$at.tcl" > "$at.log" 2>&1 < /dev/null || [ ! -s "$at.blif" ]; then
+    is_large=$(sed -n 's/^large //p' "$at.facts" 2>/dev/null)
+    [ -z "$is_large" ] || stop 4 "refused: in the $side design memory $is_large flip-flops, above $most_flops; --box-memories N makes memories above N bits boxes"
     grep -h -B 1 '^ERROR\|: ERROR' "$at.log" | grep -v '^--$\|^$\|TCL interpreter' >&2 || tail -n 5 "$at.log" >&2
     rm -f "$at.blif" "$at.facts"
     stop 65 "yosys refuses the $side design"
   fi
   mv "$scratch/yosys.names" "$scratch/$name.names" || exit 73
+  ! grep -q '^box ' "$at.facts" || hide_box_clocks "$at"
   # What a selection doesn't find is no news, and what has no driver is told behind the report.
   grep -h '^Warning' "$at.log" | grep -v 'did not match any\|is used but has no driver' | sed "s/^/sec-verilog: $side: /" >&2
   if grep -q '^Replacing .*([$]_\(DLATCH\|SR\|ALDFF\|DFFSR\)' "$at.log"; then

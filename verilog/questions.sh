@@ -4,9 +4,10 @@
 # Runs sec, which a signal to this script reaches as well: sec_to FILE WORDS..
 bound=()
 sec_to() {
-  local file=$1 child status
+  local file=$1 child status bounds=("${bound[@]}")
   shift
-  "${bound[@]}" "$here/sec" "$@" > "$file" < /dev/null &
+  [ -z "$seconds" ] || [ "${#bound[@]}" -gt 0 ] || bounds=(timeout "$seconds")
+  "${bounds[@]}" "$here/sec" "$@" > "$file" < /dev/null &
   child=$!
   trap 'kill -TERM "$child" 2>/dev/null' TERM HUP INT
   wait "$child"
@@ -17,6 +18,10 @@ sec_to() {
   done
   trap - TERM HUP INT
   [ "$status" -lt 128 ] || exit "$status"
+  if [ "$status" -eq 124 ] && [ "${#bound[@]}" -eq 0 ]; then
+    say "sec $1 has no answer within $seconds seconds"
+    status=3
+  fi
   return "$status"
 }
 

@@ -1,7 +1,8 @@
 # What sec-verilog tells Yosys of a design, behind the lines that read its files and set `top`, `blif`, `facts`, `resets`,
-# `scratch` and `x`.
+# `scratch`, `x`, `clocks`, `boxes`, `box_memories` and `flops`, the most bits that a memory may have.
 # It writes the design to the file `blif`, and to `facts` what it takes for granted: a line `x PLACE` for each place of the Verilog that
-# gives x or z, and a line `undriven NET` for each bit that something reads and nothing drives.
+# gives x or z, a line `undriven NET` for each bit that something reads and nothing drives, and lines `box CELL ..` for each cell that is a box.
+# Of a memory that is too large it writes `large ..` alone, and ends.
 
 # The lines of a text file.
 proc lines_of {path} {
@@ -110,6 +111,64 @@ proc expose_undriven {scratch} {
   return $names
 }
 
+# The memories of a design, before they are mapped: for each its name, its width and its words.
+proc memories_of {scratch} {
+  yosys tee -q -o $scratch dump m:*
+  set found {}
+  foreach line [lines_of $scratch] {
+    if {[regexp {^ *memory(.*) \\?(\S+)$} $line -> sizes name]} {
+      set width 1
+      set size 1
+      regexp { width (\d+)} $sizes -> width
+      regexp { size (\d+)} $sizes -> size
+      lappend found $name $width $size
+    }
+  }
+  return $found
+}
+
+# Before a design is flattened: modules and instances of these names stay whole.
+proc keep_boxes {boxes} {
+  foreach box $boxes {
+    yosys setattr -mod -set keep_hierarchy 1 $box "\$paramod*\\\\$box" "\$paramod\\\\$box\\\\*"
+    yosys setattr -set keep_hierarchy 1 */c:$box
+  }
+}
+
+# In a flat design: what is kept whole, and memories of more bits than N, if there is an N, become ports: their outputs are inputs, and what they read
+# are outputs. Returns what they are, cell by cell, with all that makes one another than the next.
+proc expose_boxes {boxes most scratch} {
+  if {$most ne ""} { yosys memory -nomap -nordff }
+  set picked {}
+  foreach box $boxes {
+    lappend picked t:$box "t:\$paramod*\\\\$box" "t:\$paramod\\\\$box\\\\*" c:$box
+  }
+  yosys tee -q -o $scratch dump {t:$mem*} {*}$picked
+  set told {}
+  set cell ""
+  set large {}
+  foreach line [lines_of $scratch] {
+    if {[regexp {^ *cell (\S+) \\?(\S+)$} $line -> kind cell]} {
+      set facts [list "$cell $kind"]
+      array set numbers {WIDTH 0 SIZE 0}
+    } elseif {$cell ne "" && [regexp {^ *parameter (?:signed )?\\(\S+) (.*)$} $line -> name value]} {
+      if {$name ne "MEMID"} { lappend facts "$cell $name $value" }
+      if {$name in {WIDTH SIZE}} { set numbers($name) $value }
+    } elseif {$cell ne "" && [regexp {^ *end$} $line]} {
+      if {![string match {$mem*} $kind]} {
+        lappend told {*}$facts
+      } elseif {$most ne "" && $numbers(WIDTH) * $numbers(SIZE) > $most} {
+        lappend told {*}$facts
+        lappend large c:$cell
+      }
+      set cell ""
+    }
+  }
+  set picked [concat $picked $large]
+  if {$picked ne ""} { yosys expose -evert {*}$picked }
+  return $told
+}
+
 # A flip-flop with an asynchronous reset is a plain one that the reset also masks: what Yosys's async2sync makes, with names that depend
 # on the flip-flop's alone, so that --expose finds them in both designs, and with its initial value.
 proc write_resets {path} {
@@ -131,7 +190,49 @@ endmodule"
   close $file
 }
 
+# With clocks as inputs: a step of time is less than a period of any clock. A flip-flop has its data of the step before where its clock changes,
+# and a latch what comes in where it is open; else they keep what they had a step before, in `past`.
+proc write_clocked {path} {
+  set file [open $path w]
+  foreach {edge rises} {P "  \\\$_ANDNOT_ rise (.A(C), .B(past_clock), .Y(edges));" N "  \\\$_ANDNOT_ fall (.A(past_clock), .B(C), .Y(edges));"} {
+    set flop "  parameter _TECHMAP_WIREINIT_Q_ = 1'bx;
+  wire _TECHMAP_REMOVEINIT_Q_ = 1'b1;
+  wire past_clock, edges, loaded;
+  (* init = _TECHMAP_WIREINIT_Q_ *) wire past_data;
+  (* init = _TECHMAP_WIREINIT_Q_ *) wire past;
+  \\\$_FF_ clock (.D(C), .Q(past_clock));
+  \\\$_FF_ data (.D(D), .Q(past_data));
+$rises
+  \\\$_MUX_ load (.A(past), .B(past_data), .S(edges), .Y(loaded));
+  \\\$_FF_ keep (.D(Q), .Q(past));"
+    puts $file "(* techmap_celltype = \"\$_DFF_${edge}_\" *)
+module clocked_$edge (input D, C, output Q);
+$flop
+  assign Q = loaded;
+endmodule"
+    foreach {level value gate} {P 0 ANDNOT N 0 AND P 1 OR N 1 ORNOT} {
+      puts $file "(* techmap_celltype = \"\$_DFF_$edge$level${value}_\" *)
+module clocked_$edge$level$value (input D, C, R, output Q);
+$flop
+  \\\$_${gate}_ reset (.A(loaded), .B(R), .Y(Q));
+endmodule"
+    }
+  }
+  foreach {level low high} {P past D N D past} {
+    puts $file "(* techmap_celltype = \"\$_DLATCH_${level}_\" *)
+module clocked_latch_$level (input D, E, output Q);
+  parameter _TECHMAP_WIREINIT_Q_ = 1'bx;
+  wire _TECHMAP_REMOVEINIT_Q_ = 1'b1;
+  (* init = _TECHMAP_WIREINIT_Q_ *) wire past;
+  \\\$_MUX_ load (.A($low), .B($high), .S(E), .Y(Q));
+  \\\$_FF_ keep (.D(Q), .Q(past));
+endmodule"
+  }
+  close $file
+}
+
 yosys hierarchy -check -top $top
+keep_boxes $boxes
 yosys proc
 yosys flatten
 set out [open $facts w]
@@ -142,13 +243,29 @@ yosys opt_expr
 yosys opt_clean
 foreach place [places_of $cells $scratch] { puts $out "x $place" }
 foreach name [expose_undriven $scratch] { puts $out "undriven $name" }
+foreach {name width size} [memories_of $scratch] {
+  if {$box_memories eq "" && $width * $size > $flops} {
+    puts $out "large $name: $size x $width = [expr {$width * $size}]"
+    close $out
+    exit 1
+  }
+}
+foreach line [expose_boxes $boxes $box_memories $scratch] { puts $out "box $line" }
 close $out
-yosys synth -run coarse: -flatten -nofsm -noshare -noabc -top $top
-yosys async2sync {t:$_ALDFF*} {t:$_DFFSR*} {t:$_SR_*} {t:$_DLATCH*}
-yosys dfflegalize -cell {$_DFF_?_} 01 -cell {$_DFF_???_} 01
-yosys rename -wire -suffix .flop {t:$_DFF_???_}
-write_resets $resets
-yosys techmap -map $resets
+yosys synth -run coarse: -flatten -nofsm -noshare -noabc -nordff -top $top
+if {$clocks eq ""} {
+  yosys async2sync {t:$_ALDFF*} {t:$_DFFSR*} {t:$_SR_*} {t:$_DLATCH*}
+  yosys dfflegalize -cell {$_DFF_?_} 01 -cell {$_DFF_???_} 01
+  yosys rename -wire -suffix .flop {t:$_DFF_???_}
+  write_resets $resets
+  yosys techmap -map $resets
+} else {
+  yosys dfflegalize -cell {$_DFF_?_} 01 -cell {$_DFF_???_} 01 -cell {$_DLATCH_?_} 01
+  yosys rename -wire -suffix .flop {t:$_DFF_*_} {t:$_DLATCH_?_}
+  write_clocked $resets
+  yosys techmap -map $resets
+  yosys opt_merge
+}
 # All names of each bit, before those go that nothing needs.
 yosys opt_clean
 yosys write_blif $scratch.names

@@ -1,7 +1,7 @@
 # shellcheck shell=bash disable=SC2034
 # The words of sec-verilog. Read by it.
-old=() new=() check=() parameters=() reading=() defines=() values=('') reset_inputs=() cells=() liberties=()
-side=old cycles=20 top='' new_top='' sv='' keep='' wrong='' any_clock='' any_start=''
+old=() new=() check=() parameters=() reading=() defines=() values=('') reset_inputs=() cells=() liberties=() boxes=()
+side=old cycles=20 top='' new_top='' sv='' keep='' map='' seconds='' box_memories='' is_clocked='' wrong='' any_clock='' any_start=''
 
 # What is wrong first is told: complain WHY
 complain() {
@@ -36,12 +36,16 @@ read_words() {
         usage
         exit 0
         ;;
-      --top | --new-top | --keep | --reset-input | --cells | --liberty | -P | -D | -I) value "$1" $# "${2:-}" ;;
+      --top | --new-top | --keep | --map | --seconds | --box | --box-memories | --reset-input | --cells | --liberty | -P | -D | -I) value "$1" $# "${2:-}" ;;
     esac
     case $1 in
       --top) top=${2:-} && shift ;;
       --new-top) new_top=${2:-} && shift ;;
       --keep) keep=${2:-} && shift ;;
+      --map) map=${2:-} && shift ;;
+      --seconds) seconds=${2:-} && shift ;;
+      --box) boxes+=("${2:-}") && shift ;;
+      --box-memories) box_memories=${2:-} && shift ;;
       --reset-input) reset_inputs+=("${2:-}") && shift ;;
       --cells) cells+=("${2:-}") && shift ;;
       --liberty) liberties+=("${2:-}") && shift ;;
@@ -52,6 +56,7 @@ read_words() {
       -D?*) defines+=("${1#-D}") ;;
       -I?*) reading+=("$1") ;;
       -sv) sv=-sv ;;
+      --clocks) is_clocked=yes ;;
       --any-clock) any_clock=yes ;;
       --any-start) any_start=yes ;;
       --x-differs) values=(0 1) ;;
@@ -88,6 +93,17 @@ look_at_words() {
   case "$any_start ${check[*]} " in
     'yes '*'--reset '*) complain "--any-start and --reset are two questions" ;;
   esac
+  case $seconds in
+    *[!0-9]* | 0* | ????????*) complain "--seconds wants a number from 1 on, and not $seconds" ;;
+  esac
+  case $box_memories in
+    *[!0-9]* | ????????????*) complain "--box-memories wants a number of bits, and not $box_memories" ;;
+  esac
+  for it in "${boxes[@]}"; do
+    case $it in
+      *[!A-Za-z0-9_]* | '') complain "--box wants the name of a module or of an instance, and not $it" ;;
+    esac
+  done
   for it in "${cells[@]}" "${liberties[@]}"; do
     case $it in
       -* | '') complain "--cells and --liberty want a file, and not $it" ;;

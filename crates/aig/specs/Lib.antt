@@ -10,3 +10,4 @@ pub mod sec_base
 pub mod circuit_theory
 pub mod graph_copy
 pub mod lane_eval
+pub use Rattle.base_tables.specs.Table

@@ -26,7 +26,7 @@ module _ (c : Assumption) (a b : Circuit ℕ) (m n : ℕ) (left right : List ℕ
       Marked a (IsEnabled a) l t p → Marked b (IsEnabled b) r t q → l t p ≡ r t q
   pair_under size l r alike meets t p q h e lm rm =
       event_pair_under a b m n left right class na nb numbered left_long right_long classes depths (RowMeets c) size l r alike (run_holds c a left reads size l meets) t p q e.left_tree e.right_tree h e.left_unfolds e.right_unfolds
-      (λ bits lc rc all. e.same bits (record { left = lc; right = rc; meets = λ node k. all node })) lm rm
+      (λ bits lc rc all. e.same bits ((lc, rc), λ node k. all node)) lm rm
 
 pub event_functions_agree_under : EventFunctionsAgreeUnder
 event_functions_agree_under c a b m n left right class na nb numbered left_long right_long classes depths reads equal size l r alike meets t p q h pair lm rm =

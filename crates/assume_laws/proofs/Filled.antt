@@ -80,21 +80,8 @@ right_leaves {l = l} {r = r} are v stands = (are.exactly v).1 (r, Contains-tail 
 -- and where a place has one, the assignment of a difference meets the assumption
 pub difference_cares : {before : Variable ℕ → Variable ℕ → Type 0} (c : Assumption) (l r : Tree ℕ) (sides variables : List (Variable ℕ)) (bits : List Bool) → IsDifferenceUnder before c l r sides variables bits →
     (v : Variable ℕ) → Contains sides v → RowMeets c (λ i. assigned same_shift variables bits i v.at)
-difference_cares {before} c l r sides variables bits d v h = (d.asks.care_is (assigned same_shift variables bits)).0 d.distinguishes.care v.at (v.input, go f.0 f.1 f.2)
-  where
-    f : (tree : Tree ℕ) × Contains (l ∷ r ∷ []) tree × HasLeaf v tree
-    f = (d.are_sides.exactly v).0 h
-
-    go : (tree : Tree ℕ) → Contains (l ∷ r ∷ []) tree → HasLeaf v tree → HasLeaf v l ⊎ HasLeaf v r
-    go tree k stands = first (Contains-cases l tree (r ∷ []) k)
-      where
-        first : (l ≡ tree) ⊎ Contains (r ∷ []) tree → HasLeaf v l ⊎ HasLeaf v r
-        first (inl e) = inl (subst (HasLeaf v) (sym e) stands)
-        first (inr m) = second (Contains-cases r tree [] m)
-          where
-            second : (r ≡ tree) ⊎ Contains [] tree → HasLeaf v l ⊎ HasLeaf v r
-            second (inl e) = inr (subst (HasLeaf v) (sym e) stands)
-            second (inr none) = absurd (omega (arith, none.1))
+difference_cares {before} c l r sides variables bits d v h =
+    let f = (d.are_sides.exactly v).0 h in (d.asks.care_is (assigned same_shift variables bits)).0 d.distinguishes.care v.at (f.0, v.input, f.1, f.2)
 
 -- no variable is of an input above the count
 pub below_count : {L : Type 0} (same : L → L → Bool) (variables : List (Variable L)) (bits : List Bool) (count i : ℕ) (at : L) → All (λ x. x.input < count) variables → count ≤ i → assigned same variables bits i at ≡ false
@@ -172,4 +159,4 @@ event_difference_is_witness_under c s p q count d e query sides variables bits m
     care : (v : Variable (List ℕ)) → Contains sides v → RowMeets c (λ i. frame_of variables bits i v.at)
     care v h =
         let f = (difference.are_sides.exactly v).0 h in
-        ((difference.asks.care x).0 difference.distinguishes.care).meets v.at (f.0, v.input, inl f.1, f.2)
+        ((difference.asks.care x).0 difference.distinguishes.care).1 v.at (f.0, v.input, inl f.1, f.2)

@@ -22,13 +22,13 @@ use Rattle.assume_laws.proofs.OnwardCare.{runs_agree_onward}
 -- what holds where the variables' places meet the assumption holds where all do
 everywhere : {P Q : Type 0} (c : Assumption) (a : Circuit P) (b : Circuit Q) (left right : List ℕ) (p : P) (q : Q) → HaveEqualFunctionsUnder c a b left right p q → EqualPlainUnder (RowMeets c) a b left right p q
 everywhere c a b left right p q e = record {
-  left_depth = e.left_depth;
-  right_depth = e.right_depth;
+  left_depth = e.left_unfolds.0;
+  right_depth = e.right_unfolds.0;
   left_tree = e.left_tree;
   right_tree = e.right_tree;
-  left_unfolds = e.left_unfolds;
-  right_unfolds = e.right_unfolds;
-  same = λ x meets. e.same x (λ k h. meets k);
+  left_unfolds = e.left_unfolds.1;
+  right_unfolds = e.right_unfolds.1;
+  same = λ x meets. e.same x (tt, λ k h. meets k);
 }
 
 pub equal_functions_agree_under : EqualFunctionsAgreeUnder
@@ -95,4 +95,4 @@ pub equal_resets_agree_under : EqualResetsAgreeUnder
 equal_resets_agree_under c a b m n left right left_base right_base na nb sa sb numbered based reads equal size l r alike meets t p q h pair =
     let e = equal p q pair in
     reset_pair_agrees (RowMeets c) a b m n left right left_base right_base na nb sa sb numbered based size l r alike (run_holds c a left reads size l meets) p q e.depth e.is_depth
-    (λ s le. let x = e.each s le in record { left_tree = x.left_tree; right_tree = x.right_tree; left_unfolds = x.left_unfolds; right_unfolds = x.right_unfolds; same = λ y all. x.same y (λ k j. all k) }) t h
+    (λ s le. let x = e.each s le in record { left_tree = x.left_tree; right_tree = x.right_tree; left_unfolds = x.left_unfolds; right_unfolds = x.right_unfolds; same = λ y all. x.same y (tt, λ k j. all k) }) t h

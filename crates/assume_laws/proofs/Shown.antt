@@ -81,13 +81,12 @@ differences_are_shown_under c size s p q variables is are = (shown, λ x. back x
         right_unfolds = d.right_unfolds;
         are_variables = are;
         each = length-map (λ y. d.bits y.input y.at) variables;
-        care = record {
-          left = care_same s p d.bits frame (λ tree h. one tree (inl (inr (inl h)))) d.care.left;
-          right = care_same s q d.bits frame (λ tree h. one tree (inl (inr (inr h)))) d.care.right;
-          meets = λ node h.
+        care = (
+          (care_same s p d.bits frame (λ tree h. one tree (inl (inr (inl h)))) d.care.0.0, care_same s q d.bits frame (λ tree h. one tree (inl (inr (inr h)))) d.care.0.1),
+          λ node h.
               let t = place_tree c size is node in
-              (tree_meets c size is node t.0 frame t.1).0 (sym (one t.0 (inr (node, h, t.1))) ∙ (tree_meets c size is node t.0 d.bits t.1).1 (d.care.meets node h));
-        };
+              (tree_meets c size is node t.0 frame t.1).0 (sym (one t.0 (inr (node, h, t.1))) ∙ (tree_meets c size is node t.0 d.bits t.1).1 (d.care.1 node h)),
+        );
         left_value = refl;
         right_value = refl;
         differ = λ e. d.differ (one d.left_tree (inl (inl (inl d.left_unfolds))) ∙ (e ∙ sym (one d.right_tree (inl (inl (inr d.right_unfolds))))));

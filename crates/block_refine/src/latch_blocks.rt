@@ -11,6 +11,7 @@ mod support;
 mod variables;
 mod weight;
 
+pub use gates::gate_literal;
 pub use literals::signal_literals;
 pub use partition::{initial_blocks, split_blocks};
 pub use support::{leaves, merged};

@@ -3,7 +3,8 @@ use Rattle.std.proofs.Common.{◌≡◌, ℕ, ◌-◌, ◌<◌, Bool, true, fals
 use Rattle.std.specs.Prelude.{◌==◌}
 use Rattle.circuit_theory.specs.Circuit.{Circuit, Named, IsSingleDriven}
 use Rattle.circuit_theory.specs.Run.{Marked, NoneEnabled}
-use Rattle.circuit_theory.specs.Tree.{IsInputNumber, StandsBeside, AreNumbered, HaveEqualFunctions, tree_value}
+use Rattle.circuit_theory.specs.Asked.{HaveEqualFunctions}
+use Rattle.circuit_theory.specs.Tree.{IsInputNumber, StandsBeside, AreNumbered, tree_value}
 use Rattle.circuit_theory.specs.declared.Mode.TheVariants.{Plain}
 use Rattle.circuit_theory.specs.Agree.{Agree, AreAlike, IsPair}
 use Rattle.circuit_laws.proofs.Marks.{settled_depth}
@@ -82,12 +83,12 @@ module _ {P Q : Type 0} (a : Circuit P) (b : Circuit Q) (oa ob : List ℕ) (numb
       Marked a NoneEnabled left t p → Marked b NoneEnabled right t q → left t p ≡ right t q
   same_at sa sb p q equal t in_run lm rm =
       let x = shared_bits a b oa ob left right t in
-      let ld = settled_depth a left sa equal.left_unfolds t lm in
-      let rd = settled_depth b right sb equal.right_unfolds t rm in
-      let l : tree_value x equal.left_tree ≡ left (t - 0) p = tree_is_run a oa n left alike.left_run t in_run x (λ p i k h le. left_bits t p i k h) equal.left_unfolds (omega (arith, ld)) in
-      let r : tree_value x equal.right_tree ≡ right (t - 0) q = tree_is_run b ob n right alike.right_run t in_run x (λ q i k h le. right_bits t in_run q i k h) equal.right_unfolds (omega (arith, rd)) in
+      let ld = settled_depth a left sa equal.left_unfolds.1 t lm in
+      let rd = settled_depth b right sb equal.right_unfolds.1 t rm in
+      let l : tree_value x equal.left_tree ≡ left (t - 0) p = tree_is_run a oa n left alike.left_run t in_run x (λ p i k h le. left_bits t p i k h) equal.left_unfolds.1 (omega (arith, ld)) in
+      let r : tree_value x equal.right_tree ≡ right (t - 0) q = tree_is_run b ob n right alike.right_run t in_run x (λ q i k h le. right_bits t in_run q i k h) equal.right_unfolds.1 (omega (arith, rd)) in
       let zero' : t - 0 ≡ t = omega arith in
-      ap (λ s. left s p) (sym zero') ∙ (sym l ∙ (equal.same x ∙ (r ∙ ap (λ s. right s q) zero')))
+      ap (λ s. left s p) (sym zero') ∙ (sym l ∙ (equal.same x tt ∙ (r ∙ ap (λ s. right s q) zero')))
 
 -- without exposed latches
 pub equal_functions_agree : {P Q : Type 0} (a : Circuit P) (b : Circuit Q) (oa ob : List ℕ) → AreNumbered a b oa ob → IsSingleDriven a → IsSingleDriven b →

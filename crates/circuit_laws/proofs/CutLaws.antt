@@ -12,7 +12,8 @@ use Rattle.circuit_theory.specs.Run.{Marked}
 use Rattle.circuit_theory.specs.Depth.{LatchReads, LatchPath, HasCycle, without}
 use Rattle.circuit_theory.specs.Net.{HasDistinctNames}
 use Rattle.circuit_theory.specs.Agree.{cut, is_kept, EnabledIn, IsMinimalCut, Agree, AgreeOnward, IsPair}
-use Rattle.circuit_theory.specs.Tree.{AreNumbered, HaveEqualFunctions}
+use Rattle.circuit_theory.specs.Asked.{HaveEqualFunctions}
+use Rattle.circuit_theory.specs.Tree.{AreNumbered}
 use Rattle.circuit_theory.proofs.Lists.{Contains-head, Contains-tail, Contains-cases, at_of, filter_test}
 use Rattle.circuit_theory.proofs.Inputs.{same_name-sound}
 use Rattle.circuit_theory.proofs.Numbers.{same_name-refl, is_among-sound, is_among-complete}

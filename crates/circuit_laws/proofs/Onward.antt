@@ -5,7 +5,8 @@ use Rattle.std.specs.List.{Contains, filter_map}
 use Rattle.std.proofs.lemmas.List.Elements.{All-contains, All-filter, Contains-append_cases}
 use Rattle.circuit_theory.specs.Circuit.{Circuit, Equation, Gate, Latch, Port, Named, IsLatch, IsSingleDriven, Carries, Holds}
 use Rattle.circuit_theory.specs.Run.{IsRun}
-use Rattle.circuit_theory.specs.Tree.{AreNumbered, HaveEqualFunctions}
+use Rattle.circuit_theory.specs.Asked.{HaveEqualFunctions}
+use Rattle.circuit_theory.specs.Tree.{AreNumbered}
 use Rattle.circuit_theory.specs.declared.Mode.{Mode}
 use Rattle.circuit_theory.specs.declared.Mode.TheVariants.{Plain}
 use Rattle.circuit_theory.specs.Names.{same_name}

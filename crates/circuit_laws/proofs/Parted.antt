@@ -6,7 +6,8 @@ use Rattle.std.proofs.lemmas.List.Elements.{All-contains}
 use Rattle.circuit_theory.specs.Cover.{cover_value}
 use Rattle.circuit_theory.specs.Circuit.{Circuit, Equation, Gate, Latch, Port, Named, IsLatch, IsSingleDriven, Holds, Carries}
 use Rattle.circuit_theory.specs.Run.{IsRun, Marked, NoneEnabled}
-use Rattle.circuit_theory.specs.Tree.{Tree, Trees, Unfolds, UnfoldsAll, IsInputNumber, StandsBeside, AreNumbered, HaveEqualFunctions, tree_value, tree_values}
+use Rattle.circuit_theory.specs.Asked.{HaveEqualFunctions}
+use Rattle.circuit_theory.specs.Tree.{Tree, Trees, Unfolds, UnfoldsAll, IsInputNumber, StandsBeside, AreNumbered, tree_value, tree_values}
 use Rattle.circuit_theory.specs.declared.Mode.TheVariants.{Plain}
 use Rattle.circuit_theory.specs.Agree.{Agree, IsPair, cut, is_kept}
 use Rattle.circuit_laws.proofs.Marks.{marked_says}
@@ -100,9 +101,9 @@ module _ {P Q : Type 0} (names : List (List ℕ)) (a : Circuit P) (b : Circuit Q
   pub parted_functions_agree : Agree Plain a b
   parted_functions_agree n left right alike t p q in_run pair lm rm =
       let e = equal p q pair in
-      let l = cut_tree_is_run names a sa oa n left alike.left_run t in_run x left_inputs e.left_unfolds t (omega arith) lm in
-      let r = cut_tree_is_run names b sb ob n right alike.right_run t in_run x right_inputs e.right_unfolds t (omega arith) rm in
-      sym l ∙ (e.same x ∙ r)
+      let l = cut_tree_is_run names a sa oa n left alike.left_run t in_run x left_inputs e.left_unfolds.1 t (omega arith) lm in
+      let r = cut_tree_is_run names b sb ob n right alike.right_run t in_run x right_inputs e.right_unfolds.1 t (omega arith) rm in
+      sym l ∙ (e.same x tt ∙ r)
     where
       x : ℕ → ℕ → Bool
       x i k = chosen never_left (left (t - k)) (right (t - k)) (found_input (cut names a).inputs oa i) (found_input (cut names b).inputs ob i)

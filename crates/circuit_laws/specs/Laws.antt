@@ -7,7 +7,8 @@ use Rattle.circuit_theory.specs.Circuit.{Circuit, IsInput, IsLatch, Meets, IsSin
 use Rattle.circuit_theory.specs.Run.{IsRun, EqualInputs, Extends, ExtendsWith, Loads, CanPut, IsEnabled, NoneEnabled}
 use Rattle.circuit_theory.specs.Net.{IsNet, HasDistinctNames}
 use Rattle.circuit_theory.specs.Depth.{IsDepth}
-use Rattle.circuit_theory.specs.Tree.{Tree, Unfolds, IsInputNumber, AreNumbered, HaveEqualFunctions, tree_value}
+use Rattle.circuit_theory.specs.Asked.{HaveEqualFunctions}
+use Rattle.circuit_theory.specs.Tree.{Tree, Unfolds, IsInputNumber, AreNumbered, tree_value}
 use Rattle.circuit_theory.specs.Agree.{cut, IsPair, pairs_of, IsSettled, Agree, AgreeOnward, IsMinimalCut}
 use Rattle.circuit_theory.specs.Interface.{AreNumbersOf}
 use Rattle.circuit_theory.specs.Sizes.{IsWeight, IsOver, IsConeWeight, IsConeOver}

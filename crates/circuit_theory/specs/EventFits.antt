@@ -6,20 +6,17 @@ use Rattle.circuit_theory.specs.Depth.{IsDepth}
 use Rattle.circuit_theory.specs.Tree.{Tree, tree_value}
 use Rattle.circuit_theory.specs.Sequence.{sequence_rows}
 use Rattle.circuit_theory.specs.Joined.{Either, Left, Right, joined}
-use Rattle.circuit_theory.specs.Frame.{EventSide, EventUnfolds, ConeLatches, ReachedAt, HasCare, bits_as_shifts}
+use Rattle.circuit_theory.specs.Asked.{AreEqual}
+use Rattle.circuit_theory.specs.EventFrames.{event_pair}
+use Rattle.circuit_theory.specs.Frame.{EventSide, EventUnfolds, ConeLatches, ReachedAt, bits_as_shifts}
 
 -- two circuits side by side as the event form sees them: the numbers of A's inputs come first
 abbrev pub side_by_side : {P Q : Type 0} → Circuit P → Circuit Q → List ℕ → List ℕ → (Either P Q → ℕ) → EventSide (Either P Q)
 side_by_side a b left right class = record { circuit = joined a b; order = left ++ right; class = class }
 
 -- both places unfold in the event form, to functions that agree in each frame with care for both
-pub record HaveEqualEvents {P : Type 0} (s : EventSide P) (p q : P) : Type 0 where
-  pub left_tree : Tree (List ℕ)
-  pub right_tree : Tree (List ℕ)
-  pub left_unfolds : EventUnfolds s (IsEnabled s.circuit) None p [] left_tree
-  pub right_unfolds : EventUnfolds s (IsEnabled s.circuit) None q [] right_tree
-  pub same : (bits : ℕ → List ℕ → Bool) → HasCare s (IsEnabled s.circuit) (ConeLatches s.circuit p) bits → HasCare s (IsEnabled s.circuit) (ConeLatches s.circuit q) bits →
-      tree_value bits left_tree ≡ tree_value bits right_tree
+abbrev pub HaveEqualEvents : {P : Type 0} → EventSide P → P → P → Type 0
+HaveEqualEvents s p q = AreEqual (event_pair s p q)
 
 -- only latches of class 0 are reached
 abbrev pub ReachesAlways : {P : Type 0} → EventSide P → P → Type 0

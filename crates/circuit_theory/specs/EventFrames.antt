@@ -1,12 +1,13 @@
 -- The variables of a query in the event form, the frame of an assignment, and what stands behind a separation and a frame that is
 -- printed.
-use Rattle.std.specs.Prelude.{◌≡◌, ◌≢◌, ℕ, ◌<◌, ◌≤◌, ◌⊎◌, ◌↔◌, Bool, false, List, [], ◌∷◌, ◌++◌, length, None, Some}
-use Rattle.std.specs.List.{Contains, AllPairs}
+use Rattle.std.specs.Prelude.{◌≡◌, ◌≢◌, ℕ, ◌<◌, ◌≤◌, ◌⊎◌, Bool, false, List, [], ◌∷◌, ◌++◌, length, None, Some}
+use Rattle.std.specs.List.{Contains}
 use Rattle.circuit_theory.specs.Names.{same_name}
 use Rattle.circuit_theory.specs.Circuit.{IsLatch}
 use Rattle.circuit_theory.specs.Run.{IsEnabled}
 use Rattle.circuit_theory.specs.Tree.{Tree, tree_value}
-use Rattle.circuit_theory.specs.Query.{Query, Variable, HasLeaf, assigned, bits_of, Distinguishes, IsLeast}
+use Rattle.circuit_theory.specs.Asked.{AskedPair, AreDifferent}
+use Rattle.circuit_theory.specs.Query.{Query, Variable, AreLeaves, assigned, bits_of, Distinguishes, IsLeast}
 use Rattle.circuit_theory.specs.Frame.{EventSide, EventUnfolds, ConeLatches, ConeOthers, ReachedAt, HasCare, NodeBefore}
 use Rattle.circuit_theory.specs.Classes.{EnableCare, EnableAtRoot, EnablesEqual, IsFounder}
 use Rattle.circuit_theory.specs.EventSizes.{IsNodeCount}
@@ -23,15 +24,24 @@ pub data IsEnableTree {P : Type 0} (s : EventSide P) (u : P) : Tree (List ℕ) �
       EventUnfolds s (IsEnabled s.circuit) (Some (u, bit)) next [] tree → IsEnableTree s u tree
 
 -- the distinct leaves of the trees that are wanted: longer paths first, then by path in the order of class numbers, then by input
-pub record AreNodeVariables (wanted : Tree (List ℕ) → Type 0) (variables : List (Variable (List ℕ))) : Type 0 where
-  pub in_order : AllPairs NodeBefore variables
-  pub exactly : (x : Variable (List ℕ)) → Contains variables x ↔ ((tree : Tree (List ℕ)) × wanted tree × HasLeaf x tree)
+abbrev pub AreNodeVariables : (Tree (List ℕ) → Type 0) → List (Variable (List ℕ)) → Type 0
+AreNodeVariables wanted variables = AreLeaves NodeBefore wanted variables
 
 -- the trees of a pair's query: of its two sides and of their cares
 abbrev pub IsPairTree : {P : Type 0} → EventSide P → P → P → Tree (List ℕ) → Type 0
 IsPairTree s p q tree =
     (EventUnfolds s (IsEnabled s.circuit) None p [] tree ⊎ EventUnfolds s (IsEnabled s.circuit) None q [] tree)
     ⊎ (IsCareTree s (ConeLatches s.circuit p) tree ⊎ IsCareTree s (ConeLatches s.circuit q) tree)
+
+-- a pair of the event form as it is asked: the variables are those of its sides and of their cares, and the care is that for both sides
+abbrev pub event_pair : {P : Type 0} → EventSide P → P → P → AskedPair (List ℕ)
+event_pair s p q = record {
+  before = NodeBefore;
+  left = EventUnfolds s (IsEnabled s.circuit) None p [];
+  right = EventUnfolds s (IsEnabled s.circuit) None q [];
+  wanted = λ l r. IsPairTree s p q;
+  care = λ l r bits. HasCare s (IsEnabled s.circuit) (ConeLatches s.circuit p) bits × HasCare s (IsEnabled s.circuit) (ConeLatches s.circuit q) bits;
+}
 
 -- the trees of a class query: of one enable or of two, and of their cares
 abbrev pub IsClassTree : {P : Type 0} → EventSide P → P → P → Tree (List ℕ) → Type 0
@@ -90,15 +100,8 @@ pub record IsSeparationFromAlways {P : Type 0} (s : EventSide P) (order : List P
   pub off : EnableAtRoot s (frame_of variables bits) founder false
 
 -- both places unfold in the event form, to functions that differ in some frame with care for both
-pub record HaveDifferentEvents {P : Type 0} (s : EventSide P) (p q : P) : Type 0 where
-  pub left_tree : Tree (List ℕ)
-  pub right_tree : Tree (List ℕ)
-  pub left_unfolds : EventUnfolds s (IsEnabled s.circuit) None p [] left_tree
-  pub right_unfolds : EventUnfolds s (IsEnabled s.circuit) None q [] right_tree
-  pub bits : ℕ → List ℕ → Bool
-  pub left_care : HasCare s (IsEnabled s.circuit) (ConeLatches s.circuit p) bits
-  pub right_care : HasCare s (IsEnabled s.circuit) (ConeLatches s.circuit q) bits
-  pub differ : tree_value bits left_tree ≢ tree_value bits right_tree
+abbrev pub HaveDifferentEvents : {P : Type 0} → EventSide P → P → P → Type 0
+HaveDifferentEvents s p q = AreDifferent (event_pair s p q)
 
 -- an assignment of the variables of a pair's query that meets the care and makes the sides differ, up to 16 variables the least one
 pub record IsEventDifference {P : Type 0} (s : EventSide P) (p q : P) (query : Query (List ℕ)) (variables : List (Variable (List ℕ))) (bits : List Bool) : Type 0 where

@@ -1,4 +1,5 @@
 pub mod Agree
+pub mod Asked
 pub mod Blocks
 pub mod Circuit
 pub mod Cone

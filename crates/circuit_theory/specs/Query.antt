@@ -46,10 +46,14 @@ ShiftBefore x y = (y.at < x.at) ⊎ ((x.at ≡ y.at) × (x.input < y.input))
 abbrev pub same_shift : ℕ → ℕ → Bool
 same_shift j k = j == k
 
--- the distinct leaves of the trees, in the order that is given
-pub record AreVariables {L : Type 0} (before : Variable L → Variable L → Type 0) (trees : List (Tree L)) (variables : List (Variable L)) : Type 0 where
+-- the distinct leaves of the trees that are wanted, in the order that is given
+pub record AreLeaves {L : Type 0} (before : Variable L → Variable L → Type 0) (wanted : Tree L → Type 0) (variables : List (Variable L)) : Type 0 where
   pub in_order : AllPairs before variables
-  pub exactly : (x : Variable L) → Contains variables x ↔ ((tree : Tree L) × Contains trees tree × HasLeaf x tree)
+  pub exactly : (x : Variable L) → Contains variables x ↔ ((tree : Tree L) × wanted tree × HasLeaf x tree)
+
+-- those of these trees
+abbrev pub AreVariables : {L : Type 0} → (Variable L → Variable L → Type 0) → List (Tree L) → List (Variable L) → Type 0
+AreVariables before trees variables = AreLeaves before (Contains trees) variables
 
 -- the low bits of a number, the lowest first
 abbrev pub bits_of : ℕ → ℕ → List Bool

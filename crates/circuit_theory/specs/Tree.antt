@@ -57,13 +57,3 @@ pub record AreNumbered {P Q : Type 0} (a : Circuit P) (b : Circuit Q) (left righ
   pub right_once : (q q' : Q) (i : ℕ) → IsInputNumber b right q i → IsInputNumber b right q' i → q ≡ q'
   pub shared : (p : P) (q : Q) (i : ℕ) → IsInputNumber a left p i → IsInputNumber b right q i →
       (name : List ℕ) × Contains a.inputs (record { name = name; place = p }) × Contains b.inputs (record { name = name; place = q })
-
--- both sides of a pair unfold, to functions that agree under each assignment
-pub record HaveEqualFunctions {P Q : Type 0} (a : Circuit P) (b : Circuit Q) (left right : List ℕ) (p : P) (q : Q) : Type 0 where
-  pub left_depth : ℕ
-  pub right_depth : ℕ
-  pub left_tree : Tree ℕ
-  pub right_tree : Tree ℕ
-  pub left_unfolds : Unfolds a left p 0 left_depth left_tree
-  pub right_unfolds : Unfolds b right q 0 right_depth right_tree
-  pub same : (x : ℕ → ℕ → Bool) → tree_value x left_tree ≡ tree_value x right_tree

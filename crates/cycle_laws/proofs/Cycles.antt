@@ -12,7 +12,7 @@ use Rattle.cycle_laws.specs.Bounded.{EqualUpToAgree, DifferenceInCycle, CyclesAr
 pub equal_up_to_agree : EqualUpToAgree
 equal_up_to_agree a b left right left_base right_base last numbered based equal n l r alike t p q h le pair =
     let e = equal p q t pair le in
-    reset_same_at a b left right left_base right_base numbered based l r n alike (λ row. Unit {0}) (λ s k row are. tt) p q t e.left_tree e.right_tree h e.left_unfolds e.right_unfolds (λ x care. e.same x)
+    reset_same_at a b left right left_base right_base numbered based l r n alike (λ row. Unit {0}) (λ s k row are. tt) p q t e.left_tree e.right_tree h e.left_unfolds e.right_unfolds (λ x care. e.same x tt)
 
 pub difference_in_cycle : DifferenceInCycle
 difference_in_cycle a b left right left_base right_base p q t count l r x sa sb left_low right_low ul ur differs = record {
@@ -41,7 +41,7 @@ cycles_are_decided a b m n left right left_base right_base p q t na nb sa sb da 
     other = reset_trees_are_one b n right right_base q t nb sb db right_long low_q
 
     to : HaveEqualResets a b left right left_base right_base p q t → (x : ℕ → ℕ → Bool) → tree_value x one.0.0 ≡ tree_value x other.0.0
-    to h x = ap (tree_value x) (one.1 one.0.0 h.left_tree one.0.1 h.left_unfolds) ∙ (h.same x ∙ ap (tree_value x) (other.1 h.right_tree other.0.0 h.right_unfolds other.0.1))
+    to h x = ap (tree_value x) (one.1 one.0.0 h.left_tree one.0.1 h.left_unfolds) ∙ (h.same x tt ∙ ap (tree_value x) (other.1 h.right_tree other.0.0 h.right_unfolds other.0.1))
 
     from : ((x : ℕ → ℕ → Bool) → tree_value x one.0.0 ≡ tree_value x other.0.0) → HaveEqualResets a b left right left_base right_base p q t
-    from same = record { left_tree = one.0.0; right_tree = other.0.0; left_unfolds = one.0.1; right_unfolds = other.0.1; same = same }
+    from same = record { left_tree = one.0.0; right_tree = other.0.0; left_unfolds = one.0.1; right_unfolds = other.0.1; same = λ x care. same x }

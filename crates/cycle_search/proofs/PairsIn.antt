@@ -46,7 +46,8 @@ use Rattle.reset_form.specs.reset_functions.Bases.{AreBases}
 use Rattle.reset_form.specs.Shown.{IsWitnessOf}
 use Rattle.reset_form.proofs.reset_asked.Columns.{leaf_is}
 use Rattle.reset_form.proofs.reset_asked.CycleQueries.{left_tree, right_tree, query_in_order, are_variables, each_variable, is_query, left_at_bits, right_at_bits, trees_differ, variables_long, least_is}
-use Rattle.reset_form.proofs.reset_asked.Decided.{equal_at, differ_at, undecided_at}
+use Rattle.obligations.proofs.Fits.{equal, different, undecided}
+use Rattle.reset_form.proofs.reset_asked.Decided.{asks_pair}
 use Rattle.reset_form.proofs.reset_asked.PairCycles.{AreSoundFunctions, AsksIn}
 use Rattle.reset_form.proofs.reset_functions.OwnPairs.{ArePairsIn}
 use Rattle.cycle_search.specs.Asked.{AskedIn, AreAskedIn, AreQueriesOf}
@@ -129,10 +130,10 @@ module _ (s : Setup) (b : Bases) (f : Functions) (setting : IsSetting s) (bases 
     agree same = go k.asks.queries_are
       where
         go : AreQueriesOf f.places k.l k.r o.queries → AgreeAt (numbered s b) x.left.0 x.right.0 cycle
-        go (inl none) = record { left_tree = k.left_is.tree; right_tree = k.right_is.tree; left_unfolds = k.left_is.unfolds; right_unfolds = k.right_is.unfolds; same = same_by_literal none.0 }
+        go (inl none) = record { left_tree = k.left_is.tree; right_tree = k.right_is.tree; left_unfolds = k.left_is.unfolds; right_unfolds = k.right_is.unfolds; same = λ bits care. same_by_literal none.0 bits }
         go (inr (p, is, asks)) =
             let here : slice_get o.queries 0 ≡ Some p = ap (λ (qs : List Query). slice_get qs 0) is in
-            equal_at (asks_at 0 p here) (All-at (IsSame f.aig) o.queries 0 p here same)
+            equal (asks_pair (asks_at 0 p here)) (All-at (IsSame f.aig) o.queries 0 p here same)
 
     -- the result has the answer of the obligation
     pub result_in : (conflicts : ℕ) (result : PairResult) → IsAnswered f.aig conflicts o result → ResultIn (numbered s b) conflicts cycle (places_of x) result
@@ -148,12 +149,12 @@ module _ (s : Setup) (b : Bases) (f : Functions) (setting : IsSetting s) (bases 
         go : (y : PairAnswer) (proof : Option Proof) → AnswerIs f.aig conflicts o y proof → AnswerIn (numbered s b) conflicts x.left.0 x.right.0 cycle y proof
         go answer.Equal None h = agree h
         go answer.Equal (Some proof) h = h
-        go answer.Different None h = let d = h.1 in differ_at (asks_at d.place d.is.query d.is.first.at) s.columns d.bits d.is.differs
+        go answer.Different None h = let d = h.1 in (tt, different (asks_pair (asks_at d.place d.is.query d.is.first.at)) d.bits d.is.differs)
         go answer.Different (Some proof) h = h
-        go answer.NotShown None h = no (sym k.asks.decisive_is ∙ h.0)
+        go answer.NotShown None h = absurd (no (sym k.asks.decisive_is ∙ h.0))
         go answer.NotShown (Some proof) h = h
         go answer.Limit None h = h
-        go answer.Limit (Some proof) h = undecided_at (asks_at h.place h.query h.first.at) conflicts proof h.limit.graph h.limit.asked h.limit.stands h.limit.decides
+        go answer.Limit (Some proof) h = undecided (asks_pair (asks_at h.place h.query h.first.at)) conflicts proof h.limit
 
     not_unshown : (conflicts : ℕ) (y : PairAnswer) (proof : Option Proof) → y ≡ answer.NotShown → AnswerIs f.aig conflicts o y proof → ⊥
     not_unshown conflicts answer.NotShown None e h = no (sym k.asks.decisive_is ∙ h.0)

@@ -1,5 +1,5 @@
 -- What is found cycle after cycle is what the search finds.
-use Rattle.std.proofs.Common.{◌≡◌, ℕ, ◌+◌, ◌<◌, ◌≤◌, max, List, map, Option, Some, None, refl, sym, subst, arith, inl, inr}
+use Rattle.std.proofs.Common.{◌≡◌, ℕ, ◌+◌, ◌<◌, ◌≤◌, max, List, map, Option, refl, sym, subst, arith, inl, inr}
 use Rattle.std.specs.Prelude.{◌⊎◌}
 use Rattle.std.specs.List.{All, AllZip, Contains}
 use Rattle.std.proofs.lemmas.List.Elements.{All-contains}
@@ -7,9 +7,7 @@ use Rattle.circuit_theory.specs.declared.Side.{Side}
 use Rattle.circuit_theory.specs.Fits.{IsPairDepth}
 use Rattle.circuit_theory.proofs.Lists.{Contains-map, Contains-map_from, at_of, of_at, zip_right}
 use Rattle.flat_net.specs.View.{circuit_of}
-use Rattle.sec_base.specs.declared.basics.PairAnswer.{PairAnswer}
 use Rattle.sec_base.specs.declared.basics.PairAnswer.TheVariants as answer
-use Rattle.pair_decide.specs.declared.query.Proof.{Proof}
 use Rattle.obligations.specs.declared.outcome.verdict.PairResult.{PairResult}
 use Rattle.outcome_fits.specs.ResetOutcome.{Numbered, AgreeAt, AgreeBefore}
 use Rattle.sec_setup.specs.declared.setup.Setup.{Setup}
@@ -20,25 +18,18 @@ use Rattle.reset_form.specs.declared.reset_asked.findings.ResetVerdict.TheVarian
 use Rattle.reset_form.specs.reset_asked.Numbers.{numbered}
 use Rattle.cycle_search.specs.declared.cycle.InCycle.{InCycle}
 use Rattle.cycle_search.specs.declared.found.Searched.{Searched}
-use Rattle.cycle_search.specs.Cycles.{AnswerIn, ResultIn, VerdictIn, IsFoundIn}
+use Rattle.obligations.proofs.Fits.{equal_fits}
+use Rattle.cycle_search.specs.Cycles.{ResultIn, VerdictIn, IsFoundIn}
 use Rattle.cycle_search.specs.Depths.{AreDeepUpTo}
 use Rattle.cycle_search.specs.Searches.{HaveDepthsUpTo, EndsAt, VerdictFits, AreFoundUpTo, IsVerdictOf}
 
--- an equal pair agrees in the cycle
-equal_in : (n : Numbered) (conflicts p q t : ℕ) (y : PairAnswer) (proof : Option Proof) → AnswerIn n conflicts p q t y proof → y ≡ answer.Equal → AgreeAt n p q t
-equal_in n conflicts p q t answer.Equal None h e = h
-equal_in n conflicts p q t answer.Equal (Some proof) h e = absurd h
-equal_in n conflicts p q t answer.Different proof h e = absurd (cc)
-equal_in n conflicts p q t answer.NotShown proof h e = absurd (cc)
-equal_in n conflicts p q t answer.Limit proof h e = absurd (cc)
-
--- so do all pairs where all are equal
+-- all pairs agree where all are equal
 pub all_agree : (n : Numbered) (conflicts t : ℕ) (pairs : List (NamedPair ℕ ℕ)) (results : List PairResult) → AllZip (ResultIn n conflicts t) pairs results → All (λ (r : PairResult). r.answer ≡ answer.Equal) results →
     (x : NamedPair ℕ ℕ) → Contains pairs x → AgreeAt n x.left x.right t
 all_agree n conflicts t pairs results zip all x h =
     let at = at_of pairs x h in
     let r = zip_right (ResultIn n conflicts t) pairs results zip at.0 x at.1 in
-    equal_in n conflicts x.left x.right t r.0.answer r.0.proof r.2.answer_is (All-contains (λ (r : PairResult). r.answer ≡ answer.Equal) results r.0 all (of_at results at.0 r.0 r.1))
+    equal_fits _ _ _ r.0.answer r.0.proof r.2.answer_is (All-contains (λ (r : PairResult). r.answer ≡ answer.Equal) results r.0 all (of_at results at.0 r.0 r.1))
 
 module _ (s : Setup) (b : Bases) where
   -- each pair agrees in each cycle before this one

@@ -1,5 +1,5 @@
 -- What is found of pairs of signals in one cycle of runs from the initial values.
-use Rattle.std.specs.Prelude.{◌≡◌, ◌≢◌, ℕ, ◌+◌, ◌<◌, ◌≤◌, List, length, map, Option, Some, None, slice_get, Result, Ok, Err}
+use Rattle.std.specs.Prelude.{◌≡◌, ◌≢◌, ℕ, ◌+◌, ◌<◌, ◌≤◌, List, length, map, Option, Some, slice_get, Result, Ok, Err}
 use Rattle.std.specs.List.{All, AllZip}
 use Rattle.circuit_theory.specs.declared.Side.TheVariants.{A, B}
 use Rattle.sec_base.specs.declared.basics.PairAnswer.{PairAnswer}
@@ -9,8 +9,8 @@ use Rattle.pair_decide.specs.declared.query.Proof.{Proof}
 use Rattle.cbf_unfold.specs.declared.unfold_places.signal_function.Unfolded.{Unfolded}
 use Rattle.obligations.specs.declared.outcome.verdict.PairResult.{PairResult}
 use Rattle.obligations.specs.declared.outcome.verdict.ResetWitness.{ResetWitness}
-use Rattle.outcome_fits.specs.ResetLimits.{IsUndecidedAt}
-use Rattle.outcome_fits.specs.ResetOutcome.{Numbered, AgreeAt, DifferAt, IsFirstLimit}
+use Rattle.obligations.specs.Fits.{AnswerFits}
+use Rattle.outcome_fits.specs.ResetOutcome.{Numbered, IsFirstLimit, pair_at}
 use Rattle.sec_setup.specs.declared.setup.Setup.{Setup}
 use Rattle.sec_setup.specs.ports.Pairs.{NamedPair, places_of}
 use Rattle.reset_form.specs.declared.reset_functions.bases.Bases.{Bases}
@@ -25,15 +25,9 @@ use Rattle.cycle_search.specs.declared.cycle.InCycle.{InCycle}
 use Rattle.cycle_search.specs.declared.cycle.Unfolding.{Unfolding}
 use Rattle.cycle_search.specs.Outputs.{IsFunctionIn, HasDoneBefore, IsOneTooLarge}
 
--- What each answer says of a pair in the cycle, and the proof that stands beside it: one at the limit alone.
+-- What each answer says of a pair in the cycle, and the proof that stands beside it: each difference is one of the circuits.
 abbrev pub AnswerIn : Numbered → ℕ → ℕ → ℕ → ℕ → PairAnswer → Option Proof → Type 0
-AnswerIn n conflicts p q t answer.Equal None = AgreeAt n p q t
-AnswerIn n conflicts p q t answer.Equal (Some proof) = ⊥
-AnswerIn n conflicts p q t answer.Different None = DifferAt n p q t
-AnswerIn n conflicts p q t answer.Different (Some proof) = ⊥
-AnswerIn n conflicts p q t answer.NotShown proof = ⊥
-AnswerIn n conflicts p q t answer.Limit None = ⊥
-AnswerIn n conflicts p q t answer.Limit (Some proof) = IsUndecidedAt n.a n.b n.left n.right n.left_base n.right_base conflicts p q t proof
+AnswerIn n conflicts p q t result proof = AnswerFits (pair_at n p q t) (Unit {0}) conflicts result proof
 
 -- the result of a pair: its name, the cycle, and the answer
 pub record ResultIn (n : Numbered) (conflicts t : ℕ) (x : NamedPair ℕ ℕ) (result : PairResult) : Type 0 where

@@ -1,17 +1,16 @@
 -- What the answer to a pair's query says of the pair.
-use Rattle.std.proofs.Common.{◌≡◌, ◌∙◌, ℕ, zero, suc, ◌<◌, Bool, true, false, List, [], ◌∷◌, length, get_or, slice_get, Option, Some, None, sym, ap, subst, arith, inl, inr}
+use Rattle.std.proofs.Common.{◌≡◌, ◌∙◌, ℕ, ◌<◌, Bool, true, false, List, [], ◌∷◌, length, slice_get, Option, Some, None, sym, ap, subst, arith, inl, inr}
 use Rattle.std.specs.List.{All, AllZip, Contains}
 use Rattle.std.proofs.lemmas.List.Elements.{All-contains, All-head, All-tail}
-use Rattle.std.proofs.lemmas.Option.{slice_get-get_or, none-some, same_Some}
+use Rattle.std.proofs.lemmas.Option.{slice_get-get_or}
 use Rattle.circuit_theory.specs.Joined.{Either, Left, Right}
 use Rattle.circuit_theory.specs.Tree.{Tree}
-use Rattle.circuit_theory.proofs.Lists.{Contains-cases, Contains-map, length-map}
-use Rattle.circuit_theory.specs.EventFrames.{HaveDifferentEvents, IsEventSize, frame_of}
+use Rattle.circuit_theory.proofs.Lists.{Contains-cases, length-map}
+use Rattle.circuit_theory.specs.EventFrames.{IsEventSize, event_pair, frame_of}
 use Rattle.circuit_theory.specs.Frame.{EventSide}
 use Rattle.aig.specs.sec_base.PairAnswer.{PairAnswer}
 use Rattle.aig.specs.sec_base.PairAnswer.TheVariants as answer
 use Rattle.aig.specs.Builds.{Builds}
-use Rattle.aig.specs.declared.node.Node.{Node}
 use Rattle.aig.specs.declared.node.Lit.{Lit}
 use Rattle.aig.proofs.Growth.{Builds-one}
 use Rattle.event_nodes.specs.Nodes.{EventGraphView, IsEventGraph, named_places, path_of}
@@ -19,122 +18,62 @@ use Rattle.class_search.specs.event_variables.Variables.{variable_of, variables_
 use Rattle.class_search.proofs.event_variables.Named.{named_distinct}
 use Rattle.event_form.specs.event_agreement.Laws.{HasSameQuery}
 use Rattle.event_form.specs.event_agreement.Queries.{AsksEventPair}
-use Rattle.event_form.proofs.event_agreement.PairQueries.{within, are_variables, left_value, right_value, care_value, same_events, shown_frame}
+use Rattle.event_form.proofs.event_agreement.PairQueries.{within, are_variables, left_value, right_value, care_value, takes, shown_frame}
 use Rattle.event_form.proofs.event_agreement.Agreeing.{queries_agree}
 use Rattle.event_form.specs.event_agreement.pair_events.Enables.{both_of}
 use Rattle.sec_setup.specs.declared.ports.pairs.SignalPair.{SignalPair}
 use Rattle.obligations.specs.declared.obligation.Obligation.{Obligation}
 use Rattle.obligations.specs.Decided.{AnswerIs, IsAnswered}
-use Rattle.obligations.specs.Found.{Differ, IsDifferenceOf}
+use Rattle.obligations.specs.Found.{IsDifferenceOf}
 use Rattle.obligations.specs.declared.outcome.verdict.PairResult.{PairResult}
-use Rattle.obligations.specs.pair_decide.Decision.TheVariants as decision
 use Rattle.obligations.specs.pair_decide.Proof.{Proof}
 use Rattle.obligations.specs.pair_decide.Query.{Query}
-use Rattle.obligations.specs.pair_decide.Answers.{IsDifference, IsAtLimit}
-use Rattle.obligations.specs.pair_decide.Queries.{IsSame, roots_of}
-use Rattle.obligations.specs.InStead.{IsInStead, DecidesInStead}
-use Rattle.event_form.specs.Asked.{IsAskedOf, AreAsked}
-use Rattle.event_form.specs.Answers.{AnswerFits, PairFits, IsFrameOf, IsUndecided, ReadOnly}
+use Rattle.obligations.specs.pair_decide.Answers.{IsDifference}
+use Rattle.obligations.specs.pair_decide.Queries.{IsSame}
+use Rattle.obligations.proofs.Fits.{AsksPair, only_query, answer_fits}
+use Rattle.event_form.specs.Asked.{IsAskedOf, AreAsked, IsDecisive}
+use Rattle.event_form.specs.Answers.{PairFits, IsFrameOf}
 use Rattle.event_form.specs.Laws.{AnswersFit, DifferencesAreFrames, EqualPairsAgree}
 
--- one of one query is that query
-only_query : (q : Query) (queries : List Query) (i : ℕ) (r : Query) → queries ≡ q ∷ [] → slice_get queries i ≡ Some r → r ≡ q
-only_query q queries i r e at = go i (ap (λ (qs : List Query). slice_get qs i) (sym e) ∙ at)
-  where
-    go : (j : ℕ) → slice_get (q ∷ []) j ≡ Some r → r ≡ q
-    go zero h = sym (same_Some q r h)
-    go (suc j) h = absurd (none-some r h)
-
 module _ (s : EventSide (Either ℕ ℕ)) (w : EventGraphView) (p q : Either ℕ ℕ) (query : Query) (is : IsEventGraph w) (k : AsksEventPair s w p q query) where
-  different_events : (bits : List Bool) → IsDifference w.graph query bits → HaveDifferentEvents s p q
-  different_events bits d =
-      let f = shown_frame s w p q query is k bits d in
-      record {
-        left_tree = f.left_tree;
-        right_tree = f.right_tree;
-        left_unfolds = f.left_unfolds;
-        right_unfolds = f.right_unfolds;
-        bits = frame_of (variables_of w query.vars) bits;
-        left_care = f.left_care;
-        right_care = f.right_care;
-        differ = λ e. f.differ (f.left_value ∙ (e ∙ sym f.right_value));
-      }
-
   left_builds : Builds w.graph (named_places w) k.left_is.tree query.left.0
   left_builds = subst (Builds w.graph (named_places w) k.left_is.tree) (sym (ap (λ (y : Lit). y.0) k.left)) k.left_is.builds
 
   right_builds : Builds w.graph (named_places w) k.right_is.tree query.right.0
   right_builds = subst (Builds w.graph (named_places w) k.right_is.tree) (sym (ap (λ (y : Lit). y.0) k.right)) k.right_is.builds
 
-  -- one tree has one literal
-  one_literal : k.left_is.tree ≡ k.right_is.tree → query.left.0 ≡ query.right.0
-  one_literal e =
-      Builds-one w.graph is.is_graph (named_places w) (named_distinct w is) k.left_is.tree query.left.0 query.right.0 left_builds (subst (λ (t : Tree (List ℕ)). Builds w.graph (named_places w) t query.right.0) (sym e) right_builds)
-
-  read_own : (h : List Node) (r : Query) → IsInStead w.graph query h r → ReadOnly h (named_places w) (roots_of r) (variables_of w query.vars)
-  read_own h r stands n v reached at =
-      let here : Contains query.vars v = subst (λ (vs : List ℕ). Contains vs v) stands.vars (stands.query.covers n v reached at) in
-      let below : v < length w.places = All-contains (λ u. u < length w.places) query.vars v (within s w p q query is k) here in
-      let many = length-map {Y = ℕ × List ℕ} (λ (z : ℕ × ℕ). (z.0, path_of w.children z.1)) w.places in
-      (get_or (named_places w) v (0, []), slice_get-get_or (named_places w) v (0, []) (omega (arith, below, many)), Contains-map (variable_of w) query.vars v here)
-
-  undecided : (conflicts : ℕ) (proof : Proof) (h : List Node) (r : Query) → IsInStead w.graph query h r → IsAtLimit h r conflicts proof → IsUndecided s conflicts p q proof
-  undecided conflicts proof h r stands limit = record {
+  -- the query asks about the pair, where one tree has one literal
+  asks : AsksPair (event_pair s p q) w.graph (named_places w) (variable_of w) (λ bits. frame_of (variables_of w query.vars) bits) query
+  asks = record {
     left_tree = k.left_is.tree;
     right_tree = k.right_is.tree;
     left_unfolds = k.left_is.unfolds;
     right_unfolds = k.right_is.unfolds;
-    two_trees = λ e. limit.wide.apart (stands.trivial (inl (one_literal e)));
-    variables = variables_of w query.vars;
     are_variables = are_variables s w p q query is k;
-    many = (let long = length-map (variable_of w) query.vars in omega (arith, long, ap length stands.vars, limit.wide.many));
-    graph = h;
-    places = named_places w;
     distinct = named_distinct w is;
-    left_lit = r.left.0;
-    right_lit = r.right.0;
-    care_lit = r.care.0;
-    is_graph = stands.graph;
-    left_within = stands.query.left;
-    right_within = stands.query.right;
-    care_within = stands.query.care;
-    own = read_own h r stands;
-    left_value = λ bits y takes. stands.left y ∙ left_value s w p q query is k bits y takes;
-    right_value = λ bits y takes. stands.right y ∙ right_value s w p q query is k bits y takes;
-    care_value = λ bits y takes. (
-      λ e. (care_value s w p q query is k bits y takes).0 (sym (stands.care y) ∙ e),
-      λ e. stands.care y ∙ (care_value s w p q query is k bits y takes).1 e,
-    );
-    sides = λ e. limit.wide.apart (inl e);
-    care = λ e. limit.wide.apart (inr e);
-    clauses = limit.encoding;
-    log = limit.fruitless;
+    named = λ v here.
+        let below : v < length w.places = All-contains (λ u. u < length w.places) query.vars v (within s w p q query is k) here in
+        let many = length-map {Y = ℕ × List ℕ} (λ (z : ℕ × ℕ). (z.0, path_of w.children z.1)) w.places in
+        slice_get-get_or (named_places w) v (0, []) (omega (arith, below, many));
+    one_literal = λ e.
+        Builds-one w.graph is.is_graph (named_places w) (named_distinct w is) k.left_is.tree query.left.0 query.right.0 left_builds
+        (subst (λ (t : Tree (List ℕ)). Builds w.graph (named_places w) t query.right.0) (sym e) right_builds);
+    left_value = left_value s w p q query is k;
+    right_value = right_value s w p q query is k;
+    care_value = care_value s w p q query is k;
+    takes = takes s w p q query is k;
   }
 
 true_not_false : true ≡ false → ⊥
 true_not_false e = cc
 
 module _ (s : EventSide (Either ℕ ℕ)) (w : EventGraphView) (cut : Bool) (p : SignalPair) (o : Obligation) (is : IsEventGraph w) (k : IsAskedOf s w cut p o) where
-  differ : Differ w.graph o.queries → HaveDifferentEvents s (Left p.left.0) (Right p.right.0)
-  differ d = different_events s w (Left p.left.0) (Right p.right.0) k.query is k.asks d.bits (subst (λ (r : Query). IsDifference w.graph r d.bits) (only_query k.query o.queries d.place d.is.query k.only d.is.first.at) d.is.differs)
-
-  answer_fits : (conflicts : ℕ) (y : PairAnswer) (proof : Option Proof) → AnswerIs w.graph conflicts o y proof → AnswerFits s cut conflicts p.left.0 p.right.0 y proof
-  answer_fits conflicts answer.Equal None h = same_events s w (Left p.left.0) (Right p.right.0) k.query is k.asks (All-head (IsSame w.graph) k.query [] (subst (All (IsSame w.graph)) k.only h))
-  answer_fits conflicts answer.Equal (Some proof) h = absurd h
-  answer_fits conflicts answer.Different None h = (k.decisive_is.0 h.0, differ h.1)
-  answer_fits conflicts answer.Different (Some proof) h = absurd h
-  answer_fits conflicts answer.NotShown None h = ((λ d. true_not_false (sym (k.decisive_is.1 d) ∙ h.0)), differ h.1)
-  answer_fits conflicts answer.NotShown (Some proof) h = absurd h
-  answer_fits conflicts answer.Limit None h = absurd h
-  answer_fits conflicts answer.Limit (Some proof) h =
-      let d : DecidesInStead w.graph k.query conflicts (decision.Limit proof) = subst (λ (r : Query). DecidesInStead w.graph r conflicts (decision.Limit proof)) (only_query k.query o.queries h.place h.query k.only h.first.at) h.limit in
-      undecided s w (Left p.left.0) (Right p.right.0) k.query is k.asks conflicts proof d.graph d.asked d.stands d.decides
-
   pub pair_fits : (conflicts : ℕ) (r : PairResult) → IsAnswered w.graph conflicts o r → PairFits s cut conflicts p r
   pair_fits conflicts r h = record {
     name_is = h.name_is ∙ k.name_is;
     size_is = subst (IsEventSize s (Left p.left.0) (Right p.right.0)) (sym h.size_is) k.size_is;
-    answer_is = answer_fits conflicts r.answer r.proof h.answer_is;
+    answer_is = answer_fits (asks s w (Left p.left.0) (Right p.right.0) k.query is k.asks) o k.only (IsDecisive s cut p.left.0 p.right.0) k.decisive_is.0 (λ e d. true_not_false (sym (k.decisive_is.1 d) ∙ e)) conflicts
+        r.answer r.proof h.answer_is;
   }
 
   pub frame_is : (place : ℕ) (bits : List Bool) → IsDifferenceOf w.graph o.queries place bits → IsFrameOf s w p o.queries place bits

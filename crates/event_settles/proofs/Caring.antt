@@ -13,6 +13,7 @@ use Rattle.circuit_theory.specs.EventFrames.{AreNodeVariables, IsPairTree, frame
 use Rattle.circuit_theory.specs.Frame.{EventSide}
 use Rattle.base_tables.specs.Table.{AreDistinct}
 use Rattle.aig.specs.declared.node.Node.{Node}
+use Rattle.aig.specs.Builds.{TakesBits, ReadOnly}
 use Rattle.aig.specs.Graph.{IsGraph}
 use Rattle.aig.specs.Values.{value}
 use Rattle.obligations.specs.outcome.Proof.{Proof}
@@ -24,7 +25,6 @@ use Rattle.event_nodes.specs.Nodes.{EventGraphView, IsEventGraph, named_places, 
 use Rattle.class_search.specs.event_variables.Variables.{variable_of, variables_of}
 use Rattle.class_search.proofs.event_variables.Named.{named_distinct}
 use Rattle.sec_setup.specs.declared.ports.pairs.SignalPair.{SignalPair}
-use Rattle.event_form.specs.Answers.{TakesBits, ReadOnly}
 use Rattle.event_form.specs.Asked.{IsAskedOf, AreAsked}
 use Rattle.event_form.proofs.event_agreement.FrameBits.{bits_take_frame}
 use Rattle.event_form.proofs.event_agreement.PairQueries.{is_query, within, are_variables, care_value}

@@ -5,12 +5,12 @@ use Rattle.circuit_theory.specs.Tree.{Tree}
 use Rattle.circuit_theory.specs.EventFrames.{AreNodeVariables}
 use Rattle.base_tables.specs.Table.{AreDistinct}
 use Rattle.aig.specs.declared.node.Node.{Node}
+use Rattle.aig.specs.Builds.{TakesBits, ReadOnly}
 use Rattle.aig.specs.Graph.{IsGraph}
 use Rattle.aig.specs.Values.{value}
 use Rattle.obligations.specs.cnf_encode.Encoding.{IsEncoding}
 use Rattle.obligations.specs.sat_search.Found.{IsFruitless}
 use Rattle.obligations.specs.outcome.Proof.{Proof}
-use Rattle.event_form.specs.Answers.{TakesBits, ReadOnly}
 
 -- The query of a care has more than 16 variables, which are those of these trees. The proof that is kept has the clauses of a literal that is 1 in
 -- exactly the frames with care, against the literal 0. Its cone reads none but these variables, no place has two variables, and it isn't the literal 0.

@@ -104,11 +104,10 @@ module _ {P : Type 0} (c : Assumption) (d e : Circuit P) (same : AreSame d e) (s
     right_tree = k.right_tree;
     left_unfolds = (trees None p [] k.left_tree).0 k.left_unfolds;
     right_unfolds = (trees None q [] k.right_tree).0 k.right_unfolds;
-    same = λ bits care. k.same bits (record {
-      left = (care_same d e itself second part some_values meets order order class number_up number_down p bits).1 care.left;
-      right = (care_same d e itself second part some_values meets order order class number_up number_down q bits).1 care.right;
-      meets = λ node h. care.meets node (variable_up p q node h);
-    });
+    same = λ bits care. k.same bits (
+      ((care_same d e itself second part some_values meets order order class number_up number_down p bits).1 care.0.0, (care_same d e itself second part some_values meets order order class number_up number_down q bits).1 care.0.1),
+      λ node h. care.1 node (variable_up p q node h),
+    );
   }
 
 -- inputs of the same names are read

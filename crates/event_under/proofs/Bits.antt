@@ -11,7 +11,7 @@ use Rattle.circuit_theory.proofs.Numbers.{same_name-refl}
 use Rattle.circuit_theory.specs.EventFrames.{frame_of}
 use Rattle.base_tables.specs.Table.{AreDistinct}
 use Rattle.obligations.specs.outcome.pair_decide.Queries.{assigned_to}
-use Rattle.event_form.specs.Answers.{TakesBits}
+use Rattle.aig.specs.Builds.{TakesBits}
 use Rattle.event_under.specs.Asked.{variable_in, variables_in}
 
 module _ (places : List (ℕ × List ℕ)) (distinct : AreDistinct places) (v : ℕ) (p : ℕ × List ℕ) (at : slice_get places v ≡ Some p) where

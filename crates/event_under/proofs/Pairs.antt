@@ -1,56 +1,39 @@
 -- What answers to the query of a pair under an assumption say of its event functions.
-use Rattle.std.proofs.Common.{◌≡◌, ◌∙◌, ℕ, zero, suc, ◌^◌, ◌<◌, ◌≤◌, Bool, true, false, List, [], ◌∷◌, length, get_or, slice_get, Option, Some, None, refl, sym, ap, subst, arith, inl, inr}
-use Rattle.std.specs.List.{All, Contains}
-use Rattle.std.proofs.lemmas.List.Elements.{All-contains, All-head}
-use Rattle.std.proofs.lemmas.Option.{none-some, same_Some, slice_get-get_or}
+use Rattle.std.proofs.Common.{◌≡◌, ◌∙◌, ℕ, ◌^◌, ◌<◌, ◌≤◌, Bool, true, false, List, [], length, slice_get, Some, refl, sym, ap, subst}
+use Rattle.std.proofs.lemmas.List.Elements.{All-contains}
+use Rattle.std.proofs.lemmas.Option.{slice_get-get_or}
 use Rattle.circuit_theory.specs.Joined.{Either, Left, Right}
 use Rattle.circuit_theory.specs.Names.{same_name}
 use Rattle.circuit_theory.specs.Query as frame_query
 use Rattle.circuit_theory.specs.Query.{Variable, bits_of}
 use Rattle.circuit_theory.specs.Tree.{tree_value}
-use Rattle.circuit_theory.proofs.Lists.{Contains-map, length-map}
-use Rattle.circuit_theory.specs.EventFrames.{IsEventSize, frame_of}
+use Rattle.circuit_theory.proofs.Lists.{length-map}
+use Rattle.circuit_theory.specs.EventFrames.{IsEventSize, event_pair, frame_of}
 use Rattle.circuit_theory.specs.Frame.{EventSide}
 use Rattle.base_tables.specs.Table.{AreDistinct}
-use Rattle.sec_base.specs.declared.basics.PairAnswer.{PairAnswer}
-use Rattle.sec_base.specs.declared.basics.PairAnswer.TheVariants as answer
 use Rattle.aig.specs.declared.node.Node.{Node}
 use Rattle.aig.specs.Values.{value}
-use Rattle.obligations.specs.outcome.pair_decide.Decision.TheVariants as decision
-use Rattle.obligations.specs.outcome.pair_decide.Proof.{Proof}
 use Rattle.obligations.specs.outcome.pair_decide.Query.{Query}
-use Rattle.obligations.specs.outcome.pair_decide.Answers.{IsDifference, IsAtLimit}
-use Rattle.obligations.specs.outcome.pair_decide.Queries.{IsSame, IsLeast, Distinguishes, assigned_to, roots_of}
-use Rattle.swept_queries.specs.InStead.{IsInStead, DecidesInStead}
+use Rattle.obligations.specs.outcome.pair_decide.Answers.{IsDifference}
+use Rattle.obligations.specs.outcome.pair_decide.Queries.{IsLeast, Distinguishes, assigned_to}
 use Rattle.event_nodes.specs.Nodes.{EventGraphView}
 use Rattle.event_nodes.specs.event_variables.Variables.{variables_of}
 use Rattle.sec_setup.specs.declared.ports.pairs.SignalPair.{SignalPair}
 use Rattle.obligations.specs.declared.obligation.Obligation.{Obligation}
-use Rattle.obligations.specs.Decided.{AnswerIs, IsAnswered}
-use Rattle.obligations.specs.Found.{Differ}
+use Rattle.obligations.specs.Decided.{IsAnswered}
+use Rattle.obligations.proofs.Fits.{AsksPair, answer_fits}
 use Rattle.obligations.specs.declared.outcome.verdict.PairResult.{PairResult}
-use Rattle.event_form.specs.Answers.{ReadOnly}
-use Rattle.assume_laws.specs.Assume.{Assumption, HaveEqualEventsUnder}
-use Rattle.assume_laws.specs.Sequences.{IsEventPairQueryUnder, IsEventDifferenceUnder, IsUnshownFrameUnder, HaveDifferentEventsUnder}
+use Rattle.event_form.specs.Asked.{IsDecisive}
+use Rattle.assume_laws.specs.Assume.{Assumption, under}
+use Rattle.assume_laws.specs.Sequences.{IsEventPairQueryUnder, IsEventDifferenceUnder, IsUnshownFrameUnder}
 use Rattle.event_under.specs.Asked.{variable_in, variables_in, AsksUnder, IsAskedUnder}
-use Rattle.event_under.specs.Answers.{IsUndecidedUnder, AnswerFitsUnder, PairFitsUnder}
+use Rattle.event_under.specs.Answers.{PairFitsUnder}
 use Rattle.event_under.specs.Laws.{PairsFitUnder, IsFrameDifferenceUnder, DifferencesShowUnder}
 use Rattle.event_under.proofs.Bits.{bits_take, assignment_in, takes_assignment}
 
 module _ (c : Assumption) (s : EventSide (Either ℕ ℕ)) (g : List Node) (places : List (ℕ × List ℕ)) (p q : Either ℕ ℕ) (sides : List (Variable (List ℕ))) (query : Query) (distinct : AreDistinct places) (k : AsksUnder c s g places p q sides query) where
   abbrev variables : List (Variable (List ℕ))
   variables = variables_in places query.vars
-
-  pub same_events : IsSame g query → HaveEqualEventsUnder c s p q
-  same_events same = record {
-    left_tree = k.left_tree;
-    right_tree = k.right_tree;
-    left_unfolds = k.left_unfolds;
-    right_unfolds = k.right_unfolds;
-    same = λ bits care.
-        sym (k.left_value bits (assignment_in places bits) (takes_assignment places bits))
-        ∙ (same (assignment_in places bits) ((k.care_value bits (assignment_in places bits) (takes_assignment places bits)).1 care) ∙ k.right_value bits (assignment_in places bits) (takes_assignment places bits));
-  }
 
   -- the frame of bits of the variables
   abbrev frame : List Bool → ℕ → List ℕ → Bool
@@ -133,93 +116,33 @@ module _ (c : Assumption) (s : EventSide (Either ℕ ℕ)) (g : List Node) (plac
     shown = shown_frame bits d;
   }
 
-  different_events : (bits : List Bool) → IsDifference g query bits → HaveDifferentEventsUnder c s p q
-  different_events bits d =
-      let f = shown_frame bits d in
-      record {
-        left_tree = f.left_tree;
-        right_tree = f.right_tree;
-        left_unfolds = f.left_unfolds;
-        right_unfolds = f.right_unfolds;
-        bits = frame bits;
-        care = f.care;
-        differ = λ e. f.differ (f.left_value ∙ (e ∙ sym f.right_value));
-      }
-
-  read_own : (h : List Node) (r : Query) → IsInStead g query h r → ReadOnly h places (roots_of r) variables
-  read_own h r stands n v reached at =
-      let here : Contains query.vars v = subst (λ (vs : List ℕ). Contains vs v) stands.vars (stands.query.covers n v reached at) in
-      let below : v < length places = All-contains (λ u. u < length places) query.vars v k.within here in
-      (get_or places v (0, []), slice_get-get_or places v (0, []) below, Contains-map (variable_in places) query.vars v here)
-
-  undecided : (conflicts : ℕ) (proof : Proof) (h : List Node) (r : Query) → IsInStead g query h r → IsAtLimit h r conflicts proof → IsUndecidedUnder c s conflicts p q proof
-  undecided conflicts proof h r stands limit = record {
+  -- the query asks about the pair under the assumption
+  pub asks_under : AsksPair (under c (event_pair s p q)) g places (variable_in places) frame query
+  asks_under = record {
     left_tree = k.left_tree;
     right_tree = k.right_tree;
     left_unfolds = k.left_unfolds;
     right_unfolds = k.right_unfolds;
-    two_trees = λ e. limit.wide.apart (stands.trivial (inl (k.one_literal e)));
-    variables = variables;
     are_variables = k.are_variables;
-    many = (let long = variables_long in omega (arith, long, ap length stands.vars, limit.wide.many));
-    graph = h;
-    places = places;
     distinct = distinct;
-    left_lit = r.left.0;
-    right_lit = r.right.0;
-    care_lit = r.care.0;
-    is_graph = stands.graph;
-    left_within = stands.query.left;
-    right_within = stands.query.right;
-    care_within = stands.query.care;
-    own = read_own h r stands;
-    left_value = λ bits y takes_y. stands.left y ∙ k.left_value bits y takes_y;
-    right_value = λ bits y takes_y. stands.right y ∙ k.right_value bits y takes_y;
-    care_value = λ bits y takes_y. (
-      λ e. (k.care_value bits y takes_y).0 (sym (stands.care y) ∙ e),
-      λ e. stands.care y ∙ (k.care_value bits y takes_y).1 e,
-    );
-    sides = λ e. limit.wide.apart (inl e);
-    care = λ e. limit.wide.apart (inr e);
-    clauses = limit.encoding;
-    log = limit.fruitless;
+    named = λ v here. slice_get-get_or places v (0, []) (All-contains (λ u. u < length places) query.vars v k.within here);
+    one_literal = k.one_literal;
+    left_value = k.left_value;
+    right_value = k.right_value;
+    care_value = k.care_value;
+    takes = takes;
   }
-
--- one of one query is that query
-pub only_query : (q : Query) (queries : List Query) (i : ℕ) (r : Query) → queries ≡ q ∷ [] → slice_get queries i ≡ Some r → r ≡ q
-only_query q queries i r e at = go i (ap (λ (qs : List Query). slice_get qs i) (sym e) ∙ at)
-  where
-    go : (j : ℕ) → slice_get (q ∷ []) j ≡ Some r → r ≡ q
-    go zero h = sym (same_Some q r h)
-    go (suc j) h = absurd (none-some r h)
 
 true_not_false : true ≡ false → ⊥
 true_not_false e = cc
 
 module _ (c : Assumption) (s : EventSide (Either ℕ ℕ)) (w : EventGraphView) (g : List Node) (places : List (ℕ × List ℕ)) (cut : Bool) (p : SignalPair) (o u : Obligation) (distinct : AreDistinct places) (k : IsAskedUnder c s w g places cut p o u) where
-  abbrev sides : List (Variable (List ℕ))
-  sides = variables_of w k.plain.query.vars
-
-  differ : Differ g u.queries → HaveDifferentEventsUnder c s (Left p.left.0) (Right p.right.0)
-  differ d = different_events c s g places (Left p.left.0) (Right p.right.0) sides k.query distinct k.asks d.bits (subst (λ (r : Query). IsDifference g r d.bits) (only_query k.query u.queries d.place d.is.query k.only d.is.first.at) d.is.differs)
-
-  answer_fits : (conflicts : ℕ) (y : PairAnswer) (proof : Option Proof) → AnswerIs g conflicts u y proof → AnswerFitsUnder c s cut conflicts p.left.0 p.right.0 y proof
-  answer_fits conflicts answer.Equal None h = same_events c s g places (Left p.left.0) (Right p.right.0) sides k.query distinct k.asks (All-head (IsSame g) k.query [] (subst (All (IsSame g)) k.only h))
-  answer_fits conflicts answer.Equal (Some proof) h = absurd h
-  answer_fits conflicts answer.Different None h = (k.plain.decisive_is.0 (sym k.decisive_is ∙ h.0), differ h.1)
-  answer_fits conflicts answer.Different (Some proof) h = absurd h
-  answer_fits conflicts answer.NotShown None h = ((λ d. true_not_false (sym (k.plain.decisive_is.1 d) ∙ (sym k.decisive_is ∙ h.0))), differ h.1)
-  answer_fits conflicts answer.NotShown (Some proof) h = absurd h
-  answer_fits conflicts answer.Limit None h = absurd h
-  answer_fits conflicts answer.Limit (Some proof) h =
-      let d : DecidesInStead g k.query conflicts (decision.Limit proof) = subst (λ (r : Query). DecidesInStead g r conflicts (decision.Limit proof)) (only_query k.query u.queries h.place h.query k.only h.first.at) h.limit in
-      undecided c s g places (Left p.left.0) (Right p.right.0) sides k.query distinct k.asks conflicts proof d.graph d.asked d.stands d.decides
-
   pair_fits : (conflicts : ℕ) (r : PairResult) → IsAnswered g conflicts u r → PairFitsUnder c s cut conflicts p r
   pair_fits conflicts r h = record {
     name_is = h.name_is ∙ (k.name_is ∙ k.plain.name_is);
     size_is = subst (IsEventSize s (Left p.left.0) (Right p.right.0)) (sym (h.size_is ∙ k.size_is)) k.plain.size_is;
-    answer_is = answer_fits conflicts r.answer r.proof h.answer_is;
+    answer_is = answer_fits (asks_under c s g places (Left p.left.0) (Right p.right.0) (variables_of w k.plain.query.vars) k.query distinct k.asks) u k.only (IsDecisive s cut p.left.0 p.right.0)
+        (λ e. k.plain.decisive_is.0 (sym k.decisive_is ∙ e)) (λ e d. true_not_false (sym (k.plain.decisive_is.1 d) ∙ (sym k.decisive_is ∙ e))) conflicts r.answer r.proof h.answer_is;
   }
 
 pub pairs_fit : PairsFitUnder

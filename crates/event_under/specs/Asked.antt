@@ -8,6 +8,7 @@ use Rattle.circuit_theory.specs.Tree.{Tree, tree_value}
 use Rattle.circuit_theory.specs.EventFrames.{AreNodeVariables}
 use Rattle.circuit_theory.specs.Frame.{EventSide, EventUnfolds}
 use Rattle.aig.specs.declared.node.Node.{Node}
+use Rattle.aig.specs.Builds.{TakesBits}
 use Rattle.aig.specs.Values.{value}
 use Rattle.obligations.specs.outcome.pair_decide.Query.{Query}
 use Rattle.obligations.specs.outcome.pair_decide.Queries.{IsQuery}
@@ -15,7 +16,6 @@ use Rattle.event_nodes.specs.Nodes.{EventGraphView}
 use Rattle.event_nodes.specs.event_variables.Variables.{variables_of}
 use Rattle.sec_setup.specs.declared.ports.pairs.SignalPair.{SignalPair}
 use Rattle.obligations.specs.declared.obligation.Obligation.{Obligation}
-use Rattle.event_form.specs.Answers.{TakesBits}
 use Rattle.event_form.specs.Asked.{IsAskedOf}
 use Rattle.assume_laws.specs.Assume.{Assumption, HasCareUnder}
 use Rattle.assume_laws.specs.Sequences.{IsPairTreeUnder, IsSideTree}

@@ -1,6 +1,7 @@
 pub mod Places
 pub mod Growth
 pub mod NextSet
+pub mod InitSet
 pub mod Nets
 pub mod Drivers
 pub mod Weighing

@@ -57,6 +57,16 @@ next_set (l ∷ ls) (suc j) next = l ∷ next_set ls j next
 abbrev pub with_next : NetView → ℕ → Signal → NetView
 with_next n j next = record n { latches = next_set n.latches j next }
 
+-- the latches with another initial value at place j
+abbrev pub init_set : List LatchAt → ℕ → Init → List LatchAt
+init_set [] j init = []
+init_set (l ∷ ls) zero init = (record l { init = init }) ∷ ls
+init_set (l ∷ ls) (suc j) init = l ∷ init_set ls j init
+
+-- latch j has another initial value
+abbrev pub with_init : NetView → ℕ → Init → NetView
+with_init n j init = record n { latches = init_set n.latches j init }
+
 -- a clock of this name
 abbrev pub with_clock : NetView → List ℕ → NetView
 with_clock n name = record n { clock = Some name }

@@ -74,7 +74,7 @@ module _ (d e : Circuit (Either ℕ ℕ)) (same : AreSame d e) (some_values : Ei
       go tree (inr (inr care)) = inr (inr (care_up q tree care))
 
   pub care_back_under : (c : Assumption) (p q : Either ℕ ℕ) (bits : ℕ → List ℕ → Bool) → HasCareUnder c t p q bits → HasCareUnder c s p q bits
-  care_back_under c p q bits h = record { left = care_back p bits h.left; right = care_back q bits h.right; meets = λ node v. h.meets node (variable_up p q node v) }
+  care_back_under c p q bits h = ((care_back p bits h.0.0, care_back q bits h.0.1), λ node v. h.1 node (variable_up p q node v))
 
 -- inputs of the same names are read
 reads_same : (c : Assumption) (d e : Circuit ℕ) (order : List ℕ) → AreSame d e → ReadsInputs c d order → ReadsInputs c e order

@@ -1,3 +1,4 @@
+pub mod Fits
 pub mod Listed
 pub mod Swept
 pub mod Steps

@@ -1,6 +1,7 @@
 pub mod Asked
 pub mod Found
 pub mod Decided
+pub mod Fits
 pub mod Verdict
 pub mod outcome
 pub mod aig

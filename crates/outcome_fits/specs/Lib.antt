@@ -1,7 +1,5 @@
 pub mod Fitting
-pub mod Limits
 pub mod Outcome
-pub mod ResetLimits
 pub mod ResetOutcome
 pub mod plain_meaning
 pub use Rattle.sec_setup.specs.Cuts

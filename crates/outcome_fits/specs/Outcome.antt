@@ -1,10 +1,9 @@
 -- What it means that what is found of some pairs fits two circuits, in the plain form.
-use Rattle.std.specs.Prelude.{◌≡◌, ◌≢◌, ℕ, ◌<◌, Bool, true, false, List, length, Option, Some, None, slice_get}
+use Rattle.std.specs.Prelude.{◌≡◌, ◌≢◌, ℕ, ◌<◌, Bool, true, false, List, length, Option, Some, slice_get}
 use Rattle.std.specs.List.{All, AllZip}
 use Rattle.circuit_theory.specs.Circuit.{Circuit}
 use Rattle.circuit_theory.specs.Fits.{IsPairDepth, IsWitness}
-use Rattle.circuit_theory.specs.Query.{Distinguishes, pair_query}
-use Rattle.circuit_theory.specs.Tree.{Tree, Unfolds, HaveEqualFunctions}
+use Rattle.circuit_theory.specs.Asked.{AreDifferent, plain_pair}
 use Rattle.sec_setup.specs.sec_base.PairAnswer.{PairAnswer}
 use Rattle.sec_setup.specs.sec_base.PairAnswer.TheVariants as answer
 use Rattle.obligations.specs.outcome.Proof.{Proof}
@@ -18,34 +17,20 @@ use Rattle.obligations.specs.declared.outcome.verdict.LimitAt.TheVariants as lim
 use Rattle.sec_setup.specs.ports.Pairs.{NamedPair}
 pub use Rattle.obligations.specs.Decided.{NoneIs}
 pub use Rattle.obligations.specs.Verdict.{greatest_size}
-use Rattle.outcome_fits.specs.Limits.{IsUndecided}
+use Rattle.obligations.specs.Fits as fits
 
 -- both sides of a pair unfold, to functions that some assignment makes differ
-pub record HaveDifferentFunctions {P Q : Type 0} (a : Circuit P) (b : Circuit Q) (left right : List ℕ) (p : P) (q : Q) : Type 0 where
-  pub left_depth : ℕ
-  pub right_depth : ℕ
-  pub left_tree : Tree ℕ
-  pub right_tree : Tree ℕ
-  pub left_unfolds : Unfolds a left p 0 left_depth left_tree
-  pub right_unfolds : Unfolds b right q 0 right_depth right_tree
-  pub assignment : ℕ → ℕ → Bool
-  pub differs : Distinguishes (pair_query left_tree right_tree) assignment
+abbrev pub HaveDifferentFunctions : {P Q : Type 0} → Circuit P → Circuit Q → List ℕ → List ℕ → P → Q → Type 0
+HaveDifferentFunctions a b left right p q = AreDifferent (plain_pair a b left right p q)
 
 -- how a pair is answered whose functions differ: where latches are cut open it isn't shown that the circuits differ
 abbrev pub differing : Bool → PairAnswer
 differing false = answer.Different
 differing true = answer.NotShown
 
--- What each answer says of a pair, and the proof that stands beside it: one at the limit alone. `cut` says that latches are cut open.
+-- What each answer says of a pair, and the proof that stands beside it. `cut` says that latches are cut open.
 abbrev pub AnswerFits : {P Q : Type 0} → Circuit P → Circuit Q → List ℕ → List ℕ → Bool → ℕ → P → Q → PairAnswer → Option Proof → Type 0
-AnswerFits a b left right cut conflicts p q answer.Equal None = HaveEqualFunctions a b left right p q
-AnswerFits a b left right cut conflicts p q answer.Equal (Some proof) = ⊥
-AnswerFits a b left right cut conflicts p q answer.Different None = (cut ≡ false) × HaveDifferentFunctions a b left right p q
-AnswerFits a b left right cut conflicts p q answer.Different (Some proof) = ⊥
-AnswerFits a b left right cut conflicts p q answer.NotShown None = (cut ≡ true) × HaveDifferentFunctions a b left right p q
-AnswerFits a b left right cut conflicts p q answer.NotShown (Some proof) = ⊥
-AnswerFits a b left right cut conflicts p q answer.Limit None = ⊥
-AnswerFits a b left right cut conflicts p q answer.Limit (Some proof) = IsUndecided a b left right conflicts p q proof
+AnswerFits a b left right cut conflicts p q result proof = fits.AnswerFits (plain_pair a b left right p q) (cut ≡ false) conflicts result proof
 
 -- the result of a pair: its name, the greater of both depths, and the answer on both functions
 pub record PairFits {P Q : Type 0} (a : Circuit P) (b : Circuit Q) (left right : List ℕ) (cut : Bool) (conflicts : ℕ) (x : NamedPair P Q) (result : PairResult) : Type 0 where

@@ -1,10 +1,9 @@
 -- What it means that what is found of some pairs fits two circuits whose runs begin with the latches' initial values.
-use Rattle.std.specs.Prelude.{◌≡◌, ◌≢◌, ℕ, ◌<◌, ◌≤◌, Bool, List, length, Option, Some, None, slice_get}
+use Rattle.std.specs.Prelude.{◌≡◌, ◌≢◌, ℕ, ◌<◌, ◌≤◌, List, length, Option, Some, slice_get}
 use Rattle.circuit_theory.specs.Circuit.{Circuit}
 use Rattle.circuit_theory.specs.Fits.{IsPairDepth}
-use Rattle.circuit_theory.specs.Query.{Distinguishes, pair_query}
-use Rattle.circuit_theory.specs.Tree.{Tree}
-use Rattle.circuit_laws.specs.reset_laws.Reset.{ResetUnfolds, HaveEqualResets, IsResetWitness}
+use Rattle.circuit_theory.specs.Asked.{AskedPair, AreEqual, AreDifferent}
+use Rattle.circuit_laws.specs.reset_laws.Reset.{IsResetWitness, reset_pair}
 use Rattle.sec_setup.specs.sec_base.PairAnswer.{PairAnswer}
 use Rattle.sec_setup.specs.sec_base.PairAnswer.TheVariants as answer
 use Rattle.obligations.specs.outcome.Proof.{Proof}
@@ -13,7 +12,7 @@ use Rattle.sec_setup.specs.witness_report.PairName.{PairName}
 use Rattle.sec_setup.specs.ports.Pairs.{NamedPair}
 pub use Rattle.obligations.specs.Decided.{NoneIs}
 pub use Rattle.obligations.specs.Verdict.{greatest_size}
-use Rattle.outcome_fits.specs.ResetLimits.{IsUndecidedAt}
+use Rattle.obligations.specs.Fits.{AreEqualBefore, AnswersFit}
 use Rattle.obligations.specs.declared.outcome.verdict.ResetWitness.{ResetWitness}
 
 -- Two circuits with the numbers of their inputs' and their latches' variables, and the names of the inputs' numbers.
@@ -26,33 +25,25 @@ pub record Numbered : Type 0 where
   pub right_base : ℕ
   pub columns : List (List ℕ)
 
+-- a pair as it is asked in the cycle
+abbrev pub pair_at : Numbered → ℕ → ℕ → ℕ → AskedPair ℕ
+pair_at n p q t = reset_pair n.a n.b n.left n.right n.left_base n.right_base p q t
+
 -- both functions of a pair agree in the cycle under each assignment
 abbrev pub AgreeAt : Numbered → ℕ → ℕ → ℕ → Type 0
-AgreeAt n p q t = HaveEqualResets n.a n.b n.left n.right n.left_base n.right_base p q t
+AgreeAt n p q t = AreEqual (pair_at n p q t)
 
 -- they do in each cycle before this one
 abbrev pub AgreeBefore : Numbered → ℕ → ℕ → ℕ → Type 0
-AgreeBefore n p q t = (s : ℕ) → s < t → AgreeAt n p q s
+AgreeBefore n p q t = AreEqualBefore (pair_at n p q) t
 
 -- some assignment makes them differ in the cycle
-pub record DifferAt (n : Numbered) (p q t : ℕ) : Type 0 where
-  pub left_tree : Tree ℕ
-  pub right_tree : Tree ℕ
-  pub left_unfolds : ResetUnfolds n.a n.left n.left_base p t left_tree
-  pub right_unfolds : ResetUnfolds n.b n.right n.right_base q t right_tree
-  pub assignment : ℕ → ℕ → Bool
-  pub differs : Distinguishes (pair_query left_tree right_tree) assignment
+abbrev pub DifferAt : Numbered → ℕ → ℕ → ℕ → Type 0
+DifferAt n p q t = AreDifferent (pair_at n p q t)
 
--- What each answer says of a pair of this depth, by the first of its cycles up to the depth in which it isn't equal, and the proof that
--- stands beside it: one at the limit alone.
+-- What each answer says of a pair of this depth, by the first of its cycles up to the depth in which it isn't equal.
 abbrev pub AnswerFits : Numbered → ℕ → ℕ → ℕ → ℕ → PairAnswer → Option Proof → Type 0
-AnswerFits n conflicts p q depth answer.Equal None = (t : ℕ) → t ≤ depth → AgreeAt n p q t
-AnswerFits n conflicts p q depth answer.Equal (Some proof) = ⊥
-AnswerFits n conflicts p q depth answer.Different None = (t : ℕ) × (t ≤ depth) × AgreeBefore n p q t × DifferAt n p q t
-AnswerFits n conflicts p q depth answer.Different (Some proof) = ⊥
-AnswerFits n conflicts p q depth answer.NotShown proof = ⊥
-AnswerFits n conflicts p q depth answer.Limit None = ⊥
-AnswerFits n conflicts p q depth answer.Limit (Some proof) = (t : ℕ) × (t ≤ depth) × AgreeBefore n p q t × IsUndecidedAt n.a n.b n.left n.right n.left_base n.right_base conflicts p q t proof
+AnswerFits n conflicts p q depth result proof = AnswersFit (pair_at n p q) conflicts depth result proof
 
 -- the result of a pair: its name, the greater of both depths, and the answer
 pub record PairFits (n : Numbered) (conflicts : ℕ) (x : NamedPair ℕ ℕ) (result : PairResult) : Type 0 where

@@ -1,3 +1,2 @@
 pub use Rattle.outcome_fits.specs.Fitting
-pub use Rattle.outcome_fits.specs.Limits
 pub use Rattle.outcome_fits.specs.Outcome

@@ -147,7 +147,7 @@ module _ (a b : NetView) (conflicts : ℕ) (o : Outcome) (fits : ResetOutcomeFit
     earlier n left right alike t low before =
         let e = f.agree_before t before in
         reset_same_at (circuit_of a) (circuit_of b) fits.left fits.right fits.left_base fits.right_base numbered fits.based left right n alike (λ (row : ℕ → Bool). Unit {0}) (λ s h row of_run. tt)
-        f.place.left f.place.right t e.left_tree e.right_tree low e.left_unfolds e.right_unfolds (λ x cared. e.same x)
+        f.place.left f.place.right t e.left_tree e.right_tree low e.left_unfolds e.right_unfolds (λ x cared. e.same x tt)
 
     first_differs : MakesResetsDiffer (circuit_of a) (circuit_of b) w
     first_differs = record {

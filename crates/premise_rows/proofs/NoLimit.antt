@@ -128,13 +128,13 @@ module _ (settings : Settings) (proofs : List Proof) (before now : Option (List 
     where
       by_right : (tree : Tree ℕ) → HasLeaf x tree → (u.undecided.right_tree ≡ tree) ⊎ Contains [] tree → (x.at ≡ 0) × (x.input < length columns)
       by_right tree found (inl same) =
-          leaf_is_low u.right_net u.right_cut names u.are_cut.right_circuit unexposed right.latches columns u.right u.left u.right_numbers right_all u.named.right u.undecided.right_depth u.undecided.right_tree u.undecided.right_unfolds x
+          leaf_is_low u.right_net u.right_cut names u.are_cut.right_circuit unexposed right.latches columns u.right u.left u.right_numbers right_all u.named.right u.undecided.right_unfolds.0 u.undecided.right_tree u.undecided.right_unfolds.1 x
           (subst (HasLeaf x) (sym same) found)
       by_right tree found (inr none) = absurd (none_in tree none)
 
       by : (tree : Tree ℕ) → HasLeaf x tree → (u.undecided.left_tree ≡ tree) ⊎ Contains (u.undecided.right_tree ∷ []) tree → (x.at ≡ 0) × (x.input < length columns)
       by tree found (inl same) =
-          leaf_is_low u.left_net u.left_cut names u.are_cut.left_circuit unexposed left.latches columns u.left u.right u.left_numbers left_all u.named.left u.undecided.left_depth u.undecided.left_tree u.undecided.left_unfolds x
+          leaf_is_low u.left_net u.left_cut names u.are_cut.left_circuit unexposed left.latches columns u.left u.right u.left_numbers left_all u.named.left u.undecided.left_unfolds.0 u.undecided.left_tree u.undecided.left_unfolds.1 x
           (subst (HasLeaf x) (sym same) found)
       by tree found (inr k) = by_right tree found (Contains-cases u.undecided.right_tree tree [] k)
 

@@ -5,7 +5,8 @@ use Rattle.circuit_theory.specs.declared.Mode.TheVariants.{Plain}
 use Rattle.circuit_theory.specs.Circuit.{Circuit, Latch, Named, IsLatch, Reads, Reaches}
 use Rattle.circuit_theory.specs.Depth.{LatchReads, LatchPath, HasCycle, IsDepth}
 use Rattle.circuit_theory.specs.Run.{NoneEnabled}
-use Rattle.circuit_theory.specs.Tree.{AreNumbered, HaveEqualFunctions}
+use Rattle.circuit_theory.specs.Asked.{HaveEqualFunctions}
+use Rattle.circuit_theory.specs.Tree.{AreNumbered}
 use Rattle.circuit_theory.specs.Agree.{cut, IsMinimalCut}
 use Rattle.circuit_theory.specs.Fits.{IsWitness}
 use Rattle.circuit_theory.specs.Interface.{AreNumbersOf}
@@ -81,12 +82,10 @@ module _ (names : List (List ℕ)) (a b c d : Circuit ℕ) (left_is : IsCutCircu
   -- equal functions over the circuits of cut nets are equal functions over the cut circuits
   pub cut_functions : (p q : ℕ) → HaveEqualFunctions c d left right p q → HaveEqualFunctions (cut names a) (cut names b) left right p q
   cut_functions p q e = record {
-    left_depth = e.left_depth;
-    right_depth = e.right_depth;
     left_tree = e.left_tree;
     right_tree = e.right_tree;
-    left_unfolds = same_tree c (cut names a) (same_as_cut names a c left_is) e.left_unfolds;
-    right_unfolds = same_tree d (cut names b) (same_as_cut names b d right_is) e.right_unfolds;
+    left_unfolds = (e.left_unfolds.0, same_tree c (cut names a) (same_as_cut names a c left_is) e.left_unfolds.1);
+    right_unfolds = (e.right_unfolds.0, same_tree d (cut names b) (same_as_cut names b d right_is) e.right_unfolds.1);
     same = e.same;
   }
 

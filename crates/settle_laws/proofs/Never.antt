@@ -120,7 +120,7 @@ without_care_never_settled_under c a b m n names left right class na nb da db le
     size (new_left a b m n names na nb da db least size l r alike) (new_right a b m n names na nb da db least size l r alike) (new_alike a b m n names na nb da db least size l r alike) (RowMeets c)
     (run_holds c (cut names a) left reads size (new_left a b m n names na nb da db least size l r alike)
     (cut_meets c names a na.single da size l (new_left a b m n names na nb da db least size l r alike) (λ s x k i. (left_kept a b m n names na nb da db least size l r alike s x k (Marked.input i)).1) meets))
-    t p q h (λ bits x y all. none bits (record { left = x; right = y; meets = λ node v. all node }))
+    t p q h (λ bits x y all. none bits ((x, y), λ node v. all node))
     (left_kept a b m n names na nb da db least size l r alike t p h lm).0 (right_kept a b m n names na nb da db least size l r alike t q h rm).0
 
 pub plain_pairs_settle : PlainPairsSettle

@@ -63,27 +63,12 @@ module _ (o : VariableOrder) (c : Assumption) (g : List Node) (table : List (ℕ
 
   -- a place of both trees is one of the query's variables, and the other way round
   variable_there : (k : ℕ) → HasVariableAt left right k → (v : ℕ) × Contains q.vars v × (place_of table v ≡ k)
-  variable_there k (i, one) = go one
-    where
-      y : Variable ℕ
-      y = record { input = i; at = k }
-
-      named : Contains (variables_of table q.vars) y → (v : ℕ) × Contains q.vars v × (place_of table v ≡ k)
-      named h = let v = Contains-map_from (variable_of table) q.vars y h in (v.0, v.1, ap (λ (z : Variable ℕ). z.at) v.2)
-
-      go : HasLeaf y left ⊎ HasLeaf y right → (v : ℕ) × Contains q.vars v × (place_of table v ≡ k)
-      go (inl h) = named ((x.sides.exactly y).1 (left, Contains-head left (right ∷ []), h))
-      go (inr h) = named ((x.sides.exactly y).1 (right, Contains-tail left right (right ∷ []) (Contains-head right []), h))
-
-  leaf_of : (y : Variable ℕ) → Contains (variables_of table q.vars) y → HasLeaf y left ⊎ HasLeaf y right
-  leaf_of y h = let l = (x.sides.exactly y).0 h in go l.0 (Contains-cases left l.0 (right ∷ []) l.1) l.2
-    where
-      go : (tree : Tree ℕ) → (left ≡ tree) ⊎ Contains (right ∷ []) tree → HasLeaf y tree → HasLeaf y left ⊎ HasLeaf y right
-      go tree (inl e) k = inl (subst (HasLeaf y) (sym e) k)
-      go tree (inr m) k = inr (subst (HasLeaf y) (sym (only right tree m)) k)
+  variable_there k (tree, i, one, stands) =
+      let v = Contains-map_from (variable_of table) q.vars (record { input = i; at = k }) ((x.sides.exactly (record { input = i; at = k })).1 (tree, one, stands)) in
+      (v.0, v.1, ap (λ (z : Variable ℕ). z.at) v.2)
 
   there : (v : ℕ) → Contains q.vars v → HasVariableAt left right (place_of table v)
-  there v h = ((variable_of table v).input, leaf_of (variable_of table v) (Contains-map (variable_of table) q.vars v h))
+  there v h = let l = (x.sides.exactly (variable_of table v)).0 (Contains-map (variable_of table) q.vars v h) in (l.0, (variable_of table v).input, l.1, l.2)
 
   forth : (bits : ℕ → ℕ → Bool) → MeetsAtVariables c left right bits → MeetsAtEach c table q.vars bits
   forth bits h v k = h (place_of table v) (there v k)
@@ -177,16 +162,11 @@ module _ (o : VariableOrder) (c : Assumption) (g : List Node) (table : List (ℕ
   }
     where
       to : (y : Variable ℕ) → Contains (variables_of table q.vars) y ⊎ ReadsAtOne c table q.vars y → (tree : Tree ℕ) × IsTreeUnder c left right tree × HasLeaf y tree
-      to y (inl h) = side (leaf_of y h)
-        where
-          side : HasLeaf y left ⊎ HasLeaf y right → (tree : Tree ℕ) × IsTreeUnder c left right tree × HasLeaf y tree
-          side (inl k) = (left, inl (inl refl), k)
-          side (inr k) = (right, inl (inr refl), k)
+      to y (inl h) = let l = (x.sides.exactly y).0 h in (l.0, inl l.1, l.2)
       to y (inr h) = (h.1, inr (place_of table h.0, there h.0 h.2, h.3), h.4)
 
       from : (y : Variable ℕ) (tree : Tree ℕ) → IsTreeUnder c left right tree → HasLeaf y tree → Contains (variables_of table q.vars) y ⊎ ReadsAtOne c table q.vars y
-      from y tree (inl (inl e)) h = inl ((x.sides.exactly y).1 (left, Contains-head left (right ∷ []), subst (HasLeaf y) e h))
-      from y tree (inl (inr e)) h = inl ((x.sides.exactly y).1 (right, Contains-tail left right (right ∷ []) (Contains-head right []), subst (HasLeaf y) e h))
+      from y tree (inl m) h = inl ((x.sides.exactly y).1 (tree, m, h))
       from y tree (inr (k, has, unfolds)) h =
           let v = variable_there k has in inr (v.0, tree, v.1, subst (λ (p : ℕ). PlaceUnfolds c.circuit c.order p c.output tree) (sym v.2) unfolds, h)
 

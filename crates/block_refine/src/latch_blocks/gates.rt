@@ -11,7 +11,7 @@ use sec_base::NoMemory;
 use std::alloc::Global;
 
 /// The cover of the gate with this number, of the literals of its fan-ins.
-pub(crate) fn gate_literal(
+pub fn gate_literal(
     alloc: Global,
     aig: &mut Aig,
     net: &Net,

@@ -12,7 +12,7 @@ use Rattle.circuit_theory.specs.Query.{Query, Variable, HasLeaf, HasLeafIn, Shif
 use Rattle.circuit_theory.specs.Agree.{IsPair}
 use Rattle.circuit_theory.specs.Fits.{MakesDiffer}
 use Rattle.circuit_theory.proofs.Inputs.{test_same}
-use Rattle.circuit_theory.proofs.Lists.{Contains-head, Contains-cases, only}
+use Rattle.circuit_theory.proofs.Lists.{Contains-head, Contains-tail, Contains-cases, only}
 use Rattle.call_rows.specs.circuit_samples.Circuits.{one, two, buffer, only_a, zero_cover, nil_a, ones, only_first}
 use Rattle.call_rows.proofs.circuit_samples.Samples.{one_net, two_net}
 use Rattle.call_rows.proofs.circuit_samples.PlainExamples.{one_unfolds, two_unfolds}
@@ -83,13 +83,13 @@ under_equal p q (IsPair.outputs {name = name} l r) =
     let left : 1 ≡ p = ap (λ (n : Named ℕ). n.place) (only (record { name = codes "y"; place = 1 }) (record { name = name; place = p }) l) in
     let right : 2 ≡ q = ap (λ (n : Named ℕ). n.place) (only (record { name = codes "y"; place = 2 }) (record { name = name; place = q }) r) in
     subst (λ x. HaveEqualFunctionsUnder only_a one two (0 ∷ []) (0 ∷ []) x q) left (subst (λ x. HaveEqualFunctionsUnder only_a one two (0 ∷ []) (0 ∷ []) 1 x) right (record {
-      left_depth = 1;
-      right_depth = 2;
       left_tree = Leaf 0 1;
       right_tree = Leaf 0 2;
-      left_unfolds = one_unfolds;
-      right_unfolds = two_unfolds;
-      same = λ x meets. meets_row (λ i. x i 1) (meets 1 (0, inl HasLeaf.leaf)) ∙ sym (meets_row (λ i. x i 2) (meets 2 (0, inr HasLeaf.leaf)));
+      left_unfolds = (1, one_unfolds);
+      right_unfolds = (2, two_unfolds);
+      same = λ x care.
+          meets_row (λ i. x i 1) (care.1 1 (Leaf 0 1, 0, Contains-head (Leaf 0 1) (Leaf 0 2 ∷ []), HasLeaf.leaf))
+          ∙ sym (meets_row (λ i. x i 2) (care.1 2 (Leaf 0 2, 0, Contains-tail (Leaf 0 1) (Leaf 0 2) (Leaf 0 2 ∷ []) (Contains-head (Leaf 0 2) []), HasLeaf.leaf)));
     }))
 under_equal p q (IsPair.nexts h l r) = absurd (omega (arith, h.1))
 
@@ -116,10 +116,10 @@ under_witness = record {
   bits = true ∷ [];
   difference = record {
     are_sides = record { in_order = single; exactly = λ x. (λ h. subst Left (only v x h) (Leaf 0 2, Contains-head (Leaf 0 2) (Branch zero_cover Nil ∷ []), HasLeaf.leaf), λ h. side x h.0 h.1 h.2) };
-    are_variables = record { in_order = single; exactly = λ x. (λ h. subst Under (only v x h) (Leaf 0 2, inl (inl refl), HasLeaf.leaf), λ h. under x h.0 h.1 h.2) };
+    are_variables = record { in_order = single; exactly = λ x. (λ h. subst Under (only v x h) (Leaf 0 2, inl (Contains-head (Leaf 0 2) (Branch zero_cover Nil ∷ [])), HasLeaf.leaf), λ h. under x h.0 h.1 h.2) };
     each = refl;
     query = query;
-    asks = record { left_is = λ x. refl; right_is = λ x. refl; care_is = λ x. (λ e at h. row_meets (λ i. x i at) (ap (x 0) (sym (place at h)) ∙ e), λ all. meets_row (λ i. x i 2) (all 2 (0, inl HasLeaf.leaf))) };
+    asks = record { left_is = λ x. refl; right_is = λ x. refl; care_is = λ x. (λ e at h. row_meets (λ i. x i at) (ap (x 0) (sym (place at h)) ∙ e), λ all. meets_row (λ i. x i 2) (all 2 (Leaf 0 2, 0, Contains-head (Leaf 0 2) (Branch zero_cover Nil ∷ []), HasLeaf.leaf))) };
     distinguishes = distinguishes;
     least = λ le. (1, refl, record { in_range = omega arith; distinguishes = distinguishes; least = least });
   };
@@ -165,21 +165,22 @@ under_witness = record {
     found : (x : Variable ℕ) → v ≡ x → Contains (v ∷ []) x
     found x e = subst (Contains (v ∷ [])) e (Contains-head v [])
 
-    side : (x : Variable ℕ) (tree : Tree ℕ) → Contains (Leaf 0 2 ∷ Branch zero_cover Nil ∷ []) tree → HasLeaf x tree → Contains (v ∷ []) x
-    side x tree h stands = go (Contains-cases (Leaf 0 2) tree (Branch zero_cover Nil ∷ []) h)
+    side_is : (x : Variable ℕ) (tree : Tree ℕ) → Contains (Leaf 0 2 ∷ Branch zero_cover Nil ∷ []) tree → HasLeaf x tree → v ≡ x
+    side_is x tree h stands = go (Contains-cases (Leaf 0 2) tree (Branch zero_cover Nil ∷ []) h)
       where
-        go : (Leaf 0 2 ≡ tree) ⊎ Contains (Branch zero_cover Nil ∷ []) tree → Contains (v ∷ []) x
-        go (inl e) = found x (leaf_is x tree stands (sym e))
+        go : (Leaf 0 2 ≡ tree) ⊎ Contains (Branch zero_cover Nil ∷ []) tree → v ≡ x
+        go (inl e) = leaf_is x tree stands (sym e)
         go (inr k) = absurd (no_leaf x tree stands (sym (only (Branch zero_cover Nil) tree k)))
+
+    side : (x : Variable ℕ) (tree : Tree ℕ) → Contains (Leaf 0 2 ∷ Branch zero_cover Nil ∷ []) tree → HasLeaf x tree → Contains (v ∷ []) x
+    side x tree h stands = found x (side_is x tree h stands)
 
     -- a place with a variable of both sides is that of the one variable
     place : (at : ℕ) → HasVariableAt (Leaf 0 2) (Branch zero_cover Nil) at → 2 ≡ at
-    place at (i, inl h) = ap (λ (x : Variable ℕ). x.at) (leaf_is (record { input = i; at = at }) (Leaf 0 2) h refl)
-    place at (i, inr h) = absurd (no_leaf (record { input = i; at = at }) (Branch zero_cover Nil) h refl)
+    place at (tree, i, one, h) = ap (λ (x : Variable ℕ). x.at) (side_is (record { input = i; at = at }) tree one h)
 
     under : (x : Variable ℕ) (tree : Tree ℕ) → IsTreeUnder only_a (Leaf 0 2) (Branch zero_cover Nil) tree → HasLeaf x tree → Contains (v ∷ []) x
-    under x tree (inl (inl e)) stands = found x (leaf_is x tree stands e)
-    under x tree (inl (inr e)) stands = absurd (no_leaf x tree stands e)
+    under x tree (inl one) stands = side x tree one stands
     under x tree (inr k) stands =
         let n = leaf_input only_a.circuit only_a.order k.0 x k.2 stands in
         let at = leaf_at only_a.circuit only_a.order k.0 x k.2 stands in

@@ -8,7 +8,8 @@ use Rattle.circuit_theory.specs.Cover.{cover_value}
 use Rattle.circuit_theory.specs.Circuit.{Named, Holds, Carries, Reads, Reaches, IsLatch, IsSource}
 use Rattle.circuit_theory.specs.Run.{NoneEnabled}
 use Rattle.circuit_theory.specs.Depth.{LatchReads, LatchPath, HasCycle, IsCycle, LatchChain, IsDepth, HasNoDepth, after_in_round, without}
-use Rattle.circuit_theory.specs.Tree.{Tree, Leaf, Branch, Nil, Cons, Unfolds, UnfoldsAll, tree_value, AreNumbered, HaveEqualFunctions}
+use Rattle.circuit_theory.specs.Asked.{HaveEqualFunctions}
+use Rattle.circuit_theory.specs.Tree.{Tree, Leaf, Branch, Nil, Cons, Unfolds, UnfoldsAll, tree_value, AreNumbered}
 use Rattle.circuit_theory.specs.Agree.{Agree, IsPair, AreAlike, IsSettled, IsMinimalCut}
 use Rattle.call_rows.specs.circuit_samples.Circuits.{and_cover, constant_one, late, early, one, two, constant_latch, toggle}
 use Rattle.call_rows.proofs.circuit_samples.Samples.{late_net, early_net, one_net, two_net, constant_latch_net, toggle_net, item_of, LatchItem}
@@ -79,13 +80,11 @@ late_and_early_agree = equal_functions_agree late early 4 5 (0 ∷ 1 ∷ []) (0 
         let left : 3 ≡ p = ap (λ (n : Named ℕ). n.place) (only (record { name = codes "y"; place = 3 }) (record { name = name; place = p }) l) in
         let right : 4 ≡ q = ap (λ (n : Named ℕ). n.place) (only (record { name = codes "y"; place = 4 }) (record { name = name; place = q }) r) in
         subst (λ x. HaveEqualFunctions late early (0 ∷ 1 ∷ []) (0 ∷ 1 ∷ []) x q) left (subst (λ x. HaveEqualFunctions late early (0 ∷ 1 ∷ []) (0 ∷ 1 ∷ []) 3 x) right (record {
-          left_depth = 1;
-          right_depth = 1;
           left_tree = and_tree;
           right_tree = and_tree;
-          left_unfolds = late_unfolds;
-          right_unfolds = early_unfolds;
-          same = λ x. refl;
+          left_unfolds = (1, late_unfolds);
+          right_unfolds = (1, early_unfolds);
+          same = λ x care. refl;
         }))
     equal p q (IsPair.nexts h l r) = absurd (omega (arith, h.1))
 

@@ -134,7 +134,7 @@ late_first = record {
   right_unfolds = ResetUnfolds.gate {fanins = 2 ∷ 3 ∷ []} (0, omega arith, refl)
       (ResetUnfoldsAll.more (ResetUnfolds.started {name = codes "p"} {next = 0} (1, omega arith, refl) (0, omega arith, refl))
       (ResetUnfoldsAll.more (ResetUnfolds.started {name = codes "q"} {next = 1} (2, omega arith, refl) (1, omega arith, refl)) ResetUnfoldsAll.none));
-  same = λ x. refl;
+  same = λ x care. refl;
 }
 
 late_second : HaveEqualResets late_from_zero early_from_zero (0 ∷ 1 ∷ []) (0 ∷ 1 ∷ []) 2 3 3 4 1
@@ -147,7 +147,7 @@ late_second = record {
   right_unfolds = ResetUnfolds.gate {fanins = 2 ∷ 3 ∷ []} (0, omega arith, refl)
       (ResetUnfoldsAll.more (ResetUnfolds.later {name = codes "p"} {next = 0} (1, omega arith, refl) (ResetUnfolds.input (inl (refl, refl))))
       (ResetUnfoldsAll.more (ResetUnfolds.later {name = codes "q"} {next = 1} (2, omega arith, refl) (ResetUnfolds.input (inr (inl (refl, refl))))) ResetUnfoldsAll.none));
-  same = λ x. refl;
+  same = λ x care. refl;
 }
 
 late_each : (t : ℕ) → t ≤ 1 → HaveEqualResets late_from_zero early_from_zero (0 ∷ 1 ∷ []) (0 ∷ 1 ∷ []) 2 3 3 4 t

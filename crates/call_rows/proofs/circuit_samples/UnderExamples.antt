@@ -17,7 +17,7 @@ use Rattle.circuit_theory.specs.Interface.{AreNumbersOf}
 use Rattle.circuit_theory.specs.Fits.{IsPairDepth}
 use Rattle.circuit_theory.specs.Sizes.{WeighsAt}
 use Rattle.circuit_theory.proofs.Inputs.{beside_is_input, test_same}
-use Rattle.circuit_theory.proofs.Lists.{only}
+use Rattle.circuit_theory.proofs.Lists.{Contains-head, Contains-cases, only}
 use Rattle.circuit_theory.proofs.Numbers.{one_place}
 use Rattle.circuit_laws.proofs.LawProofs.{runs_exist}
 use Rattle.circuit_laws.proofs.TreeDepth.{tree_depth}
@@ -163,23 +163,19 @@ met = record { numbered = numbered; reads = reads; equal = λ p q pair. equal p 
 
     y_equal : Equal 3 3
     y_equal = record {
-      left_depth = 0;
-      right_depth = 0;
       left_tree = Branch and_cover (Cons (Leaf 1 0) (Cons (Leaf 0 0) Nil));
       right_tree = Branch first_cover (Cons (Leaf 1 0) (Cons (Leaf 0 0) Nil));
-      left_unfolds = Unfolds.gate {fanins = 1 ∷ 0 ∷ []} (1, omega arith, refl) (UnfoldsAll.more (Unfolds.input (inr (inl (refl, refl)))) (UnfoldsAll.more (Unfolds.input (inl (refl, refl))) UnfoldsAll.none));
-      right_unfolds = Unfolds.gate {fanins = 1 ∷ 0 ∷ []} (1, omega arith, refl) (UnfoldsAll.more (Unfolds.input (inr (inl (refl, refl)))) (UnfoldsAll.more (Unfolds.input (inl (refl, refl))) UnfoldsAll.none));
-      same = λ x meets. and_bit (x 1 0) (x 0 0) (meets_row (λ i. x i 0) (meets 0 (0, inl (HasLeaf.inside (HasLeafIn.later (HasLeafIn.first HasLeaf.leaf))))));
+      left_unfolds = (0, Unfolds.gate {fanins = 1 ∷ 0 ∷ []} (1, omega arith, refl) (UnfoldsAll.more (Unfolds.input (inr (inl (refl, refl)))) (UnfoldsAll.more (Unfolds.input (inl (refl, refl))) UnfoldsAll.none)));
+      right_unfolds = (0, Unfolds.gate {fanins = 1 ∷ 0 ∷ []} (1, omega arith, refl) (UnfoldsAll.more (Unfolds.input (inr (inl (refl, refl)))) (UnfoldsAll.more (Unfolds.input (inl (refl, refl))) UnfoldsAll.none)));
+      same = λ x care. and_bit (x 1 0) (x 0 0) (meets_row (λ i. x i 0) (care.1 0 (Branch and_cover (Cons (Leaf 1 0) (Cons (Leaf 0 0) Nil)), 0, Contains-head (Branch and_cover (Cons (Leaf 1 0) (Cons (Leaf 0 0) Nil))) (Branch first_cover (Cons (Leaf 1 0) (Cons (Leaf 0 0) Nil)) ∷ []), HasLeaf.inside (HasLeafIn.later (HasLeafIn.first HasLeaf.leaf)))));
     }
 
     q_equal : Equal 2 2
     q_equal = record {
-      left_depth = 0;
-      right_depth = 0;
       left_tree = Branch inverter (Cons (Leaf 1 0) Nil);
       right_tree = Branch inverter (Cons (Leaf 1 0) Nil);
-      left_unfolds = Unfolds.gate {fanins = 1 ∷ []} (0, omega arith, refl) (UnfoldsAll.more (Unfolds.input (inr (inl (refl, refl)))) UnfoldsAll.none);
-      right_unfolds = Unfolds.gate {fanins = 1 ∷ []} (0, omega arith, refl) (UnfoldsAll.more (Unfolds.input (inr (inl (refl, refl)))) UnfoldsAll.none);
+      left_unfolds = (0, Unfolds.gate {fanins = 1 ∷ []} (0, omega arith, refl) (UnfoldsAll.more (Unfolds.input (inr (inl (refl, refl)))) UnfoldsAll.none));
+      right_unfolds = (0, Unfolds.gate {fanins = 1 ∷ []} (0, omega arith, refl) (UnfoldsAll.more (Unfolds.input (inr (inl (refl, refl)))) UnfoldsAll.none));
       same = λ x meets. refl;
     }
 
@@ -281,7 +277,7 @@ reset_sides_under = record {
       right_tree = Branch constant_one Nil;
       left_unfolds = ResetUnfolds.later {name = codes "y"} {next = 0} (0, omega arith, refl) (ResetUnfolds.input (inl (refl, refl)));
       right_unfolds = ResetUnfolds.later {name = codes "y"} {next = 1} (1, omega arith, refl) (ResetUnfolds.gate {fanins = []} (0, omega arith, refl) ResetUnfoldsAll.none);
-      same = λ x meets. meets_row (λ i. x i 0) (meets 0 (0, inl HasLeaf.leaf)) ∙ sym one_bit;
+      same = λ x meets. meets_row (λ i. x i 0) (meets.1 0 (Leaf 0 0, 0, Contains-head (Leaf 0 0) (Branch constant_one Nil ∷ []), HasLeaf.leaf)) ∙ sym one_bit;
     }
     each (suc (suc t)) le = absurd (omega arith)
 
@@ -342,13 +338,18 @@ reset_witness_under = record {
   right_value = refl;
 }
   where
+    no_side : {x : Variable ℕ} (tree : Tree ℕ) → Contains (Fixed false ∷ Fixed true ∷ []) tree → HasLeaf x tree → ⊥
+    no_side {x} tree one h = go (Contains-cases (Fixed false) tree (Fixed true ∷ []) one)
+      where
+        go : (Fixed false ≡ tree) ⊎ Contains (Fixed true ∷ []) tree → ⊥
+        go (inl e) = no_leaf h false e
+        go (inr k) = no_leaf h true (only (Fixed true) tree k)
+
     no_place : (at : ℕ) → HasVariableAt (Fixed false) (Fixed true) at → ⊥
-    no_place at (i, inl h) = no_leaf h false refl
-    no_place at (i, inr h) = no_leaf h true refl
+    no_place at (tree, i, one, h) = no_side tree one h
 
     no_variable : (x : Variable ℕ) (tree : Tree ℕ) → IsTreeUnder only_a (Fixed false) (Fixed true) tree → HasLeaf x tree → ⊥
-    no_variable x tree (inl (inl e)) h = no_leaf h false (sym e)
-    no_variable x tree (inl (inr e)) h = no_leaf h true (sym e)
+    no_variable x tree (inl one) h = no_side tree one h
     no_variable x tree (inr k) h = no_place k.0 k.1
 
     other : (i : ℕ) → (0 ≡ i → ⊥) → (i == 0) ≡ false

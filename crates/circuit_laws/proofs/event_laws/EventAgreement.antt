@@ -286,7 +286,7 @@ module _ (a b : Circuit ℕ) (m n : ℕ) (left right : List ℕ) (class : Either
       agree_at t p q h equal mp mq =
           event_functions_agree side joined_same single (joined_can_put a b m n na nb) (joined_determined a b m n na nb) (rises_at whole single joined_same depths) kind classes.is_map.plain
           (class_equal side classes itself) (class_always side classes itself) rank_of falls trees length_ run shared.is_run shared_bits shared_are decide bound.0 t p q equal.left_tree equal.right_tree h
-          (λ w cone. bound.1 (Latch cone.0 w cone.1) cone.2) (λ w cone. bound.1 (Latch cone.0 w cone.1) cone.2) mp mq equal.left_unfolds equal.right_unfolds equal.same
+          (λ w cone. bound.1 (Latch cone.0 w cone.1) cone.2) (λ w cone. bound.1 (Latch cone.0 w cone.1) cone.2) mp mq equal.left_unfolds equal.right_unfolds (λ bits l r. equal.same bits (l, r))
 
       -- the last load of each settled latch is one that its class has, and of class 0 the cycle before
       last_is : (last : ℕ → ℕ → ℕ) × ((t : ℕ) → last 0 t ≡ t - 1)

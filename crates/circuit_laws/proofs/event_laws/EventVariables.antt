@@ -81,8 +81,7 @@ differences_are_shown_by_variables s p q variables are = (shown, λ x. back x.0 
       left_unfolds = x.left_unfolds;
       right_unfolds = x.right_unfolds;
       bits = frame_of variables bits;
-      left_care = x.left_care;
-      right_care = x.right_care;
+      care = (x.left_care, x.right_care);
       differ = λ e. x.differ (x.left_value ∙ (e ∙ sym x.right_value));
     }
 
@@ -98,8 +97,8 @@ differences_are_shown_by_variables s p q variables are = (shown, λ x. back x.0 
         right_unfolds = d.right_unfolds;
         are_variables = are;
         each = length-map (λ y. d.bits y.input y.at) variables;
-        left_care = care_same s p d.bits frame (λ tree c. one tree (inr (inl c))) d.left_care;
-        right_care = care_same s q d.bits frame (λ tree c. one tree (inr (inr c))) d.right_care;
+        left_care = care_same s p d.bits frame (λ tree c. one tree (inr (inl c))) d.care.0;
+        right_care = care_same s q d.bits frame (λ tree c. one tree (inr (inr c))) d.care.1;
         left_value = refl;
         right_value = refl;
         differ = λ e. d.differ (one d.left_tree (inl (inl d.left_unfolds)) ∙ (e ∙ sym (one d.right_tree (inl (inr d.right_unfolds)))));

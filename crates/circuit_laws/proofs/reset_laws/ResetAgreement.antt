@@ -269,4 +269,4 @@ pub equal_resets_agree : EqualResetsAgree
 equal_resets_agree a b m n left right left_base right_base na nb sa sb numbered based equal size l r alike t p q h pair =
     let e = equal p q pair in
     reset_pair_agrees (λ row. Unit {0}) a b m n left right left_base right_base na nb sa sb numbered based size l r alike (λ s k row are. tt) p q e.depth e.is_depth
-    (λ s le. let x = e.each s le in record { left_tree = x.left_tree; right_tree = x.right_tree; left_unfolds = x.left_unfolds; right_unfolds = x.right_unfolds; same = λ y c. x.same y }) t h
+    (λ s le. let x = e.each s le in record { left_tree = x.left_tree; right_tree = x.right_tree; left_unfolds = x.left_unfolds; right_unfolds = x.right_unfolds; same = λ y c. x.same y tt }) t h

@@ -5,6 +5,7 @@ use Rattle.circuit_theory.specs.Cover.{Cover}
 use Rattle.circuit_theory.specs.Circuit.{Circuit, Started, Gate, Port, IsLatch}
 use Rattle.circuit_theory.specs.Cone.{latches_of}
 use Rattle.circuit_theory.specs.Run.{IsRun, EqualInputs, IsResetRun}
+use Rattle.circuit_theory.specs.Asked.{AskedPair, AreEqual}
 use Rattle.circuit_theory.specs.Tree.{Tree, Trees, Leaf, Fixed, Branch, Nil, Cons, IsInputNumber, tree_value}
 use Rattle.circuit_theory.specs.Query.{Variable, AreVariables, Distinguishes, IsLeast, assigned, same_shift, bits_of, pair_query}
 use Rattle.circuit_theory.specs.Sequence.{sequence_rows, row_value, TakesInputs}
@@ -48,13 +49,23 @@ pub record AreBased {P Q : Type 0} (a : Circuit P) (b : Circuit Q) (left right :
   pub right_inputs : (q : Q) (i : ℕ) → IsInputNumber b right q i → i < left_base
   pub latches : left_base + length (latches_of a) ≤ right_base
 
+-- variables go by lesser cycle, then by number
+abbrev pub CycleBefore : Variable ℕ → Variable ℕ → Type 0
+CycleBefore x y = (x.at < y.at) ⊎ ((x.at ≡ y.at) × (x.input < y.input))
+
+-- a pair of the reset form as it is asked in a cycle: the variables are those of both sides, and the care holds always
+abbrev pub reset_pair : {P Q : Type 0} → Circuit P → Circuit Q → List ℕ → List ℕ → ℕ → ℕ → P → Q → ℕ → AskedPair ℕ
+reset_pair a b left right left_base right_base p q t = record {
+  before = CycleBefore;
+  left = ResetUnfolds a left left_base p t;
+  right = ResetUnfolds b right right_base q t;
+  wanted = λ l r. Contains (l ∷ r ∷ []);
+  care = λ l r bits. Unit {0};
+}
+
 -- both sides of a pair unfold in the cycle, to functions that agree under each assignment
-pub record HaveEqualResets {P Q : Type 0} (a : Circuit P) (b : Circuit Q) (left right : List ℕ) (left_base right_base : ℕ) (p : P) (q : Q) (t : ℕ) : Type 0 where
-  pub left_tree : Tree ℕ
-  pub right_tree : Tree ℕ
-  pub left_unfolds : ResetUnfolds a left left_base p t left_tree
-  pub right_unfolds : ResetUnfolds b right right_base q t right_tree
-  pub same : (x : ℕ → ℕ → Bool) → tree_value x left_tree ≡ tree_value x right_tree
+abbrev pub HaveEqualResets : {P Q : Type 0} → Circuit P → Circuit Q → List ℕ → List ℕ → ℕ → ℕ → P → Q → ℕ → Type 0
+HaveEqualResets a b left right left_base right_base p q t = AreEqual (reset_pair a b left right left_base right_base p q t)
 
 -- they do in each cycle up to the pair's depth
 pub record AreEqualFromReset {P Q : Type 0} (a : Circuit P) (b : Circuit Q) (left right : List ℕ) (left_base right_base : ℕ) (p : P) (q : Q) : Type 0 where
@@ -72,10 +83,6 @@ pub record AreAlikeFromReset {P Q : Type 0} (a : Circuit P) (b : Circuit Q) (n :
 abbrev pub AgreeFromReset : {P Q : Type 0} → Circuit P → Circuit Q → Type 0
 AgreeFromReset {P} {Q} a b =
     (n : ℕ) (left : ℕ → P → Bool) (right : ℕ → Q → Bool) → AreAlikeFromReset a b n left right → (t : ℕ) (p : P) (q : Q) → t < n → IsPair [] a b p q → left t p ≡ right t q
-
--- variables go by lesser cycle, then by number
-abbrev pub CycleBefore : Variable ℕ → Variable ℕ → Type 0
-CycleBefore x y = (x.at < y.at) ⊎ ((x.at ≡ y.at) × (x.input < y.input))
 
 -- The sequence of an assignment: in each cycle from 0 to last the bits of that cycle.
 abbrev pub reset_rows : ℕ → (ℕ → ℕ → Bool) → ℕ → List (List Bool)

@@ -150,16 +150,16 @@ module _ (s : EventSide (Either ℕ ℕ)) (w : EventGraphView) (p q : Either ℕ
     right_tree = right_tree;
     left_unfolds = k.left_is.unfolds;
     right_unfolds = k.right_is.unfolds;
-    same = λ bits left_care right_care.
+    same = λ bits care.
         sym (left_value bits (assignment_of w bits) (takes_frame w bits))
-        ∙ (same (assignment_of w bits) ((care_value bits (assignment_of w bits) (takes_frame w bits)).1 (left_care, right_care)) ∙ right_value bits (assignment_of w bits) (takes_frame w bits));
+        ∙ (same (assignment_of w bits) ((care_value bits (assignment_of w bits) (takes_frame w bits)).1 care) ∙ right_value bits (assignment_of w bits) (takes_frame w bits));
   }
 
   -- the frame of bits of the variables
   abbrev frame : List Bool → ℕ → List ℕ → Bool
   frame bits = frame_of variables bits
 
-  takes : (bits : List Bool) → TakesFrame w (frame bits) (assigned_to query.vars bits)
+  pub takes : (bits : List Bool) → TakesFrame w (frame bits) (assigned_to query.vars bits)
   takes bits = bits_take_frame w is query.vars bits within
 
   variables_long : length variables ≡ length query.vars

@@ -76,7 +76,7 @@ module _ {P : Type 0} (c d : Circuit P) (same : AreSame c d) (some : P → Bool)
     right_tree = k.right_tree;
     left_unfolds = (tree_same c d itself second part some meets order order class number_up number_down None p [] k.left_tree).0 k.left_unfolds;
     right_unfolds = (tree_same c d itself second part some meets order order class number_up number_down None q [] k.right_tree).0 k.right_unfolds;
-    same = λ bits left right. k.same bits ((care_same c d itself second part some meets order order class number_up number_down p bits).1 left) ((care_same c d itself second part some meets order order class number_up number_down q bits).1 right);
+    same = λ bits cares. k.same bits ((care_same c d itself second part some meets order order class number_up number_down p bits).1 cares.0, (care_same c d itself second part some meets order order class number_up number_down q bits).1 cares.1);
   }
 
   -- so is the care of an enable, and the enable itself

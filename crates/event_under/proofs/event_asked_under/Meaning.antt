@@ -14,7 +14,7 @@ use Rattle.circuit_laws.specs.reset_laws.Reset.{CycleBefore}
 use Rattle.aig.specs.declared.node.Lit.{Lit}
 use Rattle.aig.specs.declared.node.Node.{Node}
 use Rattle.aig.specs.declared.node.Node.TheVariants.{Input}
-use Rattle.aig.specs.Builds.{Builds}
+use Rattle.aig.specs.Builds.{Builds, TakesBits}
 use Rattle.aig.specs.Cone.{IsReached}
 use Rattle.aig.specs.Graph.{IsGraph, Grows}
 use Rattle.aig.specs.Values.{value}
@@ -42,7 +42,6 @@ use Rattle.event_nodes.proofs.event_variables.Cones.{reached_one, reached_among}
 use Rattle.event_nodes.proofs.event_variables.Named.{named_distinct}
 use Rattle.event_form.specs.event_agreement.Queries.{AsksEventPair}
 use Rattle.event_form.proofs.event_agreement.PairQueries as pair_query
-use Rattle.event_form.specs.Answers.{TakesBits}
 use Rattle.event_under.specs.Asked.{variable_in, variables_in, AsksUnder}
 use Rattle.event_nodes.specs.event_variables.ranked_nodes.Ranks.{AreRanked}
 use Rattle.event_nodes.specs.declared.event_variables.ranked_nodes.ranks.RankedNodes.{RankedNodes}
@@ -266,10 +265,10 @@ module _ (c : Assumption) (s : EventSide (Either ℕ ℕ)) (w : EventGraphView) 
   care_value bits a takes = (
     λ e. (let both = and_true (value g a r.care.0) (value w.graph a query.care.0) (sym (care_is a) ∙ e) in
         let cared = (pair_query.care_value s w p q query is asks bits a (takes_events w is ranked k table adds bits a takes)).0 both.1 in
-        record { left = cared.0; right = cared.1; meets = meets_forth bits ((under.care_is (at_places bits) a (takes_ranks w is ranked k table adds bits a takes)).0 both.0) }),
+        (cared, meets_forth bits ((under.care_is (at_places bits) a (takes_ranks w is ranked k table adds bits a takes)).0 both.0))),
     λ m. care_is a
-        ∙ true_and (value g a r.care.0) (value w.graph a query.care.0) ((under.care_is (at_places bits) a (takes_ranks w is ranked k table adds bits a takes)).1 (meets_back bits m.meets))
-        ((pair_query.care_value s w p q query is asks bits a (takes_events w is ranked k table adds bits a takes)).1 (m.left, m.right)),
+        ∙ true_and (value g a r.care.0) (value w.graph a query.care.0) ((under.care_is (at_places bits) a (takes_ranks w is ranked k table adds bits a takes)).1 (meets_back bits m.1))
+        ((pair_query.care_value s w p q query is asks bits a (takes_events w is ranked k table adds bits a takes)).1 m.0),
   )
 
   pub asks_under : AreNodeVariables (IsSideTree s p q) (event_variables.variables_of w query.vars) → AsksUnder c s h places p q (event_variables.variables_of w query.vars) x

@@ -8,7 +8,7 @@ use Rattle.circuit_theory.proofs.Numbers.{slice_get-map}
 use Rattle.circuit_theory.specs.Frame.{NodeBefore}
 use Rattle.flat_net.proofs.Places.{All-at}
 use Rattle.circuit_laws.specs.reset_laws.Reset.{CycleBefore}
-use Rattle.cbf_unfold.specs.unfold_places.Growing.{TakesBits}
+use Rattle.aig.specs.Builds.{TakesBits}
 use Rattle.cbf_unfold.specs.unfold_places.Reach.{Adds}
 use Rattle.cbf_unfold.proofs.unfold_places.Lists.{adds_at}
 use Rattle.cbf_unfold.specs.shift_variables.Variables.{variable_of}
@@ -18,7 +18,6 @@ use Rattle.edbf_unfold.specs.Laws.{TakesFrame}
 use Rattle.event_nodes.specs.Nodes.{EventGraphView, IsEventGraph, path_of}
 use Rattle.event_nodes.specs.event_variables.Variables as event_variables
 use Rattle.event_nodes.proofs.event_variables.NodePaths.{variable_is}
-use Rattle.event_form.specs.Answers as frames
 use Rattle.event_under.specs.Asked.{variable_in}
 use Rattle.event_nodes.specs.event_variables.ranked_nodes.Ranks.{AreRanked}
 use Rattle.event_nodes.specs.declared.event_variables.ranked_nodes.ranks.RankedNodes.{RankedNodes}
@@ -70,10 +69,10 @@ module _ (w : EventGraphView) (is : IsEventGraph w) (r : RankedNodes) (k : AreRa
       ap (λ (x : Variable ℕ). x.input) (pair_is table v (p.0.0, rank w.children r k p.0.1) (entry v p.0 p.1)) ∙ sym (ap (λ (x : Variable (List ℕ)). x.input) (variable_is w is v p.0 p.1))
 
   -- the assignment of bits at paths is one of bits at places, and of the event graph's variables
-  pub takes_ranks : (bits : ℕ → List ℕ → Bool) (a : ℕ → Bool) → frames.TakesBits named bits a → TakesBits table (λ i j. bits i (at_rank j)) a
+  pub takes_ranks : (bits : ℕ → List ℕ → Bool) (a : ℕ → Bool) → TakesBits named bits a → TakesBits table (λ i j. bits i (at_rank j)) a
   takes_ranks bits a takes v p at = takes v (p.0, at_rank p.1) (named_entry v p at)
 
-  pub takes_events : (bits : ℕ → List ℕ → Bool) (a : ℕ → Bool) → frames.TakesBits named bits a → TakesFrame w bits a
+  pub takes_events : (bits : ℕ → List ℕ → Bool) (a : ℕ → Bool) → TakesBits named bits a → TakesFrame w bits a
   takes_events bits a takes v z at =
       let p = map_at (λ (q : ℕ × ℕ). (q.0, path_of w.children q.1)) w.places v z at in
       let path = path_rank w.children r k p.0.1 (placed v p.0 p.1) in

@@ -64,7 +64,8 @@ use Rattle.assume_laws.proofs.Meeting.{leaf_input}
 use Rattle.event_under.specs.Asked.{variables_in, IsAskedUnder, AreAskedUnder}
 use Rattle.event_under.specs.Answers.{PairFitsUnder}
 use Rattle.event_under.specs.Laws.{IsFrameDifferenceUnder}
-use Rattle.event_under.proofs.Pairs.{pairs_fit, differences_show, only_query}
+use Rattle.obligations.proofs.Fits.{only_query}
+use Rattle.event_under.proofs.Pairs.{pairs_fit, differences_show}
 use Rattle.event_under.proofs.Sequences.{always_show}
 use Rattle.event_under.specs.event_shown_under.event_under_fits.Findings.{IsSequenceUnder, IsFrameUnder, IsFirstDifferenceUnder, VerdictFitsUnder}
 use Rattle.event_under.specs.declared.event_asked_under.asked.EventQuestions.{EventQuestions}

@@ -2,7 +2,7 @@
 
 ghost use Rattle.std.specs.Prelude.{◌≡◌, ◌+◌, ◌^◌, ◌<◌, ℕ, false, [], ◌∷◌, ◌++◌, length, slice_get, vec_len, vec_capacity, Some, All, IfOk, IsSomeAnd, OnOk, OnErr};
 ghost use Rattle.base_tables.specs.Table.{AreDistinct, is_among};
-ghost use Rattle.flat_net.specs.Makes.{empty_net, with_input, with_latch, with_gate, with_cover, with_output, with_next, with_clock};
+ghost use Rattle.flat_net.specs.Makes.{empty_net, with_input, with_latch, with_gate, with_cover, with_output, with_next, with_init, with_clock};
 
 use super::Net;
 use crate::parts::{Driver, Gate, LatchAt, Port};
@@ -167,6 +167,14 @@ impl Net {
             }
             _ => unreachable!(),
         }
+    }
+
+    /// Gives the latch with this number another initial value. All else stays.
+    pub fn set_init(&mut self, j: u32, init: Init)
+        requires { j < length self.old.latches }
+        ensures { self.new ≡ with_init self.old j init }
+    {
+        self.latches[j as usize].init = init;
     }
 
     pub(crate) fn put_clock(&mut self, name: Word)

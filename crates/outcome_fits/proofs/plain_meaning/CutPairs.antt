@@ -10,7 +10,6 @@ use Rattle.circuit_theory.specs.Names.{same_name}
 use Rattle.circuit_theory.specs.Circuit.{Circuit, Named, IsLatch, IsSingleDriven}
 use Rattle.circuit_theory.specs.Net.{HasDistinctNames}
 use Rattle.circuit_theory.specs.Agree.{PairAt, IsPair, pairs_of, pair_at, place_named, latch_named, second_of_pair}
-use Rattle.circuit_theory.specs.Tree.{HaveEqualFunctions}
 use Rattle.circuit_theory.proofs.Lists.{Contains-head, Contains-tail, Contains-map_from, filter_map-from, map-map, at_of, zip_right}
 use Rattle.circuit_theory.proofs.Inputs.{same_name-sound}
 use Rattle.circuit_theory.proofs.Numbers.{slice_get-map}
@@ -19,13 +18,10 @@ use Rattle.circuit_laws.proofs.Pairs.{pairs_are_listed}
 use Rattle.sec_setup.specs.flat_net.Port.{Port}
 use Rattle.sec_setup.specs.flat_net.View.{NetView, named, circuit_of}
 use Rattle.sec_setup.specs.flat_net.Table.{AreDistinct}
-use Rattle.sec_setup.specs.sec_base.PairAnswer.{PairAnswer}
-use Rattle.sec_setup.specs.sec_base.PairAnswer.TheVariants as answer
-use Rattle.obligations.specs.pair_decide.Proof.{Proof}
 use Rattle.sec_setup.specs.witness_report.PairName.{PairName}
 use Rattle.sec_setup.specs.witness_report.PairName.TheVariants as pair
 use Rattle.obligations.specs.declared.outcome.verdict.PairResult.{PairResult}
-use Rattle.outcome_fits.specs.Outcome.{AnswerFits, PairFits, PairsFit, greatest_size}
+use Rattle.outcome_fits.specs.Outcome.{PairFits, PairsFit, greatest_size}
 use Rattle.sec_setup.specs.ports.Pairs.{NamedPair, pair_called, named_pairs}
 use Rattle.sec_setup.specs.witness_report.Shown.{ArePlacesOf}
 
@@ -167,22 +163,6 @@ module _ {P Q : Type 0} (names : List (List ℕ)) (a : Circuit P) (b : Circuit Q
       go (inr l) = subst (λ (n : PairName). ArePlacesOf a b n x.left x.right) (sym l.called) (l.left_latch, l.right_latch)
 
 module _ {P Q : Type 0} (a : Circuit P) (b : Circuit Q) (left right : List ℕ) (cut : Bool) (conflicts : ℕ) where
-  -- an equal pair has equal functions
-  pub equal_answer : (p : P) (q : Q) (x : PairAnswer) (proof : Option Proof) → AnswerFits a b left right cut conflicts p q x proof → x ≡ answer.Equal → HaveEqualFunctions a b left right p q
-  equal_answer p q answer.Equal None h e = h
-  equal_answer p q answer.Equal (Some proof) h e = absurd h
-  equal_answer p q answer.Different proof h e = absurd (cc)
-  equal_answer p q answer.NotShown proof h e = absurd (cc)
-  equal_answer p q answer.Limit proof h e = absurd (cc)
-
-  -- a different pair is told only where no latch is cut open
-  pub different_answer : (p : P) (q : Q) (x : PairAnswer) (proof : Option Proof) → AnswerFits a b left right cut conflicts p q x proof → x ≡ answer.Different → cut ≡ false
-  different_answer p q answer.Equal proof h e = absurd (cc)
-  different_answer p q answer.Different None h e = h.0
-  different_answer p q answer.Different (Some proof) h e = absurd h
-  different_answer p q answer.NotShown proof h e = absurd (cc)
-  different_answer p q answer.Limit proof h e = absurd (cc)
-
   -- each listed pair has its result
   pub result_of : (pairs : List (NamedPair P Q)) (results : List PairResult) → PairsFit a b left right cut conflicts pairs results → (x : NamedPair P Q) → Contains pairs x →
       (i : ℕ) × (r : PairResult) × (slice_get results i ≡ Some r) × PairFits a b left right cut conflicts x r

@@ -6,46 +6,19 @@ use Rattle.std.proofs.lemmas.Option.{none-some}
 use Rattle.circuit_theory.specs.Agree.{place_named, latch_named, second_of_pair}
 use Rattle.circuit_theory.specs.Circuit.{Circuit, Named}
 use Rattle.circuit_theory.proofs.Lists.{Contains-head, Contains-tail, Contains-cases, filter_map-from}
-use Rattle.sec_setup.specs.sec_base.PairAnswer.{PairAnswer}
-use Rattle.sec_setup.specs.sec_base.PairAnswer.TheVariants as answer
 use Rattle.sec_setup.specs.witness_report.PairName.TheVariants as pair
 use Rattle.obligations.specs.pair_decide.Proof.{Proof}
 use Rattle.obligations.specs.declared.outcome.verdict.PairResult.{PairResult}
 use Rattle.sec_setup.specs.Cuts.{is_cut}
 use Rattle.sec_setup.specs.ports.Pairs.{NamedPair, pair_called, named_pairs}
-use Rattle.outcome_fits.specs.Limits.{IsUndecided}
-use Rattle.outcome_fits.specs.Outcome.{AnswerFits}
 
 some_is : {X : Type 0} {x y : X} → Some x ≡ Some y → x ≡ y
 some_is q = cc
 
-module _ {P Q : Type 0} (a : Circuit P) (b : Circuit Q) (left right : List ℕ) (cut : Bool) (conflicts : ℕ) (p : P) (q : Q) where
-  abbrev Fits : PairAnswer → Option Proof → Type 0
-  Fits x proof = AnswerFits a b left right cut conflicts p q x proof
-
-  -- a pair differs where no latch is cut open
-  pub uncut_answer : (x : PairAnswer) (proof : Option Proof) → Fits x proof → x ≡ answer.Different → cut ≡ false
-  uncut_answer x proof fits e = go proof (subst (λ y. Fits y proof) e fits)
-    where
-      go : (o : Option Proof) → Fits answer.Different o → cut ≡ false
-      go None h = h.0
-      go (Some proof) h = absurd h
-
-  -- a pair isn't shown where some latch is
-  pub cut_answer : (x : PairAnswer) (proof : Option Proof) → Fits x proof → x ≡ answer.NotShown → cut ≡ true
-  cut_answer x proof fits e = go proof (subst (λ y. Fits y proof) e fits)
-    where
-      go : (o : Option Proof) → Fits answer.NotShown o → cut ≡ true
-      go None h = h.0
-      go (Some proof) h = absurd h
-
-  -- a pair at the limit has a proof that its query was given up
-  pub limit_answer : (x : PairAnswer) (proof : Option Proof) → Fits x proof → x ≡ answer.Limit → (kept : Proof) × (proof ≡ Some kept) × IsUndecided a b left right conflicts p q kept
-  limit_answer x proof fits e = go proof (subst (λ y. Fits y proof) e fits)
-    where
-      go : (o : Option Proof) → Fits answer.Limit o → (kept : Proof) × (o ≡ Some kept) × IsUndecided a b left right conflicts p q kept
-      go None h = absurd h
-      go (Some proof) h = (proof, refl, h)
+-- latches are cut open where it isn't so that none is
+pub some_cut : (cut : Bool) → (cut ≡ false → ⊥) → cut ≡ true
+some_cut true none = refl
+some_cut false none = absurd (none refl)
 
 -- no latch is cut open where there is no name, and some latch where there is one
 pub no_names : (names : List (List ℕ)) → is_cut names ≡ false → names ≡ []

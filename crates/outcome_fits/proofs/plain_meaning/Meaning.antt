@@ -6,7 +6,8 @@ use Rattle.circuit_theory.specs.declared.Mode.TheVariants.{Plain}
 use Rattle.circuit_theory.specs.Circuit.{Circuit, Named, IsLatch}
 use Rattle.circuit_theory.specs.Depth.{IsDepth}
 use Rattle.circuit_theory.specs.Run.{IsRun, NoneEnabled}
-use Rattle.circuit_theory.specs.Tree.{Tree, Unfolds, HaveEqualFunctions}
+use Rattle.circuit_theory.specs.Asked.{HaveEqualFunctions}
+use Rattle.circuit_theory.specs.Tree.{Tree, Unfolds}
 use Rattle.circuit_theory.specs.Agree.{cut, IsPair, IsSettled, Agree, AgreeOnward}
 use Rattle.circuit_theory.specs.Fits.{IsPairDepth, IsWitness}
 use Rattle.circuit_theory.specs.Interface.{AreNumbersOf}
@@ -38,7 +39,8 @@ use Rattle.outcome_fits.specs.Fitting.{OutcomeFits}
 use Rattle.sec_setup.specs.Cuts.{columns_of, is_cut}
 use Rattle.sec_setup.specs.witness_report.Shown.{Obeys, ArePlacesOf, MakesDiffer, MakesCutsDiffer, AgreeFrom}
 use Rattle.sec_setup.proofs.CutNets.{cut_functions, cut_witness, cut_depth, cut_numbers, cut_numbered}
-use Rattle.outcome_fits.proofs.plain_meaning.CutPairs.{IsOutputPair, IsNextPair, one_output, pair_listed, listed_is, listed_places, equal_answer, different_answer, result_of, size_is_within}
+use Rattle.obligations.proofs.Fits.{equal_fits, different_fits}
+use Rattle.outcome_fits.proofs.plain_meaning.CutPairs.{IsOutputPair, IsNextPair, one_output, pair_listed, listed_is, listed_places, result_of, size_is_within}
 use Rattle.outcome_fits.proofs.plain_meaning.Sequences.{values_differ, left_value_shows, right_value_shows}
 
 same_some : {X : Type 0} {x y : X} → Some x ≡ Some y → x ≡ y
@@ -117,7 +119,7 @@ module _ (a b : NetView) (expose : Bool) (conflicts : ℕ) (o : Outcome) (fits :
       functions_equal : (p q : ℕ) → Result p q → HaveEqualFunctions left_circuit right_circuit fits.left fits.right p q
       functions_equal p q r =
           cut_functions o.exposed (circuit_of a) (circuit_of b) (circuit_of fits.left_cut) (circuit_of fits.right_cut) fits.are_cut.left_circuit fits.are_cut.right_circuit fits.left fits.right p q
-          (equal_answer (circuit_of fits.left_cut) (circuit_of fits.right_cut) fits.left fits.right (is_cut o.exposed) conflicts p q r.result.answer r.result.proof r.answer_is
+          (equal_fits _ _ _ r.result.answer r.result.proof r.answer_is
           (All-contains (λ (x : PairResult). x.answer ≡ answer.Equal) o.pairs r.result all_equal (of_at o.pairs r.index r.result r.at)))
 
       -- the circuits agree, and agree onward
@@ -138,11 +140,11 @@ module _ (a b : NetView) (expose : Bool) (conflicts : ℕ) (o : Outcome) (fits :
           let e = functions_equal p q r in
           let size : r.result.size ≤ o.through = subst (λ t. r.result.size ≤ t) (sym fits.through) (size_is_within o.pairs r.index r.result r.at) in
           let deep = deep_enough r.result.size r.depth_is.left r.depth_is.right r.depth_is.greater size in (
-            settled_from left_circuit fits.left left p 0 r.depth_is.left e.left_depth o.through e.left_tree e.left_unfolds
-                (tree_depth left_circuit (cut_single o.exposed (circuit_of a) (sound_is_net a sa).single) e.left_unfolds)
+            settled_from left_circuit fits.left left p 0 r.depth_is.left e.left_unfolds.0 o.through e.left_tree e.left_unfolds.1
+                (tree_depth left_circuit (cut_single o.exposed (circuit_of a) (sound_is_net a sa).single) e.left_unfolds.1)
                 (cut_depth o.exposed (circuit_of a) (circuit_of fits.left_cut) fits.are_cut.left_circuit p r.depth_is.left r.depth_is.left_is) deep.0,
-            settled_from right_circuit fits.right right q 0 r.depth_is.right e.right_depth o.through e.right_tree e.right_unfolds
-                (tree_depth right_circuit (cut_single o.exposed (circuit_of b) (sound_is_net b sb).single) e.right_unfolds)
+            settled_from right_circuit fits.right right q 0 r.depth_is.right e.right_unfolds.0 o.through e.right_tree e.right_unfolds.1
+                (tree_depth right_circuit (cut_single o.exposed (circuit_of b) (sound_is_net b sb).single) e.right_unfolds.1)
                 (cut_depth o.exposed (circuit_of b) (circuit_of fits.right_cut) fits.are_cut.right_circuit q r.depth_is.right r.depth_is.right_is) deep.1,
           )
 
@@ -192,8 +194,8 @@ module _ (a b : NetView) (expose : Bool) (conflicts : ℕ) (o : Outcome) (fits :
     module _ (w : Witness) (f : IsFirstOfAnswer (circuit_of fits.left_cut) (circuit_of fits.right_cut) fits.left fits.right columns answer.Different listed o.pairs w) where
       nothing : (name : List ℕ) → Contains o.exposed name → ⊥
       nothing = none_exposed o.exposed
-          (different_answer (circuit_of fits.left_cut) (circuit_of fits.right_cut) fits.left fits.right (is_cut o.exposed) conflicts f.place.left f.place.right found.0.answer found.0.proof found.2.answer_is
-          (ap (λ (r : PairResult). r.answer) (same_some (sym found.1 ∙ f.result_is)) ∙ f.answered))
+          (different_fits _ _ _ found.0.answer found.0.proof found.2.answer_is
+          (ap (λ (r : PairResult). r.answer) (same_some (sym found.1 ∙ f.result_is)) ∙ f.answered)).0
         where
           found : (r : PairResult) × (slice_get o.pairs f.index ≡ Some r) × PairFits (circuit_of fits.left_cut) (circuit_of fits.right_cut) fits.left fits.right (is_cut o.exposed) conflicts f.place r
           found = zip_right (PairFits (circuit_of fits.left_cut) (circuit_of fits.right_cut) fits.left fits.right (is_cut o.exposed) conflicts) listed o.pairs fits.pairs f.index f.place f.place_is

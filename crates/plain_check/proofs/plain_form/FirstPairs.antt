@@ -25,7 +25,8 @@ use Rattle.plain_asked.specs.outcome_fits.Outcome.{PairFits, PairsFit, IsFirstOf
 use Rattle.plain_asked.specs.Sequences.{IsWitnessOf}
 use Rattle.plain_check.specs.plain_form.Shown.{IsShowable, IsWitnessAt}
 use Rattle.plain_asked.proofs.Sound.{AreSound, ArePairsIn}
-use Rattle.plain_check.proofs.plain_form.Decided.{pair_fits, only-query}
+use Rattle.obligations.proofs.Fits.{only_query}
+use Rattle.plain_check.proofs.plain_form.Decided.{pair_fits}
 use Rattle.plain_check.proofs.plain_form.OneLiteral.{asks_something, one_literal_fits}
 use Rattle.plain_asked.proofs.Sequences.{is_sequence, is_witness}
 use Rattle.plain_asked.proofs.PairQueries.{AsksPair, is_query}
@@ -60,7 +61,7 @@ module _ (s : Setup) (f : Functions) (h : AreSound s f) where
         let z = zip_left (AskedApart s f) pairs asked are d.pair first.obligation first.asked_at in
         let k = asks_something s f z.0 first.obligation d.query first.differs.query first.differs.first.at z.2 in
         let member = of_at pairs d.pair z.0 z.1 in
-        let same = only-query (asks z.0 first.obligation k) first.obligation.queries d.query first.differs.query k.queries_are.1 first.differs.first.at in
+        let same = only_query k.queries_are.0 first.obligation.queries d.query first.differs.query k.queries_are.1 first.differs.first.at in
         let difference : IsDifference f.aig k.queries_are.0 d.bits = subst (λ (q : Query). IsDifference f.aig q d.bits) same first.differs.differs in
         let query = is_query (asks z.0 first.obligation k) in
         record {
@@ -84,11 +85,11 @@ module _ (s : Setup) (f : Functions) (h : AreSound s f) where
         let a = zip_right (IsAnswered f.aig conflicts) asked results answered d.pair o first.asked_at in
         let r : a.0 ≡ first.result = same_Some a.0 first.result (sym a.1 ∙ first.result_at) in
         let size : first.result.size ≡ o.size = ap (λ (x : PairResult). x.size) (sym r) ∙ a.2.size_is in
-        let same = only-query (asks p o k) o.queries d.query first.differs.query k.queries_are.1 first.differs.first.at in
+        let same = only_query k.queries_are.0 o.queries d.query first.differs.query k.queries_are.1 first.differs.first.at in
         let difference : IsDifference f.aig k.queries_are.0 d.bits = subst (λ (q : Query). IsDifference f.aig q d.bits) same first.differs.differs in
         let same_o : shown.obligation ≡ o = same_Some shown.obligation o (sym shown.at.asked_at ∙ first.asked_at) in
         let at_o : slice_get o.queries d.query ≡ Some shown.query = ap (λ (x : Obligation). slice_get x.queries d.query) (sym same_o) ∙ shown.at.query_at in
-        let same_q : shown.query ≡ k.queries_are.0 = only-query (asks p o k) o.queries d.query shown.query k.queries_are.1 at_o in
+        let same_q : shown.query ≡ k.queries_are.0 = only_query k.queries_are.0 o.queries d.query shown.query k.queries_are.1 at_o in
         let is : IsWitnessOf f.aig f.places k.queries_are.0 d.bits o.name o.size s.columns w =
         subst (λ (q : Query). IsWitnessOf f.aig f.places q d.bits o.name o.size s.columns w) same_q (subst (λ (x : Obligation). IsWitnessOf f.aig f.places shown.query d.bits x.name x.size s.columns w) same_o shown.is) in
         record {

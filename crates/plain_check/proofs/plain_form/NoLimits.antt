@@ -13,7 +13,7 @@ use Rattle.plain_asked.specs.outcome_fits.Outcome.{AnswerFits, PairFits, Verdict
 -- a pair of one tree doesn't meet it
 not_at_limit : (a b : Circuit ℕ) (left right : List ℕ) (cut : Bool) (conflicts p q : ℕ) → HaveOneTree a b left right p q → (proof : Option Proof) → AnswerFits a b left right cut conflicts p q answer.Limit proof → ⊥
 not_at_limit a b left right cut conflicts p q one None fits = absurd fits
-not_at_limit a b left right cut conflicts p q one (Some proof) fits = fits.two_trees (one fits.left_depth fits.right_depth fits.left_tree fits.right_tree fits.left_unfolds fits.right_unfolds)
+not_at_limit a b left right cut conflicts p q one (Some proof) fits = fits.two_trees (one fits.left_unfolds.0 fits.right_unfolds.0 fits.left_tree fits.right_tree fits.left_unfolds.1 fits.right_unfolds.1)
 
 pub one_tree_has_no_limit : OneTreeHasNoLimit
 one_tree_has_no_limit a b left right columns cut conflicts pairs f fits one at e =

@@ -2,7 +2,7 @@
 use Rattle.std.proofs.Common.{◌≡◌, ℕ, Bool, List, [], length, get_or, slice_get, Option, Some, None, sym, ◌∙◌, ap, subst, arith, inl, inr}
 use Rattle.std.proofs.lemmas.Option.{get_or_from_slice_get, slice_get_within}
 use Rattle.circuit_theory.specs.Fits.{IsPairDepth}
-use Rattle.circuit_theory.specs.Tree.{HaveEqualFunctions}
+use Rattle.circuit_theory.specs.Asked.{HaveEqualFunctions}
 use Rattle.flat_net.specs.View.{circuit_of}
 use Rattle.aig.specs.Builds.{HasTreeValues}
 use Rattle.pair_decide.specs.declared.query.Query.{Query}
@@ -31,13 +31,11 @@ asks_something s f p o i q at (inr n) = absurd (none_at o.queries i q n.asks.que
 module _ (s : Setup) (f : Functions) (values : HasTreeValues f.aig) (p : SignalPair) (o : Obligation) (conflicts : ℕ) (r : PairResult) (n : AsksNothing s f p o) (found : IsAnswered f.aig conflicts o r) where
   equal : HaveEqualFunctions (circuit_of s.left.now) (circuit_of s.right.now) s.orders.left s.orders.right p.left.0 p.right.0
   equal = record {
-    left_depth = n.one.left_is.depth;
-    right_depth = n.one.right_is.depth;
     left_tree = n.one.left_is.tree;
     right_tree = n.one.right_is.tree;
-    left_unfolds = n.one.left_is.unfolds;
-    right_unfolds = n.one.right_is.unfolds;
-    same = λ bits.
+    left_unfolds = (n.one.left_is.depth, n.one.left_is.unfolds);
+    right_unfolds = (n.one.right_is.depth, n.one.right_is.unfolds);
+    same = λ bits care.
         let y : ℕ → Bool = λ v. bits (get_or f.places v (0, 0)).0 (get_or f.places v (0, 0)).1 in
         let takes : (v : ℕ) (z : ℕ × ℕ) → slice_get f.places v ≡ Some z → y v ≡ bits z.0 z.1 = λ v z at. ap (λ (w : ℕ × ℕ). bits w.0 w.1) (get_or_from_slice_get f.places v z (0, 0) at) in
         sym (values f.places bits y n.one.left_is.tree n.one.literal takes n.one.left_is.builds) ∙ values f.places bits y n.one.right_is.tree n.one.literal takes n.one.right_is.builds;

@@ -1,13 +1,11 @@
 -- Where no latch may be cut open, a pair that differs is told to be different.
-use Rattle.std.proofs.Common.{◌≡◌, ℕ, Bool, true, false, List, [], refl, sym, ◌∙◌, ap, Option, Some, None}
+use Rattle.std.proofs.Common.{◌≡◌, ℕ, true, false, List, [], refl, sym, ◌∙◌, ap}
 use Rattle.std.proofs.lemmas.Option.{same_Some}
 use Rattle.circuit_theory.specs.Circuit.{Circuit}
 use Rattle.circuit_theory.proofs.Lists.{zip_right}
 use Rattle.flat_net.specs.View.{NetView, circuit_of}
-use Rattle.sec_base.specs.declared.basics.PairAnswer.{PairAnswer}
 use Rattle.sec_base.specs.declared.basics.PairAnswer.TheVariants as answer
 use Rattle.sec_base.specs.declared.settings.Settings.{Settings}
-use Rattle.obligations.specs.pair_decide.Proof.{Proof}
 use Rattle.obligations.specs.declared.outcome.verdict.Outcome.{Outcome}
 use Rattle.obligations.specs.declared.outcome.verdict.PairResult.{PairResult}
 use Rattle.obligations.specs.declared.outcome.verdict.Verdict.{Verdict}
@@ -16,20 +14,13 @@ use Rattle.obligations.specs.declared.outcome.verdict.Why.TheVariants as why
 use Rattle.witness_report.specs.declared.witness.Witness.{Witness}
 use Rattle.outcome_fits.specs.Cuts.{columns_of, is_cut}
 use Rattle.outcome_fits.specs.Pairs.{NamedPair, named_pairs}
-use Rattle.assume_laws.specs.Assume.{Assumption}
 use Rattle.assume_queries.specs.assume_sequences.assume_taken.Taken.{assumed_by}
-use Rattle.plain_check.specs.under_base.under_fits.Pairs.{AnswerFitsUnder, PairFitsUnder}
+use Rattle.obligations.proofs.Fits.{unshown_fits}
+use Rattle.outcome_fits.proofs.plain_meaning.Fitted.{some_cut}
+use Rattle.plain_check.specs.under_base.under_fits.Pairs.{PairFitsUnder}
 use Rattle.plain_check.specs.under_base.under_fits.Verdict.{IsFirstOfAnswerUnder, VerdictFitsUnder}
 use Rattle.plain_check.specs.under_base.Compared.{IsComparedUnder}
 use Rattle.plain_check.specs.under_base.Laws.{SaysUncut, VerdictsUnder}
-
--- a pair isn't shown to differ only where latches are cut open
-cut_answer : (c : Assumption) (a b : Circuit ℕ) (left right : List ℕ) (cut : Bool) (conflicts p q : ℕ) (x : PairAnswer) (proof : Option Proof) → AnswerFitsUnder c a b left right cut conflicts p q x proof → x ≡ answer.NotShown → cut ≡ true
-cut_answer c a b left right cut conflicts p q answer.NotShown None h e = h.0
-cut_answer c a b left right cut conflicts p q answer.NotShown (Some proof) h e = absurd h
-cut_answer c a b left right cut conflicts p q answer.Equal proof h e = absurd (cc)
-cut_answer c a b left right cut conflicts p q answer.Different proof h e = absurd (cc)
-cut_answer c a b left right cut conflicts p q answer.Limit proof h e = absurd (cc)
 
 never_cut : (names : List (List ℕ)) → names ≡ [] → is_cut names ≡ true → ⊥
 never_cut names none e = wrong (sym (ap is_cut none) ∙ e)
@@ -55,7 +46,7 @@ module _ (a b c : NetView) (settings : Settings) (o : Outcome) (is : IsComparedU
       let r = zip_right Fits listed o.pairs is.fits.pairs f.index f.place f.place_is in
       let same : r.0 ≡ f.result = same_Some r.0 f.result (sym r.1 ∙ f.result_is) in
       never_cut o.exposed (is.fits.exposed.closed closed)
-      (cut_answer (assumed_by is.met.assumed) left right is.fits.left is.fits.right (is_cut o.exposed) settings.conflicts f.place.left f.place.right r.0.answer r.0.proof r.2.answer_is (ap (λ (x : PairResult). x.answer) same ∙ f.answered))
+      (some_cut (is_cut o.exposed) (unshown_fits _ _ _ r.0.answer r.0.proof r.2.answer_is (ap (λ (x : PairResult). x.answer) same ∙ f.answered)).0)
 
   says : (v : Verdict) → o.verdict ≡ v → VerdictFitsUnder (assumed_by is.met.assumed) left right is.fits.left is.fits.right (columns_of a b o.exposed) is.met.row listed o.pairs v →
       SaysUncut (assumed_by is.met.assumed) (circuit_of a) (circuit_of b) v

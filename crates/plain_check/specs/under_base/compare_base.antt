@@ -2,10 +2,8 @@ pub mod Compared
 pub mod FromReset
 pub mod Says
 pub use Rattle.reset_form.specs.declared.reset_functions.error.ResetError
-pub use Rattle.outcome_fits.specs.Limits
 pub use Rattle.outcome_fits.specs.Outcome
 pub use Rattle.outcome_fits.specs.ResetOutcome
-pub use Rattle.outcome_fits.specs.ResetLimits
 pub use Rattle.outcome_fits.specs.Cuts
 pub use Rattle.sec_setup.specs.Matching
 pub use Rattle.sec_setup.specs.declared.error.SetupError

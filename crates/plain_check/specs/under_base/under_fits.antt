@@ -1,5 +1,3 @@
-pub mod Cycles
-pub mod Limits
 pub mod Outcome
 pub mod Pairs
 pub mod Places

@@ -208,8 +208,7 @@ differs = record {
   left_unfolds = left_unfolds;
   right_unfolds = right_unfolds;
   bits = bits;
-  left_care = shown.left_care;
-  right_care = shown.right_care;
+  care = (shown.left_care, shown.right_care);
   differ = distinguishes.differs;
 }
 

@@ -19,7 +19,7 @@ use Rattle.aig.specs.declared.node.Node.TheVariants.{Input}
 use Rattle.aig.specs.Graph.{IsGraph}
 use Rattle.aig.specs.Cone.{IsReached}
 use Rattle.aig.specs.Values.{value}
-use Rattle.aig.specs.Builds.{HasTreeValues}
+use Rattle.aig.specs.Builds.{HasTreeValues, HasValueOf}
 use Rattle.aig.proofs.CoverMeaning.{value-one}
 use Rattle.cbf_unfold.specs.declared.unfold_places.signal_function.Unfolded.{Unfolded}
 use Rattle.cbf_unfold.specs.unfold_places.Growing.{IsNumberOf}
@@ -28,13 +28,12 @@ use Rattle.reset_form.specs.reset_unfold.Unfolded.{IsResetUnfolded}
 use Rattle.reset_form.proofs.reset_unfold.CoveredCones.{covers_cone}
 use Rattle.cbf_unfold.proofs.unfold_places.Lists.{pairs_map}
 use Rattle.pair_decide.specs.declared.query.Query.{Query}
-use Rattle.pair_decide.specs.Queries.{IsQuery, IsSame, IsLeast, Distinguishes, assigned_to, roots_of}
+use Rattle.pair_decide.specs.Queries.{IsQuery, IsLeast, Distinguishes, assigned_to, roots_of}
 use Rattle.cbf_unfold.specs.shift_variables.Sequences.{bits_at}
 use Rattle.cbf_unfold.specs.shift_variables.Variables.{variable_of, variables_of}
 use Rattle.cbf_unfold.specs.shift_variables.cycle_variables.Cycles.{GoesFirst, AreInCycles, IsCycleMerge}
 use Rattle.cbf_unfold.proofs.shift_variables.cycle_variables.MergeCycles.{cycle_apart}
 use Rattle.reset_form.specs.reset_asked.Asked.{IsCycleQuery}
-use Rattle.outcome_fits.specs.ResetLimits.{HasValueOf}
 use Rattle.cbf_unfold.proofs.shift_variables.Assignments.{assigned_alike}
 
 -- the number of a variable in the table is that of the variable
@@ -196,21 +195,11 @@ module _ {a b : NetView} {left right : List ℕ} {left_base right_base : ℕ} {g
   pub right_value : HasValueOf g places q.right.0 (λ bits. tree_value bits right_tree)
   right_value bits y takes = ap (value g y) right_lit ∙ x.values places bits y right_tree r.lit.0 takes x.right_is.builds
 
-  care_holds : (y : ℕ → Bool) → value g y q.care.0 ≡ true
+  pub care_holds : (y : ℕ → Bool) → value g y q.care.0 ≡ true
   care_holds y = ap (value g y) x.asks.care_is ∙ value-one g x.graph y
 
-  pub care_value : HasValueOf g places q.care.0 (λ bits. true)
-  care_value bits y takes = care_holds y
-
-  -- the sides agree under every assignment
-  pub same_trees : IsSame g q → (bits : ℕ → ℕ → Bool) → tree_value bits left_tree ≡ tree_value bits right_tree
-  same_trees same bits =
-      let y : ℕ → Bool = λ v. bits (get_or places v (0, 0)).0 (get_or places v (0, 0)).1 in
-      let takes : (v : ℕ) (p : ℕ × ℕ) → slice_get places v ≡ Some p → y v ≡ bits p.0 p.1 = λ v p at. ap (λ (z : ℕ × ℕ). bits z.0 z.1) (get_or_from_slice_get places v p (0, 0) at) in
-      sym (left_value bits y takes) ∙ (same y (care_holds y) ∙ right_value bits y takes)
-
   -- the bits of the query's variables, as those of inputs at shifts
-  takes_bits : (bits : List Bool) (v : ℕ) (p : ℕ × ℕ) → slice_get places v ≡ Some p → assigned_to q.vars bits v ≡ bits_at places q.vars bits p.0 p.1
+  pub takes_bits : (bits : List Bool) (v : ℕ) (p : ℕ × ℕ) → slice_get places v ≡ Some p → assigned_to q.vars bits v ≡ bits_at places q.vars bits p.0 p.1
   takes_bits bits v p at = assigned_alike places q.vars bits x.distinct query_in_order.within v p at
 
   pub left_at_bits : (bits : List Bool) → value g (assigned_to q.vars bits) q.left.0 ≡ tree_value (bits_at places q.vars bits) left_tree

@@ -29,7 +29,8 @@ use Rattle.reset_form.specs.reset_asked.Asked.{AskedOf}
 use Rattle.reset_form.specs.reset_asked.Numbers.{numbered}
 use Rattle.outcome_fits.specs.ResetOutcome.{AgreeAt, AgreeBefore, AnswerFits, PairFits}
 use Rattle.reset_form.proofs.reset_asked.CycleQueries.{AsksCycle, is_query}
-use Rattle.reset_form.proofs.reset_asked.Decided.{equal_at, differ_at, undecided_at}
+use Rattle.obligations.proofs.Fits.{equal, different, undecided}
+use Rattle.reset_form.proofs.reset_asked.Decided.{asks_pair}
 
 -- the graph and the table of functions are sound
 pub record AreSoundFunctions (f : Functions) : Type 0 where
@@ -81,7 +82,7 @@ module _ (s : Setup) (b : Bases) (f : Functions) (sound : AreSoundFunctions f) (
 
   -- both functions agree where the query is same
   agree_at : (t : ℕ) → t ≤ o.size → ((q : Query) → slice_get o.queries t ≡ Some q → IsSame f.aig q) → AgreeAt (numbered s b) x.left.0 x.right.0 t
-  agree_at t le same = let i = query_in t le in equal_at i.asks (same i.query i.at)
+  agree_at t le same = let i = query_in t le in equal (asks_pair i.asks) (same i.query i.at)
 
   pub agree_before : (t : ℕ) (q : Query) → IsFirstOpen f.aig o.queries t q → AgreeBefore (numbered s b) x.left.0 x.right.0 t
   agree_before t q first u below = agree_at u (let le = place_within t q first.at in omega (arith, below, le)) (λ y at. first.earlier u y below at)
@@ -103,7 +104,7 @@ module _ (s : Setup) (b : Bases) (f : Functions) (sound : AreSoundFunctions f) (
       go answer.Different None h =
           let d = h.1 in
           let first = d.is.first in
-          (d.place, place_within d.place d.is.query first.at, agree_before d.place d.is.query first, differ_at (asks_at d.place d.is.query first.at).2 s.columns d.bits d.is.differs)
+          (d.place, place_within d.place d.is.query first.at, agree_before d.place d.is.query first, different (asks_pair (asks_at d.place d.is.query first.at).2) d.bits d.is.differs)
       go answer.Different (Some proof) h = h
       go answer.NotShown None h = no (sym k.decisive_is ∙ h.0)
       go answer.NotShown (Some proof) h = h
@@ -112,5 +113,5 @@ module _ (s : Setup) (b : Bases) (f : Functions) (sound : AreSoundFunctions f) (
         h.place,
         place_within h.place h.query h.first.at,
         agree_before h.place h.query h.first,
-        undecided_at (asks_at h.place h.query h.first.at).2 conflicts proof h.limit.graph h.limit.asked h.limit.stands h.limit.decides,
+        undecided (asks_pair (asks_at h.place h.query h.first.at).2) conflicts proof h.limit,
       )

@@ -1,7 +1,7 @@
 -- What the status says of a certificate, and when there is one.
 use Rattle.std.specs.Prelude.{◌≡◌, ℕ, Bool, true, false, List, [], ◌∷◌, Option, IsSomeAnd}
 use Rattle.circuit_theory.specs.declared.Side.{Side}
-use Rattle.circuit_theory.specs.Tree.{HaveEqualFunctions}
+use Rattle.circuit_theory.specs.Asked.{HaveEqualFunctions}
 use Rattle.sec_base.specs.base_shelves.Outside.{Takes}
 use Rattle.flat_net.specs.View.{NetView, circuit_of}
 use Rattle.pair_decide.specs.declared.cnf_encode.cnf.Cnf.{Cnf}

@@ -318,8 +318,7 @@ always_shown = record {
   left_unfolds = left_unfolds;
   right_unfolds = right_unfolds;
   bits = frame_of always_variables (true ∷ []);
-  left_care = care_of (Left 3) (frame_of always_variables (true ∷ []));
-  right_care = care_of (Right 1) (frame_of always_variables (true ∷ []));
+  care = (care_of (Left 3) (frame_of always_variables (true ∷ [])), care_of (Right 1) (frame_of always_variables (true ∷ [])));
   differ = λ e. apart (left_value (frame_of always_variables (true ∷ [])) ∙ (e ∙ sym (right_value (frame_of always_variables (true ∷ [])))));
 }
 

@@ -61,8 +61,8 @@ asks = record {
   left = left_value;
   right = right_value;
   care = λ bits. (
-    (λ e. record { left = care_of (Left 3) bits; right = care_of (Right 1) bits; meets = λ node h. row_meets (λ i. bits i node) (sym (ap (bits 0) (node_is node h)) ∙ e) }),
-    λ care. meets_row (λ i. bits i (0 ∷ [])) (care.meets (0 ∷ []) (left_tree, 0, inl (inl left_unfolds), left_has_leaf)),
+    (λ e. ((care_of (Left 3) bits, care_of (Right 1) bits), λ node h. row_meets (λ i. bits i node) (sym (ap (bits 0) (node_is node h)) ∙ e))),
+    λ care. meets_row (λ i. bits i (0 ∷ [])) (care.1 (0 ∷ []) (left_tree, 0, inl (inl left_unfolds), left_has_leaf)),
   );
 }
 

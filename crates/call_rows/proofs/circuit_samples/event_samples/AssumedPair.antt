@@ -105,7 +105,7 @@ z_values bits e d = subst (λ a. Value (bits 0 (1 ∷ [])) a) d (subst (λ b. Va
 
 -- the assumption holds where q of the first side has loaded
 a_is_on : (bits : ℕ → List ℕ → Bool) (p q : Either ℕ ℕ) (tree : Tree (List ℕ)) → EventUnfolds side (Opened.On cleared_pair) None p [] tree → HasLeaf (record { input = 2; at = 1 ∷ [] }) tree → HasCareUnder a_is_one side p q bits → true ≡ bits 2 (1 ∷ [])
-a_is_on bits p q tree unfolds stands care = sym (meets_row (λ i. bits i (1 ∷ [])) (care.meets (1 ∷ []) (tree, 2, inl (inl unfolds), stands)))
+a_is_on bits p q tree unfolds stands care = sym (meets_row (λ i. bits i (1 ∷ [])) (care.1 (1 ∷ []) (tree, 2, inl (inl unfolds), stands)))
 
 z_leaf : HasLeaf (record { input = 2; at = 1 ∷ [] }) (Opened.left_z cleared_pair)
 z_leaf = HasLeaf.inside (HasLeafIn.first (HasLeaf.inside (HasLeafIn.later (HasLeafIn.first HasLeaf.leaf))))
@@ -119,7 +119,7 @@ z_equal = record {
   right_tree = Opened.right_z cleared_pair;
   left_unfolds = Opened.left_z_unfolds cleared_pair;
   right_unfolds = Opened.right_z_unfolds cleared_pair;
-  same = λ bits care. z_values bits (Opened.e_is_on cleared_pair bits (Left 9) (Opened.left_z_reads cleared_pair) care.left) (a_is_on bits (Left 9) (Right 9) (Opened.left_z cleared_pair) (Opened.left_z_unfolds cleared_pair) z_leaf care);
+  same = λ bits care. z_values bits (Opened.e_is_on cleared_pair bits (Left 9) (Opened.left_z_reads cleared_pair) care.0.0) (a_is_on bits (Left 9) (Right 9) (Opened.left_z cleared_pair) (Opened.left_z_unfolds cleared_pair) z_leaf care);
 }
 
 y_equal : HaveEqualEventsUnder a_is_one side (Left 10) (Right 10)
@@ -129,7 +129,7 @@ y_equal = record {
   left_unfolds = Opened.left_y_unfolds cleared_pair;
   right_unfolds = Opened.right_y_unfolds cleared_pair;
   same = λ bits care. Opened.y_values cleared_pair bits (Opened.left_z cleared_pair) (Opened.right_z cleared_pair)
-      (z_values bits (Opened.e_is_on cleared_pair bits (Left 10) (Opened.left_y_reads cleared_pair) care.left) (a_is_on bits (Left 10) (Right 10) (Opened.y_of cleared_pair (Opened.left_z cleared_pair)) (Opened.left_y_unfolds cleared_pair) y_leaf care));
+      (z_values bits (Opened.e_is_on cleared_pair bits (Left 10) (Opened.left_y_reads cleared_pair) care.0.0) (a_is_on bits (Left 10) (Right 10) (Opened.y_of cleared_pair (Opened.left_z cleared_pair)) (Opened.left_y_unfolds cleared_pair) y_leaf care));
 }
 
 t_equal : HaveEqualEventsUnder a_is_one side (Left 8) (Right 8)

@@ -140,7 +140,7 @@ pub side_without_care : HaveNoCare never_side (Left 1) (Left 1)
 side_without_care bits l r = no_frame bits l
 
 pub pair_without_care_under : HaveNoCareUnder one_always never_side (Left 1) (Right 1)
-pair_without_care_under bits h = no_frame bits h.left
+pair_without_care_under bits h = no_frame bits h.0.0
 
 left_value : (bits : ℕ → List ℕ → Bool) → false ≡ tree_value bits (Fixed false)
 unfolding tree_value

@@ -124,7 +124,7 @@ z_equal = record {
   right_tree = Opened.right_z pair;
   left_unfolds = Opened.left_z_unfolds pair;
   right_unfolds = Opened.right_z_unfolds pair;
-  same = λ bits l r. z_values bits (Opened.e_is_on pair bits (Left 9) left_z_reads l);
+  same = λ bits care. z_values bits (Opened.e_is_on pair bits (Left 9) left_z_reads care.0);
 }
 
 pub y_equal : HaveEqualEvents side (Left 10) (Right 10)
@@ -133,11 +133,11 @@ y_equal = record {
   right_tree = Opened.y_of pair (Opened.right_z pair);
   left_unfolds = Opened.left_y_unfolds pair;
   right_unfolds = Opened.right_y_unfolds pair;
-  same = λ bits l r. Opened.y_values pair bits (Opened.left_z pair) (Opened.right_z pair) (z_values bits (Opened.e_is_on pair bits (Left 10) left_y_reads l));
+  same = λ bits care. Opened.y_values pair bits (Opened.left_z pair) (Opened.right_z pair) (z_values bits (Opened.e_is_on pair bits (Left 10) left_y_reads care.0));
 }
 
 pub t_equal : HaveEqualEvents side (Left 8) (Right 8)
-t_equal = record { left_tree = Opened.t_tree pair; right_tree = Opened.t_tree pair; left_unfolds = Opened.left_t_unfolds pair; right_unfolds = Opened.right_t_unfolds pair; same = λ bits l r. refl }
+t_equal = record { left_tree = Opened.t_tree pair; right_tree = Opened.t_tree pair; left_unfolds = Opened.left_t_unfolds pair; right_unfolds = Opened.right_t_unfolds pair; same = λ bits care. refl }
 
 pub pairs_equal : (p q : ℕ) → IsPair [] left_side right_side p q → HaveEqualEvents side (Left p) (Right q)
 pairs_equal = Opened.at_outputs pair (λ p q. HaveEqualEvents side (Left p) (Right q)) y_equal z_equal t_equal

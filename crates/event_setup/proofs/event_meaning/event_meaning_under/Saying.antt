@@ -1,5 +1,5 @@
 -- What equal, different and a sequence that isn't shown say of the circuits under an assumption.
-use Rattle.std.proofs.Common.{◌≡◌, ◌∙◌, ℕ, Bool, false, List, length, slice_get, Option, Some, None, sym, ap, subst}
+use Rattle.std.proofs.Common.{◌≡◌, ◌∙◌, ℕ, Bool, false, List, length, slice_get, Some, sym, ap, subst}
 use Rattle.std.specs.List.{Contains}
 use Rattle.circuit_theory.proofs.Lists.{Contains-map, of_at, zip_right}
 use Rattle.circuit_theory.specs.Sequence.{sequence_rows}
@@ -8,23 +8,21 @@ use Rattle.flat_net.specs.View.{NetView, circuit_of}
 use Rattle.flat_net.proofs.Nets.{sound_is_net, sound_names}
 use Rattle.sec_setup.specs.declared.ports.pairs.SignalPair.{SignalPair}
 use Rattle.sec_setup.specs.ports.Pairs.{NamedPair, named_pairs, places_of}
-use Rattle.sec_base.specs.declared.basics.PairAnswer.{PairAnswer}
 use Rattle.sec_base.specs.declared.basics.PairAnswer.TheVariants as answer
-use Rattle.pair_decide.specs.declared.query.Proof.{Proof}
 use Rattle.sec_setup.specs.Cuts.{columns_of, is_cut}
 use Rattle.witness_report.specs.declared.witness.Witness.{Witness}
 use Rattle.witness_report.specs.Shown.{MakesDiffer, MakesCutsDiffer}
 use Rattle.obligations.specs.declared.outcome.verdict.Outcome.{Outcome}
 use Rattle.obligations.specs.declared.outcome.verdict.PairResult.{PairResult}
 use Rattle.edbf_unfold.specs.class_queries.Enables.{both_of}
-use Rattle.event_nodes.specs.View.{EventCircuitView}
 use Rattle.event_setup.proofs.event_meaning.event_names.event_fits.Differing.{cuts_differ, circuits_differ}
 use Rattle.event_setup.proofs.event_meaning.Cases.{cut_found, cut_no_limit, different_found, different_no_limit, equal_found, equal_no_limit}
 use Rattle.assume_laws.specs.Assume.{Assumption}
 use Rattle.assume_laws.specs.Sequences.{filled_frame}
-use Rattle.event_under.specs.Answers.{AnswerFitsUnder, PairFitsUnder}
+use Rattle.event_under.specs.Answers.{PairFitsUnder}
 use Rattle.event_under.proofs.Agreeing.{cuts_agree}
 use Rattle.event_under.specs.event_shown_under.event_under_fits.Findings.{IsSequenceUnder, VerdictFitsUnder}
+use Rattle.obligations.proofs.Fits.{different_fits}
 use Rattle.event_setup.specs.event_meaning.event_names.event_fits.Findings.{IsFirstWith}
 use Rattle.event_setup.specs.event_meaning.event_names.event_fits.Circuits.{AreNets}
 use Rattle.event_setup.specs.event_meaning.event_names.event_fits.Named.{latch_names}
@@ -35,14 +33,6 @@ use Rattle.event_setup.proofs.event_meaning.event_meaning_under.Comparing.{all_p
 
 same_some : {X : Type 0} {x y : X} → Some x ≡ Some y → x ≡ y
 same_some q = cc
-
--- what differs is decisive, so no latch is cut open
-decisive : (c : Assumption) (a b : EventCircuitView) (open_latches : Bool) (conflicts : ℕ) (p q : ℕ) (x : PairAnswer) (proof : Option Proof) → AnswerFitsUnder c (both_of a b) open_latches conflicts p q x proof → x ≡ answer.Different → open_latches ≡ false
-decisive c a b open_latches conflicts p q answer.Equal proof h e = absurd (cc)
-decisive c a b open_latches conflicts p q answer.Different None h e = h.0.0
-decisive c a b open_latches conflicts p q answer.Different (Some proof) h e = absurd h
-decisive c a b open_latches conflicts p q answer.NotShown proof h e = absurd (cc)
-decisive c a b open_latches conflicts p q answer.Limit proof h e = absurd (cc)
 
 pub equal_outcomes : EqualOutcomesAgreeUnder
 equal_outcomes c weight meeting a b expose conflicts o nets fits e =
@@ -62,7 +52,7 @@ module _ (c : Assumption) (weight : ℕ) (meeting : ℕ → Bool) (a b : NetView
   uncut : is_cut o.exposed ≡ false
   uncut =
       sym k.cut
-      ∙ decisive c k.left k.right k.compared.cut conflicts place.left.0 place.right.0 result.0.answer result.0.proof result.2.answer_is (ap (λ (x : PairResult). x.answer) (same_some (sym result.1 ∙ first.result_at)) ∙ first.answered)
+      ∙ (different_fits _ _ _ result.0.answer result.0.proof result.2.answer_is (ap (λ (x : PairResult). x.answer) (same_some (sym result.1 ∙ first.result_at)) ∙ first.answered)).0.0
 
 -- the first pair of an answer, with its sequence
 module _ (c : Assumption) (weight : ℕ) (meeting : ℕ → Bool) (a b : NetView) (expose : Bool) (conflicts : ℕ) (o : Outcome) (nets : AreNets a b) (k : IsComparedByPairsUnder c weight meeting a b expose conflicts o) (index : ℕ) (place : SignalPair)

@@ -1,10 +1,8 @@
 -- What an outcome of the comparison of two nets from their initial values under an assumption says of the texts that load as them.
 use Rattle.std.specs.List.{Contains}
-use Rattle.std.proofs.Common.{◌≡◌, ◌≤◌, ℕ, List, [], append-nil, refl, sym, ◌∙◌, subst, ap, Option, Some, None}
+use Rattle.std.proofs.Common.{◌≡◌, ℕ, List, [], append-nil, sym, ◌∙◌, subst, ap, Option}
 use Rattle.circuit_theory.proofs.Lists.{of_at}
 use Rattle.sec_base.specs.base_shelves.Outside.{Takes}
-use Rattle.sec_base.specs.declared.basics.PairAnswer.{PairAnswer}
-use Rattle.sec_base.specs.declared.basics.PairAnswer.TheVariants as answer
 use Rattle.sec_base.specs.declared.settings.Settings.{Settings}
 use Rattle.witness_report.specs.declared.witness.PairName.{PairName}
 use Rattle.witness_report.specs.declared.witness.Witness.{Witness}
@@ -26,9 +24,9 @@ use Rattle.plain_check.proofs.under_base.compare_base.Fitted.{kept_proof}
 use Rattle.swept_queries.proofs.Listed.{zip_left}
 use Rattle.assume_laws.specs.Assume.{Assumption}
 use Rattle.plain_check.specs.under_base.Taken.{assumed_by}
-use Rattle.plain_check.specs.under_base.under_fits.Cycles.{IsUndecidedUnder}
+use Rattle.obligations.proofs.Fits.{answers_limit}
 use Rattle.plain_check.specs.under_base.under_fits.ResetOutcome.{ResetVerdictFitsUnder, numbers_of}
-use Rattle.plain_check.specs.under_base.under_fits.ResetVerdict.{AgreeBeforeUnder, AnswerFitsUnder, PairFitsUnder}
+use Rattle.plain_check.specs.under_base.under_fits.ResetVerdict.{PairFitsUnder}
 use Rattle.plain_check.specs.under_base.Compared.{IsComparedFromResetUnder}
 use Rattle.plain_check.specs.under_base.Met.{shared_by}
 use Rattle.job_base.specs.sec_files.Loading.{Loads}
@@ -37,22 +35,6 @@ use Rattle.job_check.specs.check_meaning.assume_texts.Resets.{ResetsAgreeUnder, 
 use Rattle.job_check.proofs.check_meaning.assume_texts.Designs.{resets_agree_up, resets_differ_up, sequence_up}
 use Rattle.job_check.proofs.check_meaning.assume_texts.Sequences.{differ_where_met, resets_where_met, sequence_meets}
 use Rattle.job_check.proofs.check_meaning.assume_texts.Texts.{spelled}
-
--- a pair at the limit has a proof that its query in some cycle was given up
-record IsGivenUp (c : Assumption) (n : Numbered) (conflicts p q depth : ℕ) (proof : Option Proof) : Type 0 where
-  pub kept : Proof
-  pub is : proof ≡ Some kept
-  pub cycle : ℕ
-  pub within : cycle ≤ depth
-  pub agree_before : AgreeBeforeUnder c n p q cycle
-  pub undecided : IsUndecidedUnder c n.a n.b n.left n.right n.left_base n.right_base conflicts p q cycle kept
-
-limit_answer : (c : Assumption) (n : Numbered) (conflicts p q depth : ℕ) (x : PairAnswer) (proof : Option Proof) → AnswerFitsUnder c n conflicts p q depth x proof → x ≡ answer.Limit → IsGivenUp c n conflicts p q depth proof
-limit_answer c n conflicts p q depth x proof fits e = go proof (subst (λ y. AnswerFitsUnder c n conflicts p q depth y proof) e fits)
-  where
-    go : (o : Option Proof) → AnswerFitsUnder c n conflicts p q depth answer.Limit o → IsGivenUp c n conflicts p q depth o
-    go None h = absurd h
-    go (Some kept) (cycle, within, before, undecided) = record { kept = kept; is = refl; cycle = cycle; within = within; agree_before = before; undecided = undecided }
 
 module _ (x y z : List ℕ) (a b c : NetView) (left : Loads x a) (right : Loads y b) (assumed : Loads z c) (before now : Option (List ℕ)) (settings : Settings) (o : Outcome) (taken : Takes before now (report_text settings o))
     (compared : IsComparedFromResetUnder a b c settings o) where
@@ -107,7 +89,7 @@ module _ (x y z : List ℕ) (a b c : NetView) (left : Loads x a) (right : Loads 
   resets_at : (proofs : List Proof) (name : PairName) → o.verdict ≡ verdict.Limit (limit_at.Pair name) → IsFirstLimit o.pairs name → proofs ≡ outcome_proofs o → ResetsUndecidedUnder x y z settings proofs before now
   resets_at proofs name e first kept =
       let n = zip_left (PairFitsUnder under numbers settings.conflicts) pairs o.pairs compared.fits.pairs first.index first.result first.result_is in
-      let given = limit_answer under numbers settings.conflicts n.0.left n.0.right first.result.size first.result.answer first.result.proof n.2.answer_is first.limit in
+      let given = answers_limit first.result.answer first.result.proof n.2.answer_is first.limit in
       record {
         left_net = a;
         right_net = b;
@@ -129,12 +111,12 @@ module _ (x y z : List ℕ) (a b c : NetView) (left : Loads x a) (right : Loads 
         is_pair = of_at pairs first.index n.0 n.1;
         depth = first.result.size;
         is_depth = n.2.size_is;
-        cycle = given.cycle;
-        within = given.within;
-        agree_before = given.agree_before;
-        proof = given.kept;
-        kept = subst (λ (ps : List Proof). Contains ps given.kept) (sym (kept ∙ pair_proofs o name e)) (kept_proof o.pairs first.result given.kept (of_at o.pairs first.index first.result first.result_is) given.is);
-        undecided = given.undecided;
+        cycle = given.2.0;
+        within = given.2.1;
+        agree_before = given.2.2;
+        proof = given.0;
+        kept = subst (λ (ps : List Proof). Contains ps given.0) (sym (kept ∙ pair_proofs o name e)) (kept_proof o.pairs first.result given.0 (of_at o.pairs first.index first.result first.result_is) given.1);
+        undecided = given.2.3;
         is_verdict = e ∙ ap (λ m. verdict.Limit (limit_at.Pair m)) (first.named ∙ n.2.name_is);
         printed = taken;
       }

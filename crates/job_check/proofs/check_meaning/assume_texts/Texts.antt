@@ -1,11 +1,8 @@
 -- What an outcome of the comparison of two nets under an assumption says of the texts that load as them.
 use Rattle.std.specs.List.{Contains}
-use Rattle.std.proofs.Common.{◌≡◌, ◌∙◌, ℕ, ◌++◌, Bool, false, true, List, refl, sym, subst, ap, Option, None, Some, slice_get}
-use Rattle.circuit_theory.specs.Circuit.{Circuit}
+use Rattle.std.proofs.Common.{◌≡◌, ◌∙◌, ℕ, List, sym, subst, ap, Option, Some, slice_get}
 use Rattle.circuit_theory.proofs.Lists.{of_at}
 use Rattle.sec_base.specs.base_shelves.Outside.{Takes}
-use Rattle.sec_base.specs.declared.basics.PairAnswer.{PairAnswer}
-use Rattle.sec_base.specs.declared.basics.PairAnswer.TheVariants as answer
 use Rattle.sec_base.specs.declared.settings.Settings.{Settings}
 use Rattle.witness_report.specs.declared.witness.Witness.{Witness}
 use Rattle.flat_net.specs.View.{NetView, circuit_of}
@@ -28,8 +25,8 @@ use Rattle.outcome_fits.specs.Outcome.{IsFirstLimit}
 use Rattle.assume_laws.specs.Assume.{Assumption}
 use Rattle.assume_laws.specs.Sequences.{RowsMeet}
 use Rattle.plain_check.specs.under_base.Taken.{assumed_by}
-use Rattle.plain_check.specs.under_base.under_fits.Limits.{IsUndecidedUnder}
-use Rattle.plain_check.specs.under_base.under_fits.Pairs.{AnswerFitsUnder, PairFitsUnder}
+use Rattle.obligations.proofs.Fits.{different_fits, unshown_fits, limit_fits}
+use Rattle.plain_check.specs.under_base.under_fits.Pairs.{PairFitsUnder}
 use Rattle.plain_check.specs.under_base.under_fits.Verdict.{VerdictFitsUnder}
 use Rattle.plain_check.specs.under_base.Compared.{IsComparedUnder}
 use Rattle.plain_check.specs.under_base.Met.{shared_by}
@@ -37,39 +34,11 @@ use Rattle.job_base.specs.sec_files.Loading.{Loads, circuit_of_text}
 use Rattle.job_base.proofs.sec_files.Texts.{spelled_circuit}
 use Rattle.job_base.proofs.design_laws.text_circuits.Circuits.{text_design, texts_differ_by, texts_minimal, texts_cuts_differ}
 use Rattle.swept_queries.proofs.Listed.{zip_left}
-use Rattle.plain_check.proofs.under_base.compare_base.Fitted.{no_names, some_names, were_exposed, kept_proof, next_among}
+use Rattle.plain_check.proofs.under_base.compare_base.Fitted.{some_cut, no_names, some_names, were_exposed, kept_proof, next_among}
 use Rattle.job_check.specs.check_meaning.assume_texts.Meets.{SequenceMeetsCircuit}
 use Rattle.job_check.specs.check_meaning.assume_texts.Texts.{ThreeCircuits, TextsAgreeUnder, TextsDifferUnder, TextsNotShownUnder, TextsUndecidedUnder}
 use Rattle.job_check.proofs.check_meaning.assume_texts.Designs.{equal_up, sequence_up}
 use Rattle.job_check.proofs.check_meaning.assume_texts.Sequences.{equal_where_met, sequence_meets}
-
-module _ {P Q : Type 0} (c : Assumption) (a : Circuit P) (b : Circuit Q) (left right : List ℕ) (cut : Bool) (conflicts : ℕ) (p : P) (q : Q) where
-  abbrev Fits : PairAnswer → Option Proof → Type 0
-  Fits x proof = AnswerFitsUnder c a b left right cut conflicts p q x proof
-
-  -- a pair differs where no latch is cut open
-  uncut_answer : (x : PairAnswer) (proof : Option Proof) → Fits x proof → x ≡ answer.Different → cut ≡ false
-  uncut_answer x proof fits e = go proof (subst (λ y. Fits y proof) e fits)
-    where
-      go : (o : Option Proof) → Fits answer.Different o → cut ≡ false
-      go None h = h.0
-      go (Some proof) h = absurd h
-
-  -- a pair isn't shown where some latch is
-  cut_answer : (x : PairAnswer) (proof : Option Proof) → Fits x proof → x ≡ answer.NotShown → cut ≡ true
-  cut_answer x proof fits e = go proof (subst (λ y. Fits y proof) e fits)
-    where
-      go : (o : Option Proof) → Fits answer.NotShown o → cut ≡ true
-      go None h = h.0
-      go (Some proof) h = absurd h
-
-  -- a pair at the limit has a proof that its query was given up
-  limit_answer : (x : PairAnswer) (proof : Option Proof) → Fits x proof → x ≡ answer.Limit → (kept : Proof) × (proof ≡ Some kept) × IsUndecidedUnder c a b left right conflicts p q kept
-  limit_answer x proof fits e = go proof (subst (λ y. Fits y proof) e fits)
-    where
-      go : (o : Option Proof) → Fits answer.Limit o → (kept : Proof) × (o ≡ Some kept) × IsUndecidedUnder c a b left right conflicts p q kept
-      go None h = absurd h
-      go (Some proof) h = (proof, refl, h)
 
 module _ (x y z : List ℕ) (a b c : NetView) (left : Loads x a) (right : Loads y b) (assumed : Loads z c) where
   -- what the three texts spell
@@ -140,7 +109,7 @@ module _ (x y z : List ℕ) (a b c : NetView) (left : Loads x a) (right : Loads 
           outcome = o;
           witness = w;
           is_verdict = e;
-          uncut = no_names o.exposed (uncut_answer _ _ _ _ _ _ _ _ _ first.result.answer first.result.proof n.2.answer_is first.answered);
+          uncut = no_names o.exposed (different_fits _ _ _ first.result.answer first.result.proof n.2.answer_is first.answered).0;
           printed = taken;
           says = texts_differ_by x y a b left right w shows.0;
           meets = sequence_up (text_design z c assumed) w.stimulus w.cycle (net_met w first.names_are shows.1);
@@ -151,7 +120,7 @@ module _ (x y z : List ℕ) (a b c : NetView) (left : Loads x a) (right : Loads 
         let verdict_fits = subst IsVerdict e compared.fits.verdict_is in
         let first = verdict_fits.2 in
         let n = pair_of first.index first.result first.result_is in
-        let exposed = some_names o.exposed (cut_answer _ _ _ _ _ _ _ _ _ first.result.answer first.result.proof n.2.answer_is first.answered) in
+        let exposed = some_names o.exposed (some_cut (is_cut o.exposed) (unshown_fits _ _ _ first.result.answer first.result.proof n.2.answer_is first.answered).0) in
         let shows = compared.not_shown w e in
         let met = net_met w first.names_are shows.1 in
         record {
@@ -181,7 +150,7 @@ module _ (x y z : List ℕ) (a b c : NetView) (left : Loads x a) (right : Loads 
     texts_undecided proofs at e kept =
         let first : IsFirstLimit o.pairs at = subst IsVerdict e compared.fits.verdict_is in
         let n = pair_of first.index first.result first.result_is in
-        let given = limit_answer _ _ _ _ _ _ _ _ _ first.result.answer first.result.proof n.2.answer_is first.limit in
+        let given = limit_fits _ _ _ first.result.answer first.result.proof n.2.answer_is first.limit in
         let own = kept ∙ pair_proofs o first.result.name (e ∙ ap verdict.Limit first.at_is) in
         record {
           left_net = a;

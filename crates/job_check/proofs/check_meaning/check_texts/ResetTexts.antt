@@ -1,16 +1,13 @@
 -- What an outcome of the comparison of two nets from their initial values says of the texts that load as them.
 use Rattle.std.specs.List.{Contains}
-use Rattle.std.proofs.Common.{◌≡◌, ◌≤◌, ℕ, List, [], refl, sym, ◌∙◌, subst, ap, Option, Some, None}
+use Rattle.std.proofs.Common.{◌≡◌, ℕ, List, [], sym, ◌∙◌, subst, ap, Option}
 use Rattle.circuit_theory.proofs.Lists.{of_at}
 use Rattle.sec_base.specs.base_shelves.Outside.{Takes}
-use Rattle.sec_base.specs.declared.basics.PairAnswer.{PairAnswer}
-use Rattle.sec_base.specs.declared.basics.PairAnswer.TheVariants as answer
 use Rattle.sec_base.specs.declared.settings.Settings.{Settings}
 use Rattle.witness_report.specs.declared.witness.PairName.{PairName}
 use Rattle.witness_report.specs.declared.witness.Witness.{Witness}
 use Rattle.flat_net.specs.View.{NetView, circuit_of}
 use Rattle.pair_decide.specs.declared.query.Proof.{Proof}
-use Rattle.obligations.specs.declared.outcome.verdict.PairResult.{PairResult}
 use Rattle.obligations.specs.declared.outcome.verdict.LimitAt.{LimitAt}
 use Rattle.obligations.specs.declared.outcome.verdict.LimitAt.TheVariants as limit_at
 use Rattle.obligations.specs.declared.outcome.verdict.Outcome.{Outcome}
@@ -22,8 +19,8 @@ use Rattle.obligations.specs.outcome.Report.{report_text}
 use Rattle.job_base.specs.Written.{outcome_proofs}
 use Rattle.job_base.proofs.Limits.{pair_proofs}
 use Rattle.sec_setup.specs.ports.Pairs.{NamedPair, named_pairs}
-use Rattle.plain_check.specs.under_base.compare_base.ResetLimits.{IsUndecidedAt}
-use Rattle.plain_check.specs.under_base.compare_base.ResetOutcome.{Numbered, AgreeBefore, AnswerFits, PairFits, IsFirstLimit}
+use Rattle.obligations.proofs.Fits.{answers_limit}
+use Rattle.plain_check.specs.under_base.compare_base.ResetOutcome.{Numbered, PairFits, IsFirstLimit}
 use Rattle.plain_check.specs.under_base.compare_base.Compared.{IsComparedFromReset}
 use Rattle.plain_check.specs.under_base.compare_base.FromReset.{numbered_by, ResetVerdictFits}
 use Rattle.job_base.specs.sec_files.Loading.{Loads, circuit_of_text}
@@ -34,22 +31,6 @@ use Rattle.job_check.specs.check_meaning.check_texts.Resets.{ResetsAgree, Resets
 use Rattle.swept_queries.proofs.Listed.{zip_left}
 use Rattle.plain_check.proofs.under_base.compare_base.Fitted.{kept_proof}
 use Rattle.job_check.proofs.check_meaning.check_texts.ResetDesigns.{resets_differ_up}
-
--- a pair at the limit has a proof that its query in some cycle was given up
-record IsGivenUp (n : Numbered) (conflicts p q depth : ℕ) (proof : Option Proof) : Type 0 where
-  pub kept : Proof
-  pub is : proof ≡ Some kept
-  pub cycle : ℕ
-  pub within : cycle ≤ depth
-  pub agree_before : AgreeBefore n p q cycle
-  pub undecided : IsUndecidedAt n.a n.b n.left n.right n.left_base n.right_base conflicts p q cycle kept
-
-limit_answer : (n : Numbered) (conflicts p q depth : ℕ) (x : PairAnswer) (proof : Option Proof) → AnswerFits n conflicts p q depth x proof → x ≡ answer.Limit → IsGivenUp n conflicts p q depth proof
-limit_answer n conflicts p q depth x proof fits e = go proof (subst (λ y. AnswerFits n conflicts p q depth y proof) e fits)
-  where
-    go : (o : Option Proof) → AnswerFits n conflicts p q depth answer.Limit o → IsGivenUp n conflicts p q depth o
-    go None h = absurd h
-    go (Some kept) (cycle, within, before, undecided) = record { kept = kept; is = refl; cycle = cycle; within = within; agree_before = before; undecided = undecided }
 
 module _ (before now : Option (List ℕ)) (settings : Settings) (o : Outcome) (taken : Takes before now (report_text settings o)) (x y : List ℕ) (a b : NetView) (left : Loads x a) (right : Loads y b)
     (compared : IsComparedFromReset a b settings o) where
@@ -114,7 +95,7 @@ module _ (before now : Option (List ℕ)) (settings : Settings) (o : Outcome) (t
   resets_at : (proofs : List Proof) (name : PairName) → o.verdict ≡ verdict.Limit (limit_at.Pair name) → IsFirstLimit o.pairs name → proofs ≡ outcome_proofs o → ResetsUndecided x y settings proofs before now
   resets_at proofs name e first kept =
       let n = zip_left (PairFits numbers settings.conflicts) pairs o.pairs compared.fits.pairs first.index first.result first.result_is in
-      let given = limit_answer numbers settings.conflicts n.0.left n.0.right first.result.size first.result.answer first.result.proof n.2.answer_is first.limit in
+      let given = answers_limit first.result.answer first.result.proof n.2.answer_is first.limit in
       record {
         left_net = a;
         right_net = b;
@@ -133,12 +114,12 @@ module _ (before now : Option (List ℕ)) (settings : Settings) (o : Outcome) (t
         is_pair = of_at pairs first.index n.0 n.1;
         depth = first.result.size;
         is_depth = n.2.size_is;
-        cycle = given.cycle;
-        within = given.within;
-        agree_before = given.agree_before;
-        proof = given.kept;
-        kept = subst (λ (ps : List Proof). Contains ps given.kept) (sym (kept ∙ pair_proofs o name e)) (kept_proof o.pairs first.result given.kept (of_at o.pairs first.index first.result first.result_is) given.is);
-        undecided = given.undecided;
+        cycle = given.2.0;
+        within = given.2.1;
+        agree_before = given.2.2;
+        proof = given.0;
+        kept = subst (λ (ps : List Proof). Contains ps given.0) (sym (kept ∙ pair_proofs o name e)) (kept_proof o.pairs first.result given.0 (of_at o.pairs first.index first.result first.result_is) given.1);
+        undecided = given.2.3;
         is_verdict = e ∙ ap (λ m. verdict.Limit (limit_at.Pair m)) (first.named ∙ n.2.name_is);
         printed = taken;
       }

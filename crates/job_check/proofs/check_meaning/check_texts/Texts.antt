@@ -28,7 +28,8 @@ use Rattle.job_base.proofs.sec_files.Texts.{spelled_circuit}
 use Rattle.job_base.proofs.design_laws.text_circuits.Circuits.{texts_agree_by, texts_agree_from, texts_differ_by, texts_minimal, texts_onward, texts_cuts_differ}
 use Rattle.job_check.specs.check_meaning.check_texts.Texts.{TextsAgree, TextsDiffer, TextsNotShown, TextsUndecided}
 use Rattle.swept_queries.proofs.Listed.{zip_left}
-use Rattle.plain_check.proofs.under_base.compare_base.Fitted.{uncut_answer, cut_answer, limit_answer, no_names, some_names, were_exposed, kept_proof, next_among}
+use Rattle.obligations.proofs.Fits.{different_fits, unshown_fits, limit_fits}
+use Rattle.plain_check.proofs.under_base.compare_base.Fitted.{some_cut, no_names, some_names, were_exposed, kept_proof, next_among}
 
 module _ (before now : Option (List ℕ)) (settings : Settings) (o : Outcome) (taken : Takes before now (report_text settings o)) (x y : List ℕ) (a b : NetView) (left : Loads x a) (right : Loads y b)
     (compared : IsCompared a b settings o) where
@@ -93,7 +94,7 @@ module _ (before now : Option (List ℕ)) (settings : Settings) (o : Outcome) (t
         outcome = o;
         witness = w;
         is_verdict = e;
-        uncut = no_names o.exposed (uncut_answer _ _ _ _ _ _ _ _ first.result.answer first.result.proof n.2.answer_is first.answered);
+        uncut = no_names o.exposed (different_fits _ _ _ first.result.answer first.result.proof n.2.answer_is first.answered).0;
         printed = taken;
         says = texts_differ_by x y a b left right w (compared.different w e);
       }
@@ -103,7 +104,7 @@ module _ (before now : Option (List ℕ)) (settings : Settings) (o : Outcome) (t
       let verdict_fits = subst IsVerdict e compared.fits.verdict_is in
       let first = verdict_fits.2 in
       let n = pair_of first.index first.result first.result_is in
-      let exposed = some_names o.exposed (cut_answer _ _ _ _ _ _ _ _ first.result.answer first.result.proof n.2.answer_is first.answered) in
+      let exposed = some_names o.exposed (some_cut (is_cut o.exposed) (unshown_fits _ _ _ first.result.answer first.result.proof n.2.answer_is first.answered).0) in
       record {
         left_clock = a.clock;
         right_clock = b.clock;
@@ -138,7 +139,7 @@ module _ (before now : Option (List ℕ)) (settings : Settings) (o : Outcome) (t
   texts_undecided proofs at e kept =
       let first : IsFirstLimit o.pairs at = subst IsVerdict e compared.fits.verdict_is in
       let n = pair_of first.index first.result first.result_is in
-      let given = limit_answer _ _ _ _ _ _ _ _ first.result.answer first.result.proof n.2.answer_is first.limit in
+      let given = limit_fits _ _ _ first.result.answer first.result.proof n.2.answer_is first.limit in
       let own = kept ∙ pair_proofs o first.result.name (e ∙ ap verdict.Limit first.at_is) in
       record {
         left_net = a;

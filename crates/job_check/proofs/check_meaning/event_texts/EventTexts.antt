@@ -1,13 +1,10 @@
 -- What an outcome of the comparison of two nets in the event mode says of the texts that load as them.
 use Rattle.std.specs.List.{Contains}
 use Rattle.std.specs.Prelude.{◌⊎◌}
-use Rattle.std.proofs.Common.{◌≡◌, ◌∙◌, ℕ, Bool, List, [], Option, Some, None, slice_get, refl, sym, ap, subst, inl, inr}
+use Rattle.std.proofs.Common.{◌≡◌, ◌∙◌, ℕ, List, [], Option, Some, slice_get, refl, sym, ap, subst, inl, inr}
 use Rattle.std.proofs.lemmas.List.Elements.{Contains-append_left}
-use Rattle.circuit_theory.specs.Joined.{Left, Right}
 use Rattle.circuit_theory.proofs.Lists.{Contains-head, of_at}
 use Rattle.sec_base.specs.base_shelves.Outside.{Takes}
-use Rattle.sec_base.specs.declared.basics.PairAnswer.{PairAnswer}
-use Rattle.sec_base.specs.declared.basics.PairAnswer.TheVariants as answer
 use Rattle.sec_base.specs.declared.settings.Settings.{Settings}
 use Rattle.witness_report.specs.declared.witness.PairName.{PairName}
 use Rattle.witness_report.specs.declared.witness.Witness.{Witness}
@@ -31,8 +28,8 @@ use Rattle.sec_setup.specs.Cuts.{columns_of}
 use Rattle.swept_queries.proofs.Listed.{zip_left}
 use Rattle.edbf_unfold.specs.class_queries.Enables.{both_of}
 use Rattle.outcome_fits.proofs.plain_meaning.Fitted.{kept_proof, no_names, some_names, were_exposed}
-use Rattle.event_setup.specs.event_meaning.Answers.{AnswerFits, IsUndecided, PairFits}
-use Rattle.event_nodes.specs.View.{EventCircuitView}
+use Rattle.obligations.proofs.Fits.{limit_fits}
+use Rattle.event_setup.specs.event_meaning.Answers.{PairFits}
 use Rattle.event_setup.specs.event_meaning.Findings.{VerdictFits}
 use Rattle.event_setup.specs.event_meaning.EventVerdict.{EventVerdict}
 use Rattle.event_setup.specs.event_meaning.EventVerdict.TheVariants as found
@@ -49,15 +46,6 @@ use Rattle.job_check.specs.check_meaning.event_texts.Texts.{AreRead, IsPrinted, 
 
 same_some : {X : Type 0} {x y : X} → Some x ≡ Some y → x ≡ y
 same_some q = cc
-
--- a pair at the limit has a proof that its query was given up
-limit_answer : (a b : EventCircuitView) (open_latches : Bool) (conflicts p q : ℕ) (x : PairAnswer) (proof : Option Proof) → AnswerFits (both_of a b) open_latches conflicts p q x proof → x ≡ answer.Limit →
-    (kept : Proof) × (proof ≡ Some kept) × IsUndecided (both_of a b) conflicts (Left p) (Right q) kept
-limit_answer a b open_latches conflicts p q x proof fits e = go proof (subst (λ y. AnswerFits (both_of a b) open_latches conflicts p q y proof) e fits)
-  where
-    go : (o : Option Proof) → AnswerFits (both_of a b) open_latches conflicts p q answer.Limit o → (kept : Proof) × (o ≡ Some kept) × IsUndecided (both_of a b) conflicts (Left p) (Right q) kept
-    go None h = absurd h
-    go (Some kept) h = (kept, refl, h)
 
 -- what was found where a limit is told, and that no difference from initial values is
 module _ (left right columns : List (List ℕ)) where
@@ -199,7 +187,7 @@ module _ (before now : Option (List ℕ)) (settings : Settings) (o : Outcome) (t
         let z = zip_left (PairFits (both_of c.left c.right) c.compared.cut settings.conflicts) c.compared.pairs.now c.found.pairs c.fits.pairs_fit f.index f.first.result f.first.result_at in
         let same : z.0 ≡ f.place = same_some (sym z.1 ∙ f.first.pair_at) in
         let fits = subst (λ p. PairFits (both_of c.left c.right) c.compared.cut settings.conflicts p f.first.result) same z.2 in
-        let g = limit_answer c.left c.right c.compared.cut settings.conflicts f.place.left.0 f.place.right.0 f.first.result.answer f.first.result.proof fits.answer_is f.first.answered in
+        let g = limit_fits _ _ _ f.first.result.answer f.first.result.proof fits.answer_is f.first.answered in
         let here : slice_get o.pairs f.index ≡ Some f.first.result = ap (λ (rs : List PairResult). slice_get rs f.index) c.pairs ∙ f.first.result_at in
         let own = kept ∙ pair_proofs o n.0 (e ∙ ap verdict.Limit n.2) in
         undecided_by g.0 (subst (λ (ps : List Proof). Contains ps g.0) (sym own) (kept_proof o.pairs f.first.result g.0 (of_at o.pairs f.index f.first.result here) g.1))

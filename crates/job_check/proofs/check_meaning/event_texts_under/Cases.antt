@@ -1,12 +1,9 @@
 -- What an outcome that fits under an assumption is by its verdict.
-use Rattle.std.proofs.Common.{◌≡◌, ◌∙◌, ℕ, Bool, false, slice_get, Option, Some, None, refl, sym, ap, subst, inl, inr}
+use Rattle.std.proofs.Common.{◌≡◌, ◌∙◌, ℕ, Bool, false, slice_get, Some, sym, ap, inl, inr}
 use Rattle.std.specs.Prelude.{◌⊎◌}
-use Rattle.circuit_theory.specs.Joined.{Left, Right}
 use Rattle.circuit_theory.proofs.Lists.{zip_right}
 use Rattle.flat_net.specs.View.{NetView}
-use Rattle.sec_base.specs.declared.basics.PairAnswer.{PairAnswer}
 use Rattle.sec_base.specs.declared.basics.PairAnswer.TheVariants as answer
-use Rattle.pair_decide.specs.declared.query.Proof.{Proof}
 use Rattle.sec_setup.specs.declared.ports.pairs.SignalPair.{SignalPair}
 use Rattle.sec_setup.specs.Cuts.{is_cut}
 use Rattle.obligations.specs.declared.outcome.verdict.LimitAt.{LimitAt}
@@ -15,9 +12,9 @@ use Rattle.obligations.specs.declared.outcome.verdict.Outcome.{Outcome}
 use Rattle.obligations.specs.declared.outcome.verdict.PairResult.{PairResult}
 use Rattle.obligations.specs.declared.outcome.verdict.Verdict.TheVariants as verdict
 use Rattle.edbf_unfold.specs.class_queries.Enables.{both_of}
-use Rattle.event_nodes.specs.View.{EventCircuitView}
 use Rattle.assume_laws.specs.Assume.{Assumption}
-use Rattle.event_under.specs.Answers.{AnswerFitsUnder, IsUndecidedUnder, PairFitsUnder}
+use Rattle.obligations.proofs.Fits.{different_fits}
+use Rattle.event_under.specs.Answers.{PairFitsUnder}
 use Rattle.event_setup.specs.event_meaning.Findings.{IsFirstWith}
 use Rattle.event_setup.specs.event_meaning.event_names.event_fits.Fitting.{class_limit, IsUnrecovered, IsUnclassed}
 use Rattle.event_setup.specs.event_meaning.event_names.event_fits.Named.{latch_names}
@@ -25,26 +22,6 @@ use Rattle.event_setup.specs.event_meaning.event_meaning_under.Fitted.{EventOutc
 
 same_some : {X : Type 0} {x y : X} → Some x ≡ Some y → x ≡ y
 same_some q = cc
-
-module _ (c : Assumption) (a b : EventCircuitView) (open_latches : Bool) (conflicts : ℕ) (p q : ℕ) where
-  abbrev Fits : PairAnswer → Option Proof → Type 0
-  Fits x proof = AnswerFitsUnder c (both_of a b) open_latches conflicts p q x proof
-
-  -- what differs is decisive, so no latch is cut open
-  decisive : (x : PairAnswer) (proof : Option Proof) → Fits x proof → x ≡ answer.Different → open_latches ≡ false
-  decisive answer.Equal proof h e = absurd (cc)
-  decisive answer.Different None h e = h.0.0
-  decisive answer.Different (Some proof) h e = absurd h
-  decisive answer.NotShown proof h e = absurd (cc)
-  decisive answer.Limit proof h e = absurd (cc)
-
-  -- a pair at the limit has a proof that its query was given up
-  pub limit_answer : (x : PairAnswer) (proof : Option Proof) → Fits x proof → x ≡ answer.Limit → (kept : Proof) × (proof ≡ Some kept) × IsUndecidedUnder c (both_of a b) conflicts (Left p) (Right q) kept
-  limit_answer x proof fits e = go proof (subst (λ y. Fits y proof) e fits)
-    where
-      go : (o : Option Proof) → Fits answer.Limit o → (kept : Proof) × (o ≡ Some kept) × IsUndecidedUnder c (both_of a b) conflicts (Left p) (Right q) kept
-      go None h = absurd h
-      go (Some kept) h = (kept, refl, h)
 
 module _ (c : Assumption) (weight : ℕ) (meeting : ℕ → Bool) (a b : NetView) (expose : Bool) (conflicts : ℕ) (o : Outcome) where
   abbrev Compared : Type 0
@@ -70,5 +47,4 @@ module _ (c : Assumption) (weight : ℕ) (meeting : ℕ → Bool) (a b : NetView
     pub uncut : is_cut o.exposed ≡ false
     uncut =
         sym is.cut
-        ∙ decisive c is.left is.right is.compared.cut conflicts place.left.0 place.right.0 result.0.answer result.0.proof result.2.answer_is
-        (ap (λ (x : PairResult). x.answer) (same_some (sym result.1 ∙ first.result_at)) ∙ first.answered)
+        ∙ (different_fits _ _ _ result.0.answer result.0.proof result.2.answer_is (ap (λ (x : PairResult). x.answer) (same_some (sym result.1 ∙ first.result_at)) ∙ first.answered)).0.0

@@ -50,7 +50,8 @@ use Rattle.job_check.proofs.check_meaning.assume_texts.Designs.{sequence_up}
 use Rattle.job_check.proofs.check_meaning.assume_texts.Sequences.{run_meets, sequence_meets}
 use Rattle.job_check.proofs.check_meaning.assume_texts.Texts.{spelled}
 use Rattle.job_check.specs.check_meaning.event_texts_under.Texts.{AgreeInEvents, EventCutsDifferUnder, EventTextsAgreeUnder, EventTextsDifferUnder, EventTextsNotShownUnder, EventTextsUndecidedUnder, EventTextsUnshownUnder, IsPrintedUnder, IsUndecidedIn}
-use Rattle.job_check.proofs.check_meaning.event_texts_under.Cases.{compared, limit_answer, uncut}
+use Rattle.obligations.proofs.Fits.{limit_fits}
+use Rattle.job_check.proofs.check_meaning.event_texts_under.Cases.{compared, uncut}
 use Rattle.job_check.proofs.check_meaning.event_texts_under.Designs.{events_up}
 
 same_some : {X : Type 0} {x y : X} → Some x ≡ Some y → x ≡ y
@@ -205,7 +206,7 @@ module _ (x y z : List ℕ) (a b c : NetView) (left : Loads x a) (right : Loads 
         let one = zip_left (PairFitsUnder under (both_of s.left s.right) s.compared.cut settings.conflicts) s.compared.pairs.now s.found.pairs s.fits.pairs_fit f.index f.first.result f.first.result_at in
         let same : one.0 ≡ f.place = same_some (sym one.1 ∙ f.first.pair_at) in
         let fits = subst (λ p. PairFitsUnder under (both_of s.left s.right) s.compared.cut settings.conflicts p f.first.result) same one.2 in
-        let g = limit_answer under s.left s.right s.compared.cut settings.conflicts f.place.left.0 f.place.right.0 f.first.result.answer f.first.result.proof fits.answer_is f.first.answered in
+        let g = limit_fits _ _ _ f.first.result.answer f.first.result.proof fits.answer_is f.first.answered in
         let here : slice_get o.pairs f.index ≡ Some f.first.result = ap (λ (rs : List PairResult). slice_get rs f.index) s.pairs ∙ f.first.result_at in
         let own = kept ∙ pair_proofs o n.0 (e ∙ ap verdict.Limit n.2) in
         undecided_by g.0 (subst (λ (ps : List Proof). Contains ps g.0) (sym own) (kept_proof o.pairs f.first.result g.0 (of_at o.pairs f.index f.first.result here) g.1))

@@ -14,7 +14,9 @@ use Rattle.obligations.specs.declared.outcome.verdict.Outcome.{Outcome}
 use Rattle.obligations.specs.outcome.Report.{report_text}
 use Rattle.sec_setup.specs.ports.Pairs.{NamedPair, named_pairs}
 use Rattle.plain_check.specs.under_base.Taken.{IsAssumed, assumed_by}
-use Rattle.plain_check.specs.under_base.under_fits.Cycles.{IsUndecidedUnder}
+use Rattle.circuit_laws.specs.reset_laws.Reset.{reset_pair}
+use Rattle.obligations.specs.Fits.{IsUndecided}
+use Rattle.assume_laws.specs.Assume.{under}
 use Rattle.plain_check.specs.under_base.under_fits.ResetOutcome.{numbers_of}
 use Rattle.plain_check.specs.under_base.under_fits.ResetVerdict.{AgreeBeforeUnder}
 use Rattle.plain_check.specs.under_base.Met.{shared_by}
@@ -75,6 +77,6 @@ pub record ResetsUndecidedUnder (x y z : List ℕ) (settings : Settings) (proofs
   pub agree_before : AgreeBeforeUnder (assumed_by assumed) (numbers_of left_net right_net left right left_base right_base) named.left named.right cycle
   pub proof : Proof
   pub kept : Contains proofs proof
-  pub undecided : IsUndecidedUnder (assumed_by assumed) (circuit_of left_net) (circuit_of right_net) left right left_base right_base settings.conflicts named.left named.right cycle proof
+  pub undecided : IsUndecided (under (assumed_by assumed) (reset_pair (circuit_of left_net) (circuit_of right_net) left right left_base right_base named.left named.right cycle)) settings.conflicts proof
   pub is_verdict : outcome.verdict ≡ verdict.Limit (limit_at.Pair named.name)
   pub printed : Takes before now (report_text settings outcome)

@@ -20,7 +20,9 @@ use Rattle.sec_setup.specs.ports.Pairs.{NamedPair, named_pairs}
 use Rattle.sec_setup.specs.Cuts.{IsChoice, AreCutAt, columns_of}
 use Rattle.plain_check.specs.under_base.compare_base.Says.{SaysDifferent, SaysNotShown}
 use Rattle.plain_check.specs.under_base.Taken.{IsAssumed, IsUndecidedBy, assumed_by}
-use Rattle.plain_check.specs.under_base.under_fits.Limits.{IsUndecidedUnder}
+use Rattle.circuit_theory.specs.Asked.{plain_pair}
+use Rattle.obligations.specs.Fits.{IsUndecided}
+use Rattle.assume_laws.specs.Assume.{under}
 use Rattle.plain_check.specs.under_base.Met.{shared_by}
 use Rattle.job_base.specs.sec_files.Loading.{Loads, SpellsCircuit}
 use Rattle.job_check.specs.check_meaning.assume_texts.Agreement.{AreEqualWhereMet}
@@ -113,7 +115,7 @@ pub record TextsUndecidedUnder (x y z : List ℕ) (settings : Settings) (proofs 
   pub is_pair : Contains (named_pairs outcome.exposed (circuit_of left_net) (circuit_of right_net)) named
   pub proof : Proof
   pub kept : Contains proofs proof
-  pub undecided : IsUndecidedUnder (assumed_by assumed) (circuit_of left_cut) (circuit_of right_cut) left right settings.conflicts named.left named.right proof
+  pub undecided : IsUndecided (under (assumed_by assumed) (plain_pair (circuit_of left_cut) (circuit_of right_cut) left right named.left named.right)) settings.conflicts proof
   pub is_verdict : outcome.verdict ≡ verdict.Limit (limit_at.Pair named.name)
   pub printed : Takes before now (report_text settings outcome)
 

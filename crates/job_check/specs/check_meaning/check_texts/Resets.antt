@@ -15,7 +15,8 @@ use Rattle.obligations.specs.declared.outcome.verdict.Verdict.TheVariants as ver
 use Rattle.obligations.specs.declared.outcome.verdict.Outcome.{Outcome}
 use Rattle.obligations.specs.outcome.Report.{report_text}
 use Rattle.sec_setup.specs.ports.Pairs.{NamedPair, named_pairs}
-use Rattle.plain_check.specs.under_base.compare_base.ResetLimits.{IsUndecidedAt}
+use Rattle.circuit_laws.specs.reset_laws.Reset.{reset_pair}
+use Rattle.obligations.specs.Fits.{IsUndecided}
 use Rattle.plain_check.specs.under_base.compare_base.ResetOutcome.{AgreeBefore}
 use Rattle.plain_check.specs.under_base.compare_base.FromReset.{numbered_by}
 use Rattle.plain_check.specs.under_base.compare_base.Says.{MakesResetsDiffer}
@@ -87,6 +88,6 @@ pub record ResetsUndecided (x y : List ℕ) (settings : Settings) (proofs : List
   pub agree_before : AgreeBefore (numbered_by left_net right_net left right left_base right_base) named.left named.right cycle
   pub proof : Proof
   pub kept : Contains proofs proof
-  pub undecided : IsUndecidedAt (circuit_of left_net) (circuit_of right_net) left right left_base right_base settings.conflicts named.left named.right cycle proof
+  pub undecided : IsUndecided (reset_pair (circuit_of left_net) (circuit_of right_net) left right left_base right_base named.left named.right cycle) settings.conflicts proof
   pub is_verdict : outcome.verdict ≡ verdict.Limit (limit_at.Pair named.name)
   pub printed : Takes before now (report_text settings outcome)

@@ -21,7 +21,8 @@ use Rattle.sec_setup.specs.ports.Pairs.{NamedPair, named_pairs}
 use Rattle.sec_setup.specs.Matching.{InterfacesMatch}
 use Rattle.sec_setup.specs.Cycles.{AreBroken}
 use Rattle.sec_setup.specs.Cuts.{IsChoice, AreCutAt, columns_of}
-use Rattle.plain_check.specs.under_base.compare_base.Limits.{IsUndecided}
+use Rattle.circuit_theory.specs.Asked.{plain_pair}
+use Rattle.obligations.specs.Fits.{IsUndecided}
 use Rattle.plain_check.specs.under_base.compare_base.Says.{SaysEqual, SaysDifferent, SaysNotShown}
 use Rattle.plain_check.specs.under_base.compare_base.Compared.{AreTooLarge, ByReset}
 use Rattle.plain_check.specs.under_base.compare_base.FromReset.{AreTooLargeFromReset}
@@ -117,7 +118,7 @@ pub record TextsUndecided (x y : List ℕ) (settings : Settings) (proofs : List 
   pub is_pair : Contains (named_pairs outcome.exposed (circuit_of left_net) (circuit_of right_net)) named
   pub proof : Proof
   pub kept : Contains proofs proof
-  pub undecided : IsUndecided (circuit_of left_cut) (circuit_of right_cut) left right settings.conflicts named.left named.right proof
+  pub undecided : IsUndecided (plain_pair (circuit_of left_cut) (circuit_of right_cut) left right named.left named.right) settings.conflicts proof
   pub is_verdict : outcome.verdict ≡ verdict.Limit (limit_at.Pair named.name)
   pub printed : Takes before now (report_text settings outcome)
 

@@ -26,7 +26,8 @@ use Rattle.sec_setup.specs.Cuts.{columns_of}
 use Rattle.sec_setup.specs.Matching.{InterfacesMatch}
 use Rattle.edbf_unfold.specs.class_queries.Enables.{both_of}
 use Rattle.event_setup.specs.event_meaning.Says.{SaysEqual, SaysDifferent, SaysNotShown}
-use Rattle.event_setup.specs.event_meaning.Answers.{IsUndecided}
+use Rattle.circuit_theory.specs.EventFrames.{event_pair}
+use Rattle.obligations.specs.Fits.{IsUndecided}
 use Rattle.event_setup.specs.Choosing.{HaveNoCycles}
 use Rattle.event_setup.specs.event_meaning.event_names.event_fits.Compared.{AreTooLargeInEvents, HaveTooManyEvents}
 use Rattle.event_setup.specs.event_meaning.event_names.event_fits.Fitting.{EventOutcomeFits, IsComparedByPairs, IsUnclassed, IsUnrecovered}
@@ -111,7 +112,7 @@ pub record IsPairUndecided (a b : NetView) (settings : Settings) (o : Outcome) (
   pub limit : result.answer ≡ answer.Limit
   pub verdict_is : o.verdict ≡ verdict.Limit (limit_at.Pair result.name)
   pub kept : result.proof ≡ Some proof
-  pub undecided : IsUndecided (both_of compared.left compared.right) settings.conflicts (Left place.left.0) (Right place.right.0) proof
+  pub undecided : IsUndecided (event_pair (both_of compared.left compared.right) (Left place.left.0) (Right place.right.0)) settings.conflicts proof
 
 -- What met the limit: the query of a latch that is in its own cone, a class query, or that of a pair. The proof shows it.
 abbrev pub IsUndecidedBy : NetView → NetView → Settings → Outcome → Proof → Type 0

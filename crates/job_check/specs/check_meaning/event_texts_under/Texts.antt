@@ -22,7 +22,9 @@ use Rattle.sec_setup.specs.declared.ports.pairs.SignalPair.{SignalPair}
 use Rattle.sec_setup.specs.Cuts.{columns_of}
 use Rattle.edbf_unfold.specs.class_queries.Enables.{both_of}
 use Rattle.assume_laws.specs.Assume.{Assumption}
-use Rattle.event_under.specs.Answers.{IsUndecidedUnder}
+use Rattle.circuit_theory.specs.EventFrames.{event_pair}
+use Rattle.obligations.specs.Fits.{IsUndecided}
+use Rattle.assume_laws.specs.Assume.{under}
 use Rattle.event_setup.specs.event_meaning.Says.{SaysDifferent, SaysNotShown}
 use Rattle.event_setup.specs.event_meaning.event_names.event_fits.Fitting.{IsUnclassed, IsUnrecovered}
 use Rattle.event_setup.specs.event_meaning.event_meaning_under.Fitted.{EventOutcomeFitsUnder, IsComparedByPairsUnder}
@@ -111,7 +113,7 @@ pub record IsPairUndecidedUnder (c : Assumption) (weight : ℕ) (meeting : ℕ �
   pub limit : result.answer ≡ answer.Limit
   pub verdict_is : o.verdict ≡ verdict.Limit (limit_at.Pair result.name)
   pub kept : result.proof ≡ Some proof
-  pub undecided : IsUndecidedUnder c (both_of compared.left compared.right) settings.conflicts (Left place.left.0) (Right place.right.0) proof
+  pub undecided : IsUndecided (under c (event_pair (both_of compared.left compared.right) (Left place.left.0) (Right place.right.0))) settings.conflicts proof
 
 -- What met the limit: the query of a latch that is in its own cone, or a class query, which are asked without the assumption; or that of a pair under
 -- it. The proof shows it.

@@ -1,9 +1,9 @@
 -- The places of all queries are those of the pairs' variables.
-use Rattle.std.proofs.Common.{◌≡◌, ℕ, List, [], ◌∷◌, ◌++◌, map, sym, subst, inl, inr}
-use Rattle.std.specs.Prelude.{◌⊎◌}
+use Rattle.std.proofs.Common.{◌≡◌, ℕ, List, [], ◌∷◌, ◌++◌, map, sym, subst}
 use Rattle.std.specs.List.{AllZip, Contains}
 use Rattle.circuit_theory.specs.Circuit.{Circuit}
-use Rattle.circuit_theory.specs.Query.{Variable, HasLeaf, ShiftBefore}
+use Rattle.circuit_theory.specs.Query.{ShiftBefore}
+use Rattle.circuit_theory.specs.Tree.{Tree}
 use Rattle.circuit_theory.proofs.Lists.{Contains-map, Contains-map_from, at_of, of_at, zip_right}
 use Rattle.circuit_theory.proofs.Numbers.{one_number}
 use Rattle.circuit_laws.proofs.OneTree.{one_tree}
@@ -17,7 +17,7 @@ use Rattle.obligations.specs.Asked.{queries_of}
 use Rattle.sec_setup.specs.declared.ports.pairs.SignalPair.{SignalPair}
 use Rattle.sec_setup.specs.declared.setup.Setup.{Setup}
 use Rattle.sec_setup.specs.ports.Pairs.{NamedPair, places_of}
-use Rattle.cbf_unfold.specs.shift_variables.Variables.{variable_of}
+use Rattle.assume_laws.specs.Assume.{HasVariableAt}
 use Rattle.cbf_unfold.specs.shift_variables.query_places.Places.{place_of, ArePlacesOf}
 use Rattle.assume_queries.specs.assume_functions.assume_places.Gathered.{ArePlacesOfAll, IsOverUnder, IsLightUnder}
 use Rattle.plain_asked.specs.declared.functions.Functions.{Functions}
@@ -27,7 +27,7 @@ use Rattle.plain_asked.specs.Variables.{IsPairQuery}
 use Rattle.plain_asked.proofs.Sound.{AreSound}
 use Rattle.plain_asked.proofs.PairQueries.{AsksPair, left_tree, right_tree, are_variables}
 use Rattle.plain_check.specs.asked_under.plain_asked_under.Formed.{IsAssumptionTooLarge, IsAssumptionLight}
-use Rattle.plain_check.proofs.asked_under.PairPlaces.{leaf_of, variable_at, places_read}
+use Rattle.plain_check.proofs.asked_under.PairPlaces.{read_at, variable_at, places_read}
 use Rattle.plain_check.specs.under_base.under_fits.Places.{IsReadAt, ArePairPlaces, ArePlacesOfPairs}
 
 -- the query of a pair's functions
@@ -69,17 +69,15 @@ module _ (s : Setup) (f : Functions) (h : AreSound s f) where
       right_tree = right_tree asks;
       left_unfolds = k.left_is.unfolds;
       right_unfolds = k.right_is.unfolds;
-      read = ((variable_of f.places v).input, leaf_of ShiftBefore f.places q.vars (left_tree asks) (right_tree asks) (are_variables asks) v inside);
+      read = read_at ShiftBefore f.places q.vars (left_tree asks) (right_tree asks) (are_variables asks) v inside;
     }
 
     -- and where the pair has a variable, the query has one
     read_variable : (place : ℕ) → IsReadAt a b s.orders.left s.orders.right (places_of p) place → (v : ℕ) × Contains q.vars v × (place_of f.places v ≡ place)
     unfolding asks
-    read_variable place at = variable_at ShiftBefore f.places q.vars (left_tree asks) (right_tree asks) (are_variables asks) y (go at.read.1)
+    read_variable place at = variable_at ShiftBefore f.places q.vars (left_tree asks) (right_tree asks) (are_variables asks) place
+        (subst (λ (x : Tree ℕ). HasVariableAt x (right_tree asks) place) left_same (subst (λ (x : Tree ℕ). HasVariableAt at.left_tree x place) right_same at.read))
       where
-        y : Variable ℕ
-        y = record { input = at.read.0; at = place }
-
         left_same : at.left_tree ≡ left_tree asks
         left_same =
             let n = sound_is_net s.left.now h.left in
@@ -89,10 +87,6 @@ module _ (s : Setup) (f : Functions) (h : AreSound s f) where
         right_same =
             let n = sound_is_net s.right.now h.right in
             (one_tree b s.orders.right n.single (λ t i j l r. one_number b.inputs s.orders.right n.inputs t i j l r) at.right_unfolds k.right_is.unfolds).0
-
-        go : HasLeaf y at.left_tree ⊎ HasLeaf y at.right_tree → HasLeaf y (left_tree asks) ⊎ HasLeaf y (right_tree asks)
-        go (inl l) = inl (subst (HasLeaf y) left_same l)
-        go (inr r) = inr (subst (HasLeaf y) right_same r)
 
     -- so their places are the same
     own_places : (ks : List ℕ) → ArePlacesOf f.places q.vars ks → ArePairPlaces a b s.orders.left s.orders.right (places_of p) ks

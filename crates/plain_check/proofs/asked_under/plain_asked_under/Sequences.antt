@@ -37,7 +37,8 @@ use Rattle.plain_asked.proofs.Sound.{AreSound, own_pairs}
 use Rattle.plain_asked.proofs.PairQueries.{AsksPair, query_in_order}
 use Rattle.plain_check.specs.asked_under.plain_asked_under.Laws.{AreBuilt}
 use Rattle.plain_check.proofs.asked_under.Shown.{same_query}
-use Rattle.plain_check.proofs.asked_under.plain_asked_under.PairsUnder.{pairs_fit_under, only_query}
+use Rattle.obligations.proofs.Fits.{only_query}
+use Rattle.plain_check.proofs.asked_under.plain_asked_under.PairsUnder.{pairs_fit_under}
 use Rattle.plain_check.proofs.asked_under.plain_asked_under.Witnesses.{differences_show_under}
 use Rattle.plain_check.specs.asked_under.plain_asked_under.Asked.{AreAskedUnder}
 use Rattle.plain_check.specs.asked_under.plain_asked_under.Shown.{IsShowableUnder, IsWitnessAtUnder}

@@ -27,7 +27,8 @@ use Rattle.assume_queries.proofs.assume_answers.Pairs.{answers_under}
 use Rattle.plain_asked.proofs.Leaves.{leaf_is_column}
 use Rattle.plain_asked.proofs.PairQueries.{left_tree, right_tree, are_variables, left_value, right_value}
 use Rattle.plain_check.specs.asked_under.plain_asked_under.Laws.{DifferencesShowUnder}
-use Rattle.plain_check.proofs.asked_under.plain_asked_under.PairsUnder.{only_query, asked_pair, one, asks}
+use Rattle.obligations.proofs.Fits.{only_query}
+use Rattle.plain_check.proofs.asked_under.plain_asked_under.PairsUnder.{asked_pair, one, asks}
 
 -- there is one depth
 one_depth : (c : Circuit ℕ) (s d e : ℕ) → IsDepth c NoneEnabled s d → IsDepth c NoneEnabled s e → d ≡ e

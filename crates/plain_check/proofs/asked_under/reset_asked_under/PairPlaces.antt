@@ -1,10 +1,9 @@
 -- The places of all queries are those of the pairs' variables in their cycles.
-use Rattle.std.proofs.Common.{◌≡◌, ℕ, ◌+◌, ◌*◌, ◌<◌, ◌≤◌, List, [], ◌∷◌, map, length, refl, sym, ◌∙◌, ap, subst, arith, inl, inr}
-use Rattle.std.specs.Prelude.{◌⊎◌}
+use Rattle.std.proofs.Common.{◌≡◌, ℕ, ◌+◌, ◌*◌, ◌<◌, ◌≤◌, List, [], ◌∷◌, map, length, refl, sym, ◌∙◌, ap, subst, arith}
 use Rattle.std.specs.List.{AllZip, Contains, sum_by}
 use Rattle.std.proofs.lemmas.List.Sums.{sum_by-append, sum_by-cons}
 use Rattle.circuit_theory.specs.Fits.{IsPairDepth}
-use Rattle.circuit_theory.specs.Query.{Variable, HasLeaf}
+use Rattle.circuit_theory.specs.Tree.{Tree}
 use Rattle.circuit_theory.proofs.Lists.{Contains-head, Contains-tail, Contains-map, Contains-map_from, at_of, length-map, of_at, zip_length, zip_right}
 use Rattle.flat_net.specs.View.{circuit_of, named}
 use Rattle.flat_net.specs.Sound.{IsSound}
@@ -17,7 +16,7 @@ use Rattle.obligations.specs.Asked.{queries_of}
 use Rattle.sec_setup.specs.declared.ports.pairs.SignalPair.{SignalPair}
 use Rattle.sec_setup.specs.declared.setup.Setup.{Setup}
 use Rattle.sec_setup.specs.ports.Pairs.{NamedPair, places_of}
-use Rattle.cbf_unfold.specs.shift_variables.Variables.{variable_of}
+use Rattle.assume_laws.specs.Assume.{HasVariableAt}
 use Rattle.cbf_unfold.specs.shift_variables.query_places.Places.{place_of, ArePlacesOf}
 use Rattle.assume_queries.specs.assume_functions.assume_places.Gathered.{ArePlacesOfAll, IsOverUnder, IsLightUnder}
 use Rattle.circuit_laws.specs.reset_laws.Reset.{CycleBefore}
@@ -33,7 +32,7 @@ use Rattle.reset_form.proofs.reset_asked.CycleQueries.{left_tree, right_tree, ar
 use Rattle.reset_form.proofs.reset_asked.Sound.{AreSound}
 use Rattle.reset_form.proofs.reset_asked.PairCycles.{AsksIn, asks_at, place_within, query_in}
 use Rattle.plain_check.specs.under_base.under_fits.ResetPlaces.{IsReadIn, IsReadUpTo, AreCyclePlaces, ArePairPlaces, ArePlacesOfPairs, IsOverInCycles, IsLightInCycles}
-use Rattle.plain_check.proofs.asked_under.PairPlaces.{leaf_of, variable_at, places_read}
+use Rattle.plain_check.proofs.asked_under.PairPlaces.{read_at, variable_at, places_read}
 use Rattle.plain_check.proofs.asked_under.reset_asked_under.Queries.{query_from, query_to, split_zip}
 
 module _ (s : Setup) (b : Bases) (f : Functions) (h : AreSound s b f) (left_sound : IsSound s.left.now) (right_sound : IsSound s.right.now) where
@@ -45,16 +44,14 @@ module _ (s : Setup) (b : Bases) (f : Functions) (h : AreSound s b f) (left_soun
       right_tree = right_tree k;
       left_unfolds = k.left_is.unfolds;
       right_unfolds = k.right_is.unfolds;
-      read = ((variable_of f.places v).input, leaf_of CycleBefore f.places q.vars (left_tree k) (right_tree k) (are_variables k) v inside);
+      read = read_at CycleBefore f.places q.vars (left_tree k) (right_tree k) (are_variables k) v inside;
     }
 
     -- and where the pair has a variable, the query has one
     read_variable : (place : ℕ) → IsReadIn (numbered s b) (places_of p) t place → (v : ℕ) × Contains q.vars v × (place_of f.places v ≡ place)
-    read_variable place at = variable_at CycleBefore f.places q.vars (left_tree k) (right_tree k) (are_variables k) y (go at.read.1)
+    read_variable place at = variable_at CycleBefore f.places q.vars (left_tree k) (right_tree k) (are_variables k) place
+        (subst (λ (x : Tree ℕ). HasVariableAt x (right_tree k) place) left_same (subst (λ (x : Tree ℕ). HasVariableAt at.left_tree x place) right_same at.read))
       where
-        y : Variable ℕ
-        y = record { input = at.read.0; at = place }
-
         left_same : at.left_tree ≡ left_tree k
         left_same =
             let starts = nets_have_starts s.left.now left_sound in
@@ -66,10 +63,6 @@ module _ (s : Setup) (b : Bases) (f : Functions) (h : AreSound s b f) (left_soun
             let starts = nets_have_starts s.right.now right_sound in
             (reset_trees_are_one (circuit_of s.right.now) (length s.right.now.drivers) s.orders.right b.right p.right.0 t (sound_is_net s.right.now right_sound) starts.0 starts.1 ((is_order s.right.now s.columns s.orders.right s.orders.left h.setup.right_columns).each ∙ sym (length-map named s.right.now.inputs))
             (output_within s.right.now right_sound p.right.0 ((own_pairs s h.setup).right p member))).1 at.right_tree (right_tree k) at.right_unfolds k.right_is.unfolds
-
-        go : HasLeaf y at.left_tree ⊎ HasLeaf y at.right_tree → HasLeaf y (left_tree k) ⊎ HasLeaf y (right_tree k)
-        go (inl n) = inl (subst (HasLeaf y) left_same n)
-        go (inr n) = inr (subst (HasLeaf y) right_same n)
 
     -- so their places are the same
     own_places : (ks : List ℕ) → ArePlacesOf f.places q.vars ks → AreCyclePlaces (numbered s b) (places_of p) t ks

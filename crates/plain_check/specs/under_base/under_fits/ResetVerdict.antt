@@ -1,40 +1,29 @@
 -- What it means that what is found of some pairs fits two circuits whose runs begin with the latches' initial values, under an assumption.
-use Rattle.std.specs.Prelude.{◌≡◌, ◌≢◌, ℕ, ◌<◌, ◌≤◌, Bool, List, length, Option, Some, None, slice_get}
+use Rattle.std.specs.Prelude.{◌≡◌, ◌≢◌, ℕ, ◌<◌, ◌≤◌, Bool, List, length, Option, Some, slice_get}
+use Rattle.circuit_theory.specs.Asked.{AreEqual}
 use Rattle.circuit_theory.specs.Fits.{IsPairDepth}
 use Rattle.sec_base.specs.declared.basics.PairAnswer.{PairAnswer}
 use Rattle.sec_base.specs.declared.basics.PairAnswer.TheVariants as answer
+use Rattle.obligations.specs.Fits.{AreEqualBefore, AnswersFit}
 use Rattle.obligations.specs.pair_decide.Proof.{Proof}
 use Rattle.obligations.specs.declared.outcome.verdict.PairResult.{PairResult}
 use Rattle.obligations.specs.declared.outcome.verdict.ResetWitness.{ResetWitness}
 use Rattle.sec_setup.specs.ports.Pairs.{NamedPair}
-use Rattle.assume_laws.specs.Assume.{Assumption, HaveEqualResetsUnder}
+use Rattle.assume_laws.specs.Assume.{Assumption, under}
 use Rattle.assume_laws.specs.Sequences.{IsResetWitnessUnder}
-use Rattle.outcome_fits.specs.ResetOutcome.{Numbered}
-use Rattle.plain_check.specs.under_base.under_fits.Cycles.{DifferUnder, IsUndecidedUnder}
+use Rattle.outcome_fits.specs.ResetOutcome.{Numbered, pair_at}
 
 -- both functions of a pair agree in the cycle under each assignment that meets the assumption where they have variables
 abbrev pub AgreeAtUnder : Assumption → Numbered → ℕ → ℕ → ℕ → Type 0
-AgreeAtUnder c n p q t = HaveEqualResetsUnder c n.a n.b n.left n.right n.left_base n.right_base p q t
+AgreeAtUnder c n p q t = AreEqual (under c (pair_at n p q t))
 
 -- they do in each cycle before this one
 abbrev pub AgreeBeforeUnder : Assumption → Numbered → ℕ → ℕ → ℕ → Type 0
-AgreeBeforeUnder c n p q t = (s : ℕ) → s < t → AgreeAtUnder c n p q s
+AgreeBeforeUnder c n p q t = AreEqualBefore (λ s. under c (pair_at n p q s)) t
 
--- some such assignment makes them differ in the cycle
-abbrev pub DifferAtUnder : Assumption → Numbered → ℕ → ℕ → ℕ → Type 0
-DifferAtUnder c n p q t = DifferUnder c n.a n.b n.left n.right n.left_base n.right_base p q t
-
--- What each answer says of a pair of this depth, by the first of its cycles up to the depth in which it isn't equal, and the proof that
--- stands beside it: one at the limit alone.
+-- What each answer says of a pair of this depth, by the first of its cycles up to the depth in which it isn't equal.
 abbrev pub AnswerFitsUnder : Assumption → Numbered → ℕ → ℕ → ℕ → ℕ → PairAnswer → Option Proof → Type 0
-AnswerFitsUnder c n conflicts p q depth answer.Equal None = (t : ℕ) → t ≤ depth → AgreeAtUnder c n p q t
-AnswerFitsUnder c n conflicts p q depth answer.Equal (Some proof) = ⊥
-AnswerFitsUnder c n conflicts p q depth answer.Different None = (t : ℕ) × (t ≤ depth) × AgreeBeforeUnder c n p q t × DifferAtUnder c n p q t
-AnswerFitsUnder c n conflicts p q depth answer.Different (Some proof) = ⊥
-AnswerFitsUnder c n conflicts p q depth answer.NotShown proof = ⊥
-AnswerFitsUnder c n conflicts p q depth answer.Limit None = ⊥
-AnswerFitsUnder c n conflicts p q depth answer.Limit (Some proof) =
-    (t : ℕ) × (t ≤ depth) × AgreeBeforeUnder c n p q t × IsUndecidedUnder c n.a n.b n.left n.right n.left_base n.right_base conflicts p q t proof
+AnswerFitsUnder c n conflicts p q depth result proof = AnswersFit (λ t. under c (pair_at n p q t)) conflicts depth result proof
 
 -- the result of a pair: its name, the greater of both depths, and the answer
 pub record PairFitsUnder (c : Assumption) (n : Numbered) (conflicts : ℕ) (x : NamedPair ℕ ℕ) (result : PairResult) : Type 0 where

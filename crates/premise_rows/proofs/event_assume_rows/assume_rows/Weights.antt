@@ -1,11 +1,13 @@
 -- Under the assumption the comparison isn't too large: its two functions read inputs of one cycle alone.
 use Rattle.std.proofs.Common.{◌≡◌, ◌∙◌, ℕ, ◌+◌, ◌*◌, ◌<◌, ◌≤◌, Bool, false, List, [], ◌∷◌, ◌++◌, length, Option, Some, None, sym, ap, subst, arith, inl, inr}
-use Rattle.std.specs.Prelude.{◌≢◌}
+use Rattle.std.specs.Prelude.{◌≢◌, ◌⊎◌}
 use Rattle.std.specs.List.{AllPairs, AllZip, Contains, sum_by, filter_map}
 use Rattle.circuit_theory.specs.Agree.{cut, place_named}
 use Rattle.circuit_theory.specs.Circuit.{Circuit, Named, IsLatch}
+use Rattle.circuit_theory.specs.Query.{HasLeaf}
 use Rattle.circuit_theory.specs.Sizes.{Visits}
-use Rattle.circuit_theory.proofs.Lists.{Contains-head, Contains-tail, length-map}
+use Rattle.circuit_theory.specs.Tree.{Tree}
+use Rattle.circuit_theory.proofs.Lists.{Contains-head, Contains-tail, Contains-cases, length-map, only}
 use Rattle.circuit_laws.proofs.LeafVisits.{leaf_visits}
 use Rattle.flat_net.specs.declared.parts.Port.{Port}
 use Rattle.flat_net.specs.View.{NetView, named, circuit_of}
@@ -50,13 +52,21 @@ once weight [] few light = omega arith
 once weight (k ∷ []) few light = omega (arith, light)
 once weight (k ∷ m ∷ ks) few light = absurd (omega (arith, few))
 
+-- a variable of two trees is a leaf of one of them
+pub leaf_of_either : (l r : Tree ℕ) (k : ℕ) (v : HasVariableAt l r k) → HasLeaf (record { input = v.1; at = k }) l ⊎ HasLeaf (record { input = v.1; at = k }) r
+leaf_of_either l r k (tree, i, one, h) = go (Contains-cases l tree (r ∷ []) one)
+  where
+    go : (l ≡ tree) ⊎ Contains (r ∷ []) tree → HasLeaf (record { input = i; at = k }) l ⊎ HasLeaf (record { input = i; at = k }) r
+    go (inl e) = inl (subst (HasLeaf (record { input = i; at = k })) (sym e) h)
+    go (inr m) = inr (subst (HasLeaf (record { input = i; at = k })) (sym (only r tree m)) h)
+
 module _ (c d : Circuit ℕ) (left : (name : List ℕ) (u next : ℕ) → IsLatch c name u next → ⊥) (right : (name : List ℕ) (u next : ℕ) → IsLatch d name u next → ⊥) (own others : List ℕ) where
   read_now : (x : NamedPair ℕ ℕ) (k : ℕ) → IsReadAt c d own others x k → k ≡ 0
-  read_now x k r = by r.read
+  read_now x k r = by (leaf_of_either r.left_tree r.right_tree k r.read)
     where
-      by : HasVariableAt r.left_tree r.right_tree k → k ≡ 0
-      by (i, inl h) = let v = leaf_visits c own x.left 0 (record { input = i; at = k }) r.left_unfolds Visits.itself h in visits_now c left v.2
-      by (i, inr h) = let v = leaf_visits d others x.right 0 (record { input = i; at = k }) r.right_unfolds Visits.itself h in visits_now d right v.2
+      by : HasLeaf (record { input = r.read.1; at = k }) r.left_tree ⊎ HasLeaf (record { input = r.read.1; at = k }) r.right_tree → k ≡ 0
+      by (inl h) = let v = leaf_visits c own x.left 0 (record { input = r.read.1; at = k }) r.left_unfolds Visits.itself h in visits_now c left v.2
+      by (inr h) = let v = leaf_visits d others x.right 0 (record { input = r.read.1; at = k }) r.right_unfolds Visits.itself h in visits_now d right v.2
 
   own_few : (pairs : List (NamedPair ℕ ℕ)) (each : List (List ℕ)) → length pairs ≤ 1 → AllZip (ArePairPlaces c d own others) pairs each → sum_by length each ≤ 1
   own_few [] [] few zip = omega arith

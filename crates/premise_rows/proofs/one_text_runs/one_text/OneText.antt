@@ -233,7 +233,7 @@ module _ (text : List ℕ) (a b : NetView) (la : Loads text a) (lb : Loads text 
 -- one function doesn't differ from itself
 no_difference : (a b : Circuit ℕ) (left right : List ℕ) (p q : ℕ) → HaveOneTree a b left right p q → HaveDifferentFunctions a b left right p q → ⊥
 no_difference a b left right p q one h =
-    h.differs.differs (ap (λ (t : Tree ℕ). tree_value h.assignment t) (one h.left_depth h.right_depth h.left_tree h.right_tree h.left_unfolds h.right_unfolds))
+    h.differ (ap (λ (t : Tree ℕ). tree_value h.bits t) (one h.left_unfolds.0 h.right_unfolds.0 h.left_tree h.right_tree h.left_unfolds.1 h.right_unfolds.1))
 
 -- an answer on a pair of one tree is equal
 only_equal : (a b : Circuit ℕ) (left right : List ℕ) (cut : Bool) (conflicts p q : ℕ) → HaveOneTree a b left right p q → (x : PairAnswer) (proof : Option Proof) → AnswerFits a b left right cut conflicts p q x proof → x ≡ answer.Equal
@@ -244,7 +244,7 @@ only_equal a b left right cut conflicts p q one answer.NotShown None fits = absu
 only_equal a b left right cut conflicts p q one answer.NotShown (Some proof) fits = absurd fits
 only_equal a b left right cut conflicts p q one answer.Limit None fits = absurd fits
 only_equal a b left right cut conflicts p q one answer.Limit (Some proof) fits =
-    absurd (fits.two_trees (one fits.left_depth fits.right_depth fits.left_tree fits.right_tree fits.left_unfolds fits.right_unfolds))
+    absurd (fits.two_trees (one fits.left_unfolds.0 fits.right_unfolds.0 fits.left_tree fits.right_tree fits.left_unfolds.1 fits.right_unfolds.1))
 
 -- where each pair has one tree, the verdict is equal
 module _ (a b : NetView) (settings : Settings) (o : Outcome) (compared : IsCompared a b settings o)

@@ -4,7 +4,8 @@ use Rattle.std.specs.Prelude.{◌⊎◌, nat_eq}
 use Rattle.std.proofs.lemmas.Bool.{cases_eq, eq-eqb, ne_eqb}
 use Rattle.std.proofs.lemmas.Option.{get_or_from_slice_get}
 use Rattle.circuit_theory.specs.Net.{IsNet}
-use Rattle.circuit_theory.specs.Tree.{Tree, tree_value, HaveEqualFunctions}
+use Rattle.circuit_theory.specs.Asked.{HaveEqualFunctions}
+use Rattle.circuit_theory.specs.Tree.{Tree, tree_value}
 use Rattle.circuit_theory.proofs.Numbers.{one_number}
 use Rattle.circuit_laws.proofs.OneTree.{one_tree}
 use Rattle.base_tables.specs.Table.{AreDistinct}
@@ -80,14 +81,13 @@ module _ (a b : NetView) (left right : List ℕ) (g : List Node) (places : List 
       let bits : ℕ → ℕ → Bool = λ i j. by_place d.bits places 0 i j in
       let takes : Takes bits d.bits = λ v p at. ap d.bits (let e : v ≡ 0 + v = omega arith in e) ∙ placed d.bits places 0 v p distinct at in
       record {
-        left_depth = left_is.depth;
-        right_depth = right_is.depth;
         left_tree = left_is.tree;
         right_tree = right_is.tree;
-        left_unfolds = left_is.unfolds;
-        right_unfolds = right_is.unfolds;
-        assignment = bits;
-        differs = record { care = refl; differs = λ e. d.differ (left_value bits d.bits takes ∙ (e ∙ sym (right_value bits d.bits takes))) };
+        left_unfolds = (left_is.depth, left_is.unfolds);
+        right_unfolds = (right_is.depth, right_is.unfolds);
+        bits = bits;
+        care = tt;
+        differ = λ e. d.differ (left_value bits d.bits takes ∙ (e ∙ sym (right_value bits d.bits takes)));
       }
 
   -- an assignment of the inputs at shifts under which the trees differ meets the clauses
@@ -118,19 +118,17 @@ module _ (a b : NetView) (left right : List ℕ) (g : List Node) (places : List 
 
   to_met_by : HaveDifferentFunctions (circuit_of a) (circuit_of b) left right s t → CanBeMet cnf.clauses
   to_met_by h =
-      let p = one_left h.left_depth h.left_tree h.left_unfolds in
-      let q = one_right h.right_depth h.right_tree h.right_unfolds in
-      to_met h.assignment (λ e. h.differs.differs (ap (tree_value h.assignment) p ∙ (e ∙ sym (ap (tree_value h.assignment) q))))
+      let p = one_left h.left_unfolds.0 h.left_tree h.left_unfolds.1 in
+      let q = one_right h.right_unfolds.0 h.right_tree h.right_unfolds.1 in
+      to_met h.bits (λ e. h.differ (ap (tree_value h.bits) p ∙ (e ∙ sym (ap (tree_value h.bits) q))))
 
   never_met : Unsatisfiable cnf.clauses → HaveEqualFunctions (circuit_of a) (circuit_of b) left right s t
   never_met none = record {
-    left_depth = left_is.depth;
-    right_depth = right_is.depth;
     left_tree = left_is.tree;
     right_tree = right_is.tree;
-    left_unfolds = left_is.unfolds;
-    right_unfolds = right_is.unfolds;
-    same = same;
+    left_unfolds = (left_is.depth, left_is.unfolds);
+    right_unfolds = (right_is.depth, right_is.unfolds);
+    same = λ bits care. same bits;
   }
     where
       same : (bits : ℕ → ℕ → Bool) → tree_value bits left_is.tree ≡ tree_value bits right_is.tree

@@ -32,7 +32,8 @@ use Rattle.sec_jobs.specs.job_gen.gen_meaning.Found.{IsOutcomeOf, IsGenFound, Ge
 use Rattle.sec_jobs.specs.job_gen.gen_meaning.Answer.{TakesReport, TwinsAgree, TwinsDiffer, TwinsUndecided, GenMeans, IsGenAnswer}
 use Rattle.sec_jobs.specs.job_gen.gen_meaning.Report.{gen_text}
 use Rattle.swept_queries.proofs.Listed.{zip_left}
-use Rattle.outcome_fits.proofs.plain_meaning.Fitted.{cut_answer, limit_answer, kept_proof}
+use Rattle.obligations.proofs.Fits.{unshown_fits, limit_fits}
+use Rattle.outcome_fits.proofs.plain_meaning.Fitted.{some_cut, kept_proof}
 
 equal_verdict : (v : Verdict) → generated_status v ≡ status.Done → v ≡ verdict.Equal
 equal_verdict verdict.Equal e = refl
@@ -141,7 +142,7 @@ module _ (g : Generation) (o : Outcome) (report : List ℕ) (is : IsOutcomeOf g 
   undecided before now taken proofs kept at e =
       let first : IsFirstLimit o.pairs at = subst IsVerdict e is.compared.fits.verdict_is in
       let n = pair_of first.index first.result first.result_is in
-      let given = limit_answer _ _ _ _ _ _ _ _ first.result.answer first.result.proof n.2.answer_is first.limit in
+      let given = limit_fits _ _ _ first.result.answer first.result.proof n.2.answer_is first.limit in
       let own = kept ∙ pair_proofs o first.result.name (e ∙ ap verdict.Limit first.at_is) in
       record {
         left = is.left;
@@ -174,7 +175,7 @@ module _ (g : Generation) (o : Outcome) (report : List ℕ) (is : IsOutcomeOf g 
       let verdict_fits = subst IsVerdict e is.compared.fits.verdict_is in
       let first = verdict_fits.2 in
       let n = pair_of first.index first.result first.result_is in
-      let cut : is_cut o.exposed ≡ true = cut_answer _ _ _ _ _ _ _ _ first.result.answer first.result.proof n.2.answer_is first.answered in
+      let cut : is_cut o.exposed ≡ true = some_cut (is_cut o.exposed) (unshown_fits _ _ _ first.result.answer first.result.proof n.2.answer_is first.answered).0 in
       let closed : is_cut o.exposed ≡ false = ap is_cut uncut in
       cc
 

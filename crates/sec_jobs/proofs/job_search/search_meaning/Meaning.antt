@@ -170,7 +170,7 @@ module _ (a b : NetView) (cycles conflicts : ℕ) (s : Searched) (is : AreSearch
     earlier n left right alike t low before =
         let e = equal_at f.place.left f.place.right t (is.found.before f.place (of_at listed f.index f.place f.place_is) t (let k = f.cycle_is in omega (arith, before, k))) in
         reset_same_at (circuit_of a) (circuit_of b) is.numbers.left is.numbers.right is.numbers.left_base is.numbers.right_base numbered is.are_numbers.based left right n alike (λ (row : ℕ → Bool). Unit {0}) (λ s h row of_run. tt)
-        f.place.left f.place.right t e.left_tree e.right_tree low e.left_unfolds e.right_unfolds (λ x cared. e.same x)
+        f.place.left f.place.right t e.left_tree e.right_tree low e.left_unfolds e.right_unfolds (λ x cared. e.same x tt)
 
     first_differs : MakesResetsDiffer (circuit_of a) (circuit_of b) w
     first_differs = record {

@@ -1,17 +1,14 @@
 -- What the status of a search means.
-use Rattle.std.specs.Prelude.{IfSome}
 use Rattle.std.specs.List.{Contains}
-use Rattle.std.proofs.Common.{◌≡◌, ℕ, List, [], refl, sym, ap, subst, ◌∙◌, Option, Some, None}
+use Rattle.std.proofs.Common.{◌≡◌, ℕ, List, [], refl, sym, ap, subst, ◌∙◌, Option}
 use Rattle.circuit_theory.proofs.Lists.{of_at}
 use Rattle.sec_base.specs.base_shelves.Outside.{Takes}
-use Rattle.sec_base.specs.declared.basics.PairAnswer.{PairAnswer}
-use Rattle.sec_base.specs.declared.basics.PairAnswer.TheVariants as answer
 use Rattle.flat_net.specs.View.{NetView, circuit_of}
 use Rattle.pair_decide.specs.declared.query.Proof.{Proof}
 use Rattle.witness_report.specs.declared.witness.PairName.{PairName}
 use Rattle.obligations.proofs.swept_queries.Listed.{zip_left}
-use Rattle.outcome_fits.specs.ResetLimits.{IsUndecidedAt}
-use Rattle.outcome_fits.specs.ResetOutcome.{Numbered, IsFirstLimit}
+use Rattle.obligations.proofs.Fits.{limit_fits}
+use Rattle.outcome_fits.specs.ResetOutcome.{IsFirstLimit}
 use Rattle.sec_setup.specs.ports.Pairs.{NamedPair, named_pairs}
 use Rattle.plain_check.proofs.under_base.compare_base.Fitted.{kept_proof}
 use Rattle.job_base.specs.sec_files.Loading.{Loads, circuit_of_text}
@@ -27,7 +24,7 @@ use Rattle.job_base.specs.declared.status.StatusName.TheVariants as status
 use Rattle.job_base.specs.Written.{judgement_status, IsWrittenAs}
 use Rattle.cycle_search.specs.declared.found.SearchVerdict.{SearchVerdict}
 use Rattle.cycle_search.specs.declared.found.SearchVerdict.TheVariants as verdict
-use Rattle.cycle_search.specs.Cycles.{AnswerIn, ResultIn}
+use Rattle.cycle_search.specs.Cycles.{ResultIn}
 use Rattle.cycle_search.specs.Searches.{VerdictFits}
 use Rattle.sec_jobs.proofs.job_induct.induct_meaning.Means.{of_texts}
 use Rattle.sec_jobs.specs.job_induct.induct_meaning.Found.{OfNets}
@@ -35,19 +32,6 @@ use Rattle.sec_jobs.specs.job_search.search_meaning.Judged.{judgement_of, IsJudg
 use Rattle.sec_jobs.specs.job_search.search_meaning.Found.{IsSearchFound}
 use Rattle.sec_jobs.specs.job_search.search_meaning.Answer.{AreSearchedTexts, CyclesAgree, CyclesAgreeUpTo, CyclesDiffer, CyclesUndecided, SearchMeans}
 use Rattle.sec_jobs.proofs.job_search.search_meaning.Lifted.{agree_up_to_up, resets_differ_up}
-
--- a pair at the limit has a proof that its query was given up
-record IsGivenUp (n : Numbered) (conflicts p q t : ℕ) (proof : Option Proof) : Type 0 where
-  pub kept : Proof
-  pub is : proof ≡ Some kept
-  pub undecided : IsUndecidedAt n.a n.b n.left n.right n.left_base n.right_base conflicts p q t kept
-
-limit_answer : (n : Numbered) (conflicts p q t : ℕ) (x : PairAnswer) (proof : Option Proof) → AnswerIn n conflicts p q t x proof → x ≡ answer.Limit → IsGivenUp n conflicts p q t proof
-limit_answer n conflicts p q t x proof fits e = go proof (subst (λ y. AnswerIn n conflicts p q t y proof) e fits)
-  where
-    go : (o : Option Proof) → AnswerIn n conflicts p q t answer.Limit o → IsGivenUp n conflicts p q t o
-    go None h = absurd h
-    go (Some kept) undecided = record { kept = kept; is = refl; undecided = undecided }
 
 -- a verdict has no other status
 not_done : (v : SearchVerdict) → judgement_status (judgement_of v) ≡ status.Done → ⊥
@@ -106,7 +90,7 @@ module _ (cycles conflicts : ℕ) (before now : Option (List ℕ)) (a b : NetVie
   undecided_at name e first =
       let pairs : List (NamedPair ℕ ℕ) = named_pairs [] (circuit_of a) (circuit_of b) in
       let n = zip_left (ResultIn h.is.numbers conflicts h.made.last) pairs h.made.pairs h.is.found.pairs_fit first.index first.result first.result_is in
-      let given = limit_answer h.is.numbers conflicts n.0.left n.0.right h.made.last first.result.answer first.result.proof n.2.answer_is first.limit in
+      let given = limit_fits _ _ _ first.result.answer first.result.proof n.2.answer_is first.limit in
       record {
         of = texts;
         numbers = h.is.numbers;
@@ -115,9 +99,9 @@ module _ (cycles conflicts : ℕ) (before now : Option (List ℕ)) (a b : NetVie
         is_pair = of_at pairs first.index n.0 n.1;
         is_verdict = e ∙ ap (λ m. verdict.Limit m) (first.named ∙ n.2.name_is);
         agree_before = h.is.found.before;
-        proof = given.kept;
-        kept = subst (λ (ps : List Proof). Contains ps given.kept) (sym h.proofs_are) (kept_proof h.made.pairs first.result given.kept (of_at h.made.pairs first.index first.result first.result_is) given.is);
-        undecided = given.undecided;
+        proof = given.0;
+        kept = subst (λ (ps : List Proof). Contains ps given.0) (sym h.proofs_are) (kept_proof h.made.pairs first.result given.0 (of_at h.made.pairs first.index first.result first.result_is) given.1);
+        undecided = given.2;
       }
 
   undecided : judgement_status j ≡ status.Limit → CyclesUndecided x y cycles conflicts proofs before now

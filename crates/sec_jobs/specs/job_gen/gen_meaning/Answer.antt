@@ -14,7 +14,8 @@ use Rattle.obligations.specs.declared.outcome.verdict.Verdict.TheVariants as ver
 use Rattle.obligations.specs.declared.outcome.verdict.LimitAt.TheVariants as limit_at
 use Rattle.sec_setup.specs.Cuts.{AreCutAt, columns_of}
 use Rattle.sec_setup.specs.ports.Pairs.{NamedPair, named_pairs}
-use Rattle.outcome_fits.specs.Limits.{IsUndecided}
+use Rattle.circuit_theory.specs.Asked.{plain_pair}
+use Rattle.obligations.specs.Fits.{IsUndecided}
 use Rattle.plain_check.specs.under_base.compare_base.Says.{SaysEqual, SaysDifferent}
 use Rattle.job_base.specs.declared.status.StatusName.{StatusName}
 use Rattle.job_base.specs.declared.status.StatusName.TheVariants as status
@@ -65,7 +66,7 @@ pub record TwinsUndecided (g : Generation) (proofs : List Proof) (before now : O
   pub is_pair : Contains (named_pairs outcome.exposed (circuit_of left) (circuit_of right)) named
   pub proof : Proof
   pub kept : Contains proofs proof
-  pub undecided : IsUndecided (circuit_of left_cut) (circuit_of right_cut) left_order right_order g.conflicts named.left named.right proof
+  pub undecided : IsUndecided (plain_pair (circuit_of left_cut) (circuit_of right_cut) left_order right_order named.left named.right) g.conflicts proof
   pub takes : TakesReport g before now (verdict.Limit (limit_at.Pair named.name)) left right
 
 -- What the status says of the pair of a number, and of what is written. It is never refused, and no circuit of it is cyclic.

@@ -10,8 +10,8 @@ use Rattle.flat_net.specs.View.{NetView, circuit_of, ports_of}
 use Rattle.blif_read.specs.Design.{Place}
 use Rattle.pair_decide.specs.declared.query.Proof.{Proof}
 use Rattle.obligations.specs.declared.outcome.verdict.ResetWitness.{ResetWitness}
-use Rattle.outcome_fits.specs.ResetLimits.{IsUndecidedAt}
-use Rattle.outcome_fits.specs.ResetOutcome.{Numbered, AgreeBefore}
+use Rattle.obligations.specs.Fits.{IsUndecided}
+use Rattle.outcome_fits.specs.ResetOutcome.{Numbered, AgreeBefore, pair_at}
 use Rattle.sec_setup.specs.ports.Pairs.{NamedPair, named_pairs}
 use Rattle.plain_check.specs.under_base.compare_base.Says.{MakesResetsDiffer}
 use Rattle.job_base.specs.declared.status.StatusName.{StatusName}
@@ -77,7 +77,7 @@ pub record CyclesUndecided (x y : List ℕ) (cycles conflicts : ℕ) (proofs : L
   pub agree_before : (z : NamedPair ℕ ℕ) → Contains (named_pairs [] (circuit_of of.left_net) (circuit_of of.right_net)) z → AgreeBefore numbers z.left z.right of.made.last
   pub proof : Proof
   pub kept : Contains proofs proof
-  pub undecided : IsUndecidedAt numbers.a numbers.b numbers.left numbers.right numbers.left_base numbers.right_base conflicts named.left named.right of.made.last proof
+  pub undecided : IsUndecided (pair_at numbers named.left named.right of.made.last) conflicts proof
 
 -- What the status says of two texts whose circuits are searched, and of what is written.
 abbrev pub SearchMeans : ℕ → ℕ → Option (List ℕ) → Option (List ℕ) → Option (List ℕ) → Option (List ℕ) → List Proof → StatusName → Type 0

@@ -1,5 +1,5 @@
 -- Where all pairs of the cut circuits are equal, the circuits agree, and agree onward.
-use Rattle.std.proofs.Common.{◌≡◌, ◌∙◌, ◌++◌, ℕ, Bool, false, List, length, map, Option, Some, None, sym, ap, subst}
+use Rattle.std.proofs.Common.{◌≡◌, ◌∙◌, ◌++◌, ℕ, Bool, false, List, length, map, sym, ap, subst}
 use Rattle.std.specs.List.{All, AllZip, Contains}
 use Rattle.std.proofs.lemmas.List.Elements.{All-contains}
 use Rattle.circuit_theory.specs.Agree.{cut, IsPair, Agree, AgreeOnward}
@@ -19,9 +19,7 @@ use Rattle.flat_net.specs.View.{NetView, circuit_of}
 use Rattle.flat_net.proofs.Nets.{sound_is_net, sound_names}
 use Rattle.sec_setup.specs.declared.ports.pairs.SignalPair.{SignalPair}
 use Rattle.sec_setup.specs.ports.Pairs.{NamedPair, named_pairs, places_of}
-use Rattle.sec_base.specs.declared.basics.PairAnswer.{PairAnswer}
 use Rattle.sec_base.specs.declared.basics.PairAnswer.TheVariants as answer
-use Rattle.reset_form.specs.reset_functions.pair_decide.Proof.{Proof}
 use Rattle.plain_check.specs.under_base.compare_base.Cuts.{columns_of}
 use Rattle.event_setup.proofs.read_inputs.CutNets.{cut_numbered}
 use Rattle.obligations.specs.declared.outcome.verdict.PairResult.{PairResult}
@@ -29,17 +27,10 @@ use Rattle.plain_check.proofs.under_base.compare_base.CutPairs.{one_output, pair
 use Rattle.edbf_unfold.specs.class_queries.Enables.{both_of, class_map}
 use Rattle.edbf_unfold.proofs.class_queries.Meaning.{numbered}
 use Rattle.event_form.proofs.event_agreement.SameCircuits.{AreSame, same_classes, same_depths, same_events}
-use Rattle.event_form.specs.Answers.{AnswerFits, PairFits}
+use Rattle.obligations.proofs.Fits.{equal_fits}
+use Rattle.event_form.specs.Answers.{PairFits}
 use Rattle.event_nodes.specs.View.{EventCircuitView}
 use Rattle.event_setup.specs.event_meaning.event_names.event_fits.Circuits.{AreEventCircuits, AreNets}
-
--- an equal pair has equal event functions
-equal_events : (a b : EventCircuitView) (open_latches : Bool) (conflicts : ℕ) (p q : ℕ) (x : PairAnswer) (proof : Option Proof) → AnswerFits (both_of a b) open_latches conflicts p q x proof → x ≡ answer.Equal → HaveEqualEvents (both_of a b) (Left p) (Right q)
-equal_events a b open_latches conflicts p q answer.Equal None h e = h
-equal_events a b open_latches conflicts p q answer.Equal (Some proof) h e = absurd h
-equal_events a b open_latches conflicts p q answer.Different proof h e = absurd (cc)
-equal_events a b open_latches conflicts p q answer.NotShown proof h e = absurd (cc)
-equal_events a b open_latches conflicts p q answer.Limit proof h e = absurd (cc)
 
 same_joined : (c d e f : Circuit ℕ) → AreSame c e → AreSame d f → AreSame (joined c d) (joined e f)
 same_joined c d e f first second = record {
@@ -73,7 +64,7 @@ module _ (a b : NetView) (expose : Bool) (names : List (List ℕ)) (left right :
       let at_left : y.0.left.0 ≡ p = ap (λ (z : NamedPair ℕ ℕ). z.left) y.2 ∙ x.2 in
       let at_right : y.0.right.0 ≡ q = ap (λ (z : NamedPair ℕ ℕ). z.right) y.2 ∙ x.3 in
       subst (λ z. HaveEqualEvents (both_of left right) (Left p) (Right z)) at_right
-      (subst (λ z. HaveEqualEvents (both_of left right) (Left z) (Right y.0.right.0)) at_left (equal_events left right open_latches conflicts y.0.left.0 y.0.right.0 r.0.answer r.0.proof r.2.answer_is answered))
+      (subst (λ z. HaveEqualEvents (both_of left right) (Left z) (Right y.0.right.0)) at_left (equal_fits _ _ _ r.0.answer r.0.proof r.2.answer_is answered))
 
   left_same : AreSame ca left_cut
   left_same = let is = k.are_cut.left_circuit in record { inputs = is.inputs; equations = is.equations }

@@ -1,27 +1,21 @@
 -- What is found over the circuits of cut nets is found over the cut circuits.
-use Rattle.std.proofs.Common.{◌≡◌, ℕ, Bool, false, List, Option, Some, None}
+use Rattle.std.proofs.Common.{ℕ, Bool, List}
 use Rattle.circuit_theory.specs.Circuit.{Circuit}
 use Rattle.circuit_theory.specs.Agree.{cut}
-use Rattle.sec_base.specs.declared.basics.PairAnswer.{PairAnswer}
-use Rattle.sec_base.specs.declared.basics.PairAnswer.TheVariants as answer
-use Rattle.pair_decide.specs.declared.query.Proof.{Proof}
 use Rattle.flat_net.specs.Cut.{IsCutCircuit}
 use Rattle.sec_setup.proofs.CutNets.{same_as_cut}
 use Rattle.sec_setup.proofs.SameEquations.{same_tree}
 use Rattle.assume_laws.specs.Assume.{Assumption, HaveEqualFunctionsUnder}
 use Rattle.assume_laws.specs.Sequences.{IsWitnessUnder}
-use Rattle.plain_check.specs.under_base.under_fits.Pairs.{AnswerFitsUnder}
 
 module _ (c : Assumption) (names : List (List ℕ)) (a b m k : Circuit ℕ) (left_is : IsCutCircuit names a m) (right_is : IsCutCircuit names b k) (left right : List ℕ) where
   -- equal functions
   pub cut_functions_under : (p q : ℕ) → HaveEqualFunctionsUnder c m k left right p q → HaveEqualFunctionsUnder c (cut names a) (cut names b) left right p q
   cut_functions_under p q e = record {
-    left_depth = e.left_depth;
-    right_depth = e.right_depth;
     left_tree = e.left_tree;
     right_tree = e.right_tree;
-    left_unfolds = same_tree m (cut names a) (same_as_cut names a m left_is) e.left_unfolds;
-    right_unfolds = same_tree k (cut names b) (same_as_cut names b k right_is) e.right_unfolds;
+    left_unfolds = (e.left_unfolds.0, same_tree m (cut names a) (same_as_cut names a m left_is) e.left_unfolds.1);
+    right_unfolds = (e.right_unfolds.0, same_tree k (cut names b) (same_as_cut names b k right_is) e.right_unfolds.1);
     same = e.same;
   }
 
@@ -46,20 +40,3 @@ module _ (c : Assumption) (names : List (List ℕ)) (a b m k : Circuit ℕ) (lef
     left_value = w.left_value;
     right_value = w.right_value;
   }
-
-module _ {P Q : Type 0} (c : Assumption) (a : Circuit P) (b : Circuit Q) (left right : List ℕ) (cut : Bool) (conflicts : ℕ) where
-  -- an equal pair has equal functions
-  pub equal_answer_under : (p : P) (q : Q) (x : PairAnswer) (proof : Option Proof) → AnswerFitsUnder c a b left right cut conflicts p q x proof → x ≡ answer.Equal → HaveEqualFunctionsUnder c a b left right p q
-  equal_answer_under p q answer.Equal None h e = h
-  equal_answer_under p q answer.Equal (Some proof) h e = absurd h
-  equal_answer_under p q answer.Different proof h e = absurd (cc)
-  equal_answer_under p q answer.NotShown proof h e = absurd (cc)
-  equal_answer_under p q answer.Limit proof h e = absurd (cc)
-
-  -- a different pair is told only where no latch is cut open
-  pub different_answer_under : (p : P) (q : Q) (x : PairAnswer) (proof : Option Proof) → AnswerFitsUnder c a b left right cut conflicts p q x proof → x ≡ answer.Different → cut ≡ false
-  different_answer_under p q answer.Equal proof h e = absurd (cc)
-  different_answer_under p q answer.Different None h e = h.0
-  different_answer_under p q answer.Different (Some proof) h e = absurd h
-  different_answer_under p q answer.NotShown proof h e = absurd (cc)
-  different_answer_under p q answer.Limit proof h e = absurd (cc)

@@ -39,7 +39,8 @@ use Rattle.plain_check.specs.under_base.under_fits.Pairs.{AnswerFitsUnder, PairF
 use Rattle.plain_check.specs.under_base.under_fits.Verdict.{IsFirstOfAnswerUnder, VerdictFitsUnder}
 use Rattle.plain_check.specs.under_base.under_fits.Outcome.{OutcomeFitsUnder, AgreeFromUnder}
 use Rattle.plain_check.specs.asked_under.plain_asked_under.under_meaning.Laws.{AreNets, EqualSaysUnder, DifferentShowsUnder, NotShownUnder}
-use Rattle.plain_check.proofs.asked_under.plain_asked_under.under_meaning.CutUnder.{cut_functions_under, cut_witness_under, equal_answer_under, different_answer_under}
+use Rattle.obligations.proofs.Fits.{equal_fits, different_fits}
+use Rattle.plain_check.proofs.asked_under.plain_asked_under.under_meaning.CutUnder.{cut_functions_under, cut_witness_under}
 use Rattle.plain_check.proofs.asked_under.plain_asked_under.under_meaning.SequencesUnder.{values_differ, left_value_shows, right_value_shows}
 
 same_some : {X : Type 0} {x y : X} → Some x ≡ Some y → x ≡ y
@@ -116,7 +117,7 @@ module _ (c : Assumption) (meeting : ℕ → Bool) (a b : NetView) (expose : Boo
     functions_equal : (p q : ℕ) → Kept p q → HaveEqualFunctionsUnder c left_circuit right_circuit fits.left fits.right p q
     functions_equal p q r =
         cut_functions_under c o.exposed (circuit_of a) (circuit_of b) (circuit_of fits.left_cut) (circuit_of fits.right_cut) fits.are_cut.left_circuit fits.are_cut.right_circuit fits.left fits.right p q
-        (equal_answer_under c (circuit_of fits.left_cut) (circuit_of fits.right_cut) fits.left fits.right (is_cut o.exposed) conflicts p q r.result.answer r.result.proof r.answer_is
+        (equal_fits _ _ _ r.result.answer r.result.proof r.answer_is
         (All-contains (λ (x : PairResult). x.answer ≡ answer.Equal) o.pairs r.result all_equal (of_at o.pairs r.index r.result r.at)))
 
     -- the circuits agree, and agree onward
@@ -137,9 +138,9 @@ module _ (c : Assumption) (meeting : ℕ → Bool) (a b : NetView) (expose : Boo
         let e = functions_equal p q r in
         let size : r.result.size ≤ o.through = subst (λ t. r.result.size ≤ t) (sym fits.through) (size_is_within o.pairs r.index r.result r.at) in
         let deep = deep_enough r.result.size r.depth_is.left r.depth_is.right r.depth_is.greater size in (
-          settled_from left_circuit fits.left left p 0 r.depth_is.left e.left_depth o.through e.left_tree e.left_unfolds (tree_depth left_circuit (cut_single o.exposed (circuit_of a) (sound_is_net a nets.left).single) e.left_unfolds)
+          settled_from left_circuit fits.left left p 0 r.depth_is.left e.left_unfolds.0 o.through e.left_tree e.left_unfolds.1 (tree_depth left_circuit (cut_single o.exposed (circuit_of a) (sound_is_net a nets.left).single) e.left_unfolds.1)
               (cut_depth o.exposed (circuit_of a) (circuit_of fits.left_cut) fits.are_cut.left_circuit p r.depth_is.left r.depth_is.left_is) deep.0,
-          settled_from right_circuit fits.right right q 0 r.depth_is.right e.right_depth o.through e.right_tree e.right_unfolds (tree_depth right_circuit (cut_single o.exposed (circuit_of b) (sound_is_net b nets.right).single) e.right_unfolds)
+          settled_from right_circuit fits.right right q 0 r.depth_is.right e.right_unfolds.0 o.through e.right_tree e.right_unfolds.1 (tree_depth right_circuit (cut_single o.exposed (circuit_of b) (sound_is_net b nets.right).single) e.right_unfolds.1)
               (cut_depth o.exposed (circuit_of b) (circuit_of fits.right_cut) fits.are_cut.right_circuit q r.depth_is.right r.depth_is.right_is) deep.1,
         )
 
@@ -188,8 +189,8 @@ module _ (c : Assumption) (meeting : ℕ → Bool) (a b : NetView) (expose : Boo
   module _ (w : Witness) (f : IsFirstOfAnswerUnder c (circuit_of fits.left_cut) (circuit_of fits.right_cut) fits.left fits.right columns meeting answer.Different listed o.pairs w) where
     nothing : (name : List ℕ) → Contains o.exposed name → ⊥
     nothing = none_exposed o.exposed
-        (different_answer_under c (circuit_of fits.left_cut) (circuit_of fits.right_cut) fits.left fits.right (is_cut o.exposed) conflicts f.place.left f.place.right found.0.answer found.0.proof found.2.answer_is
-        (ap (λ (r : PairResult). r.answer) (same_some (sym found.1 ∙ f.result_is)) ∙ f.answered))
+        (different_fits _ _ _ found.0.answer found.0.proof found.2.answer_is
+        (ap (λ (r : PairResult). r.answer) (same_some (sym found.1 ∙ f.result_is)) ∙ f.answered)).0
       where
         found : (r : PairResult) × (slice_get o.pairs f.index ≡ Some r) × PairFitsUnder c (circuit_of fits.left_cut) (circuit_of fits.right_cut) fits.left fits.right (is_cut o.exposed) conflicts f.place r
         found = zip_right (PairFitsUnder c (circuit_of fits.left_cut) (circuit_of fits.right_cut) fits.left fits.right (is_cut o.exposed) conflicts) listed o.pairs fits.pairs f.index f.place f.place_is

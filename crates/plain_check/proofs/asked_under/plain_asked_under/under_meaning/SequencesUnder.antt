@@ -1,6 +1,6 @@
 -- What a sequence that is printed for a pair under an assumption makes of both places, in all runs that obey it.
-use Rattle.std.proofs.Common.{◌≡◌, ◌≢◌, ℕ, ◌-◌, ◌<◌, ◌≤◌, max, Bool, List, map, length, refl, sym, ◌∙◌, ap, arith, inl, inr}
-use Rattle.std.specs.Prelude.{◌⊎◌}
+use Rattle.std.proofs.Common.{◌≡◌, ◌≢◌, ℕ, ◌-◌, ◌<◌, ◌≤◌, max, Bool, List, [], ◌∷◌, map, length, sym, ◌∙◌, ap, arith, inl}
+use Rattle.std.specs.List.{Contains}
 use Rattle.std.proofs.lemmas.List.Elements.{All-contains}
 use Rattle.circuit_theory.specs.Circuit.{Circuit, Named}
 use Rattle.circuit_theory.specs.Run.{IsRun}
@@ -9,6 +9,7 @@ use Rattle.circuit_theory.specs.Query.{Variable, HasLeaf, assigned, same_shift}
 use Rattle.circuit_theory.specs.Sequence.{sequence_rows}
 use Rattle.circuit_theory.specs.Interface.{AreNumbersOf}
 use Rattle.circuit_theory.proofs.Inputs.{test_same}
+use Rattle.circuit_theory.proofs.Lists.{Contains-head, Contains-tail}
 use Rattle.witness_report.specs.declared.witness.Witness.{Witness}
 use Rattle.witness_report.specs.Shown.{Obeys}
 use Rattle.outcome_fits.proofs.plain_meaning.Leaves.{run_by_leaves}
@@ -41,7 +42,7 @@ module _ {P Q : Type 0} (c : Assumption) (a : Circuit P) (b : Circuit Q) (left r
   shown = filled same_shift wit.sides meeting bits
 
   -- the leaves of both trees are inputs that the sequence names
-  leaf_below : (tree : Tree ℕ) → (tree ≡ wit.left_tree) ⊎ (tree ≡ wit.right_tree) → (i j : ℕ) → HasLeaf (record { input = i; at = j }) tree → i < length columns
+  leaf_below : (tree : Tree ℕ) → Contains (wit.left_tree ∷ wit.right_tree ∷ []) tree → (i j : ℕ) → HasLeaf (record { input = i; at = j }) tree → i < length columns
   leaf_below tree there i j has =
       All-contains (λ (v : Variable ℕ). v.input < length columns) wit.variables (record { input = i; at = j }) wit.inputs ((wit.difference.are_variables.exactly (record { input = i; at = j })).1 (tree, inl there, has))
 
@@ -58,9 +59,9 @@ module _ {P Q : Type 0} (c : Assumption) (a : Circuit P) (b : Circuit Q) (left r
   pub left_value_shows : (n : ℕ) (run : ℕ → P → Bool) → w.cycle < n → IsRun a n run → Obeys a w.stimulus n run → run w.cycle p ≡ w.left
   left_value_shows n run below is_run obeys =
       has_value a left right columns left_numbers w names shown wit.rows_are n run below is_run obeys p wit.left_depth wit.left_tree wit.left_unfolds (deep_left wit.left_depth wit.right_depth w.cycle wit.last_is)
-      (leaf_below wit.left_tree (inl refl)) ∙ (left_tree_value ∙ sym wit.left_value)
+      (leaf_below wit.left_tree (Contains-head wit.left_tree (wit.right_tree ∷ []))) ∙ (left_tree_value ∙ sym wit.left_value)
 
   pub right_value_shows : (n : ℕ) (run : ℕ → Q → Bool) → w.cycle < n → IsRun b n run → Obeys b w.stimulus n run → run w.cycle q ≡ w.right
   right_value_shows n run below is_run obeys =
       has_value b right left columns right_numbers w names shown wit.rows_are n run below is_run obeys q wit.right_depth wit.right_tree wit.right_unfolds (deep_right wit.left_depth wit.right_depth w.cycle wit.last_is)
-      (leaf_below wit.right_tree (inr refl)) ∙ (right_tree_value ∙ sym wit.right_value)
+      (leaf_below wit.right_tree (Contains-tail wit.left_tree wit.right_tree (wit.right_tree ∷ []) (Contains-head wit.right_tree []))) ∙ (right_tree_value ∙ sym wit.right_value)

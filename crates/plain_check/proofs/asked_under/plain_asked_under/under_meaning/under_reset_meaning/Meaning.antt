@@ -1,5 +1,5 @@
 -- What an outcome from the initial values that fits two nets under an assumption says of their circuits.
-use Rattle.std.proofs.Common.{◌≡◌, ℕ, ◌<◌, ◌≤◌, Bool, cond, List, [], map, length, refl, sym, ◌∙◌, ap, subst, arith, inl, inr, ◌⊎◌, Option, Some, None, nat_lt}
+use Rattle.std.proofs.Common.{◌≡◌, ℕ, ◌<◌, ◌≤◌, Bool, cond, List, [], ◌∷◌, map, length, refl, sym, ◌∙◌, ap, subst, arith, inl, inr, ◌⊎◌, Option, Some, None, nat_lt}
 use Rattle.std.specs.List.{All, Contains}
 use Rattle.std.proofs.lemmas.List.Elements.{All-contains}
 use Rattle.circuit_theory.specs.Agree.{IsPair}
@@ -9,7 +9,7 @@ use Rattle.circuit_theory.specs.Query.{Variable, HasLeaf, assigned, same_shift}
 use Rattle.circuit_theory.specs.Run.{IsRun}
 use Rattle.circuit_theory.specs.Tree.{Tree, AreNumbered, tree_value}
 use Rattle.circuit_theory.proofs.Inputs.{test_same}
-use Rattle.circuit_theory.proofs.Lists.{at_of, of_at, map-map, zip_right}
+use Rattle.circuit_theory.proofs.Lists.{Contains-head, Contains-tail, at_of, of_at, map-map, zip_right}
 use Rattle.circuit_laws.proofs.LawProofs.{numbers_are_shared}
 use Rattle.circuit_laws.proofs.event_laws.EventVariables.{tree_same}
 use Rattle.flat_net.specs.View.{NetView, named, circuit_of, ports_of}
@@ -140,7 +140,7 @@ module _ (c : Assumption) (meeting : ℕ → Bool) (a b : NetView) (conflicts : 
         w.witness.cycle w.witness.left w.witness.right left_starts right_starts fits.based fits.reads f.witness
 
     -- a leaf that is an input is one that the sequence names
-    leaf_below : (tree : Tree ℕ) → (tree ≡ f.witness.left_tree) ⊎ (tree ≡ f.witness.right_tree) → (i k : ℕ) → i < fits.left_base → HasLeaf (record { input = i; at = k }) tree → i < length columns
+    leaf_below : (tree : Tree ℕ) → Contains (f.witness.left_tree ∷ f.witness.right_tree ∷ []) tree → (i k : ℕ) → i < fits.left_base → HasLeaf (record { input = i; at = k }) tree → i < length columns
     leaf_below tree there i k below has =
         go (All-contains (λ (v : Variable ℕ). (v.input < length columns) ⊎ (fits.left_base ≤ v.input)) f.witness.variables (record { input = i; at = k }) f.witness.inputs
         ((f.witness.difference.are_variables.exactly (record { input = i; at = k })).1 (tree, inl there, has)))
@@ -157,7 +157,7 @@ module _ (c : Assumption) (meeting : ℕ → Bool) (a b : NetView) (conflicts : 
     left_shows n run below is_run takes obeys =
         powered_value (circuit_of a) fits.left fits.right fits.left_base columns left_numbers left_starts fits.based.left_inputs w.witness f.names_are bits shown (joined fits.left_base) (low fits.left_base) (high fits.left_base) f.witness.rows_are
         w.left_power f.witness.left_power_is n run below is_run takes obeys f.place.left f.witness.left_tree f.witness.left_unfolds
-        (λ q i k number leaf. leaf_below f.witness.left_tree (inl refl) i k (fits.based.left_inputs q i number) leaf)
+        (λ q i k number leaf. leaf_below f.witness.left_tree (Contains-head f.witness.left_tree (f.witness.right_tree ∷ [])) i k (fits.based.left_inputs q i number) leaf)
         ∙ (same fits.left_base f.witness.left_tree (left_leaves f.witness.difference.are_sides) ∙ sym f.witness.left_value)
 
     right_shows : (n : ℕ) (run : ℕ → ℕ → Bool) → w.witness.cycle < n → IsRun (circuit_of b) n run → TakesPower (circuit_of b) w.right_power run → Obeys (circuit_of b) w.witness.stimulus n run →
@@ -165,7 +165,7 @@ module _ (c : Assumption) (meeting : ℕ → Bool) (a b : NetView) (conflicts : 
     right_shows n run below is_run takes obeys =
         powered_value (circuit_of b) fits.right fits.left fits.right_base columns right_numbers right_starts (λ q i number. right_below q i (fits.based.right_inputs q i number)) w.witness f.names_are bits shown (joined fits.right_base)
         (low fits.right_base) (high fits.right_base) f.witness.rows_are w.right_power f.witness.right_power_is n run below is_run takes obeys f.place.right f.witness.right_tree f.witness.right_unfolds
-        (λ q i k number leaf. leaf_below f.witness.right_tree (inr refl) i k (fits.based.right_inputs q i number) leaf)
+        (λ q i k number leaf. leaf_below f.witness.right_tree (Contains-tail f.witness.left_tree f.witness.right_tree (f.witness.right_tree ∷ []) (Contains-head f.witness.right_tree [])) i k (fits.based.right_inputs q i number) leaf)
         ∙ (same fits.right_base f.witness.right_tree (right_leaves f.witness.difference.are_sides) ∙ sym f.witness.right_value)
 
     -- in an earlier cycle the functions agree
@@ -173,7 +173,7 @@ module _ (c : Assumption) (meeting : ℕ → Bool) (a b : NetView) (conflicts : 
     earlier n left right alike meets t small before =
         let e = f.agree_before t before in
         reset_same_at (circuit_of a) (circuit_of b) fits.left fits.right fits.left_base fits.right_base numbered fits.based left right n alike (RowMeets c) (run_holds c (circuit_of a) fits.left fits.reads n left meets)
-        f.place.left f.place.right t e.left_tree e.right_tree small e.left_unfolds e.right_unfolds (λ x all. e.same x (λ k has. all k))
+        f.place.left f.place.right t e.left_tree e.right_tree small e.left_unfolds e.right_unfolds (λ x all. e.same x (tt, λ k has. all k))
 
     first_differs : MakesResetsDifferUnder c (circuit_of a) (circuit_of b) w
     first_differs = record {

@@ -1,0 +1,7 @@
+pub mod Covers
+pub mod Bits
+pub mod Starting
+pub mod Begun
+pub mod Rows
+pub mod Shown
+pub mod Again

@@ -1,0 +1,5 @@
+use Rattle.restart.proofs.Rows.{begins_with_rows}
+use Rattle.restart.proofs.sequence.joined.Goals as goal
+
+pub returns-clause-rows : goal.returns-clause-rows
+returns-clause-rows c = begins_with_rows c.args.header.now c.args.rows.now c.in_ok-made.made c.as_slice.result.now c.in_ok-names.names c.put_rows.new.made c.in_ok-made.ensures c.in_ok-put_rows.ensures

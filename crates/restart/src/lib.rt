@@ -1,0 +1,13 @@
+//! What is known of a net behind a sequence of inputs, whatever its latches power up with, by three-valued simulation; and the net that
+//! begins there.
+#![tactic(auto)]
+
+mod cover;
+mod cycle;
+mod sequence;
+mod start;
+mod three_run;
+
+pub use sequence::shown_behind;
+pub use start::restart;
+pub use three_run::{known_behind, known_output};

@@ -1,0 +1,4 @@
+pub mod Covers
+pub mod Knowing
+pub mod Three
+pub mod Sampling
