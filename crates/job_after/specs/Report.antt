@@ -1,5 +1,5 @@
 -- The report, as a function of both nets, of what is known of them behind the rows, and of what was found.
-use Rattle.std.specs.Prelude.{ℕ, suc, Bool, List, [], ◌∷◌, ◌++◌, length, codes, Option, Some, None, option_map}
+use Rattle.std.specs.Prelude.{ℕ, Bool, true, false, List, [], ◌∷◌, ◌++◌, length, codes, Option, Some, None, filter, position}
 use Rattle.std.specs.Fmt.{decimal}
 use Rattle.flat_net.specs.Cut.{latch_at}
 use Rattle.flat_net.specs.View.{NetView}
@@ -12,17 +12,18 @@ use Rattle.cycle_search.specs.declared.found.SearchVerdict.{SearchVerdict}
 use Rattle.cycle_search.specs.declared.found.SearchVerdict.TheVariants as verdict
 use Rattle.cycle_search.specs.search_report.Report.{values_text, verdict_text, front_text}
 
+-- nothing is known of it
+abbrev pub is_unknown : Option Bool → Bool
+is_unknown None = true
+is_unknown (Some bit) = false
+
 -- how many aren't known
 abbrev pub unknown_count : List (Option Bool) → ℕ
-unknown_count [] = 0
-unknown_count (None ∷ known) = suc (unknown_count known)
-unknown_count (Some bit ∷ known) = unknown_count known
+unknown_count known = length (filter is_unknown known)
 
 -- the place of the first that isn't known
 abbrev pub first_unknown : List (Option Bool) → Option ℕ
-first_unknown [] = None
-first_unknown (None ∷ known) = Some 0
-first_unknown (Some bit ∷ known) = option_map suc (first_unknown known)
+first_unknown known = position is_unknown known
 
 -- the first latch's name behind a space, if there is one
 abbrev pub first_name : NetView → Option ℕ → List ℕ

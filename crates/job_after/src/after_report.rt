@@ -1,7 +1,7 @@
 //! The report.
 
 ghost use Rattle.std.specs.Prelude.{◌≡◌, ◌++◌, length, IfOk, OnOk};
-ghost use Rattle.job_after.specs.Report.{unknown_line, sequence_text, unshown_text, shown_text, after_text};
+ghost use Rattle.job_after.specs.Report.{unknown_line, first_unknown, first_name, sequence_text, unshown_text, shown_text, after_text};
 
 use crate::known::{first_unknown, unknown_count};
 use cycle_search::search_report::{put_count_line, put_front, put_name, put_values, put_verdict};
@@ -59,12 +59,22 @@ fn put_unknown(
     ensures { OnOk result (text.new.items ≡ text.old.items ++ unknown_line front.now net.now known.now) }
 {
     put(text, front)?;
-    put_number(alloc, text, unknown_count(known))?;
-    if let Some(j) = first_unknown(known) {
-        put(text, b" ")?;
-        put(text, latch_of(net, j as u32).name.as_slice())?;
-    }
+    put_number(alloc, text, unknown_count(known) as u64)?;
+    put_first(text, net, known)?;
     put(text, b"\n")
+}
+
+/// Puts the name of the first latch that isn't known behind a space, if there is one.
+fn put_first(text: &mut Vec<u8>, net: &Net, known: &[Option<bool>]) -> Result<(), NoMemory>
+    requires { length known.now ≡ length net.now.latches }
+    ensures { OnOk result (text.new.items ≡ text.old.items ++ first_name net.now (first_unknown known.now)) }
+{
+    net.keeps();
+    let Some(j) = first_unknown(known) else {
+        return Ok(());
+    };
+    put(text, b" ")?;
+    put(text, latch_of(net, j as u32).name.as_slice())
 }
 
 /// Puts the verdict, with what shows it.

@@ -25,26 +25,15 @@ pub(crate) fn begin(
 }
 
 /// How many latches aren't known.
-pub(crate) fn unknown_count(known: &[Option<bool>]) -> u64
+pub(crate) fn unknown_count(known: &[Option<bool>]) -> usize
     ensures { result ≡ unknown_count known.now }
 {
-    let mut count: u64 = 0;
-    for value in known {
-        if value.is_none() {
-            count += 1;
-        }
-    }
-    count
+    known.iter().filter(|value| value.is_none()).count()
 }
 
 /// The first latch that isn't known.
 pub(crate) fn first_unknown(known: &[Option<bool>]) -> Option<usize>
     ensures { result ≡ first_unknown known.now }
 {
-    for (j, value) in known.iter().enumerate() {
-        if value.is_none() {
-            return Some(j);
-        }
-    }
-    None
+    known.iter().position(|value| value.is_none())
 }
