@@ -1,5 +1,6 @@
+pub mod SearchMeaning
 pub mod Finds
-pub mod Judging
+pub mod Searched
 pub mod Lifted
 pub mod Means
 pub mod Complete

@@ -21,7 +21,7 @@ use Rattle.restart.specs.Sequence.{IsShownBehind}
 -- m is the net with what is known of its latches behind the rows as their initial values
 pub record IsBegun (n : NetView) (names : List (List ℕ)) (rows : List (List Bool)) (known : List (Option Bool)) (m : NetView) : Type 0 where
   pub each : length known ≡ length n.latches
-  pub known : AreKnownBehind n names rows known
+  pub are_known : AreKnownBehind n names rows known
   pub is : m ≡ begun n known
 
 -- the judgement: a difference that isn't shown is none

@@ -3,7 +3,8 @@
 ghost use Rattle.std.specs.Prelude.{◌≡◌, ◌<◌, ◌≤◌, ◌^◌, ℕ, List, length, IsErrOf};
 ghost use Rattle.sec_base.specs.base_shelves.Outside.{Rose, SameHeld, NoneFell};
 ghost use Rattle.flat_net.specs.Comparable.{IsComparable};
-ghost use Rattle.job_after.specs.Ends.{AfterJob, AfterFound, EndsWithBoth, EndsOver};
+ghost use Rattle.job_after.specs.Answer.{AfterJob};
+ghost use Rattle.job_after.specs.Ends.{AfterFound, EndsWithBoth, EndsOver};
 
 use crate::judging::{after_end, judge_after};
 use flat_net::Net;

@@ -1,5 +1,5 @@
 -- What is judged of two nets behind the rows of a stimulus, or why they aren't compared.
-use Rattle.std.specs.Prelude.{IsErrAnd}
+use Rattle.std.specs.Prelude.{IsErrAnd, IfSome}
 use Rattle.std.proofs.Common.{◌≡◌, ℕ, ◌<◌, Bool, List, [], ◌∷◌, length, map, sym, subst, inl, inr, arith, Option, Some, None, Result, Ok, Err}
 use Rattle.std.specs.List.{All}
 use Rattle.circuit_theory.specs.declared.Side.{Side}
@@ -17,11 +17,13 @@ use Rattle.cycle_search.specs.declared.found.SearchVerdict.TheVariants as verdic
 use Rattle.cycle_search.specs.declared.found.SearchError.{SearchError}
 use Rattle.cycle_search.specs.declared.found.SearchError.TheVariants as search
 use Rattle.cycle_search.specs.Searches.{Searches}
-use Rattle.sec_jobs.proofs.job_search.search_meaning.Meaning.{agree as search_agree, agree_up_to as search_agree_up_to, agree_before as search_agree_before}
+use Rattle.job_after.proofs.SearchMeaning.{agree as search_agree, agree_up_to as search_agree_up_to, agree_before as search_agree_before}
 use Rattle.restart.specs.Behind.{begun}
 use Rattle.restart.specs.Agreement.{AgreeBehind, Each, UpTo, Before}
 use Rattle.restart.specs.Sequence.{IsShownBehind}
 use Rattle.restart.proofs.Begun.{behind_agree, behind_agree_up_to, behind_agree_before}
+use Rattle.restart.proofs.Again.{shown_again}
+use Rattle.job_base.proofs.sec_files.job_files.Reading.{if_told}
 use Rattle.job_after.specs.declared.fault.AfterFault.{AfterFault}
 use Rattle.job_after.specs.declared.fault.AfterFault.TheVariants as fault
 use Rattle.job_after.specs.declared.judging.Judged.{Judged}
@@ -57,29 +59,35 @@ module _ (a b : NetView) (names : List (List ℕ)) (rows : List (List Bool)) (cy
 
     agree : h.made.verdict ≡ verdict.Equal → AgreeBehind names rows Each (circuit_of a) (circuit_of b)
     agree e =
-        behind_agree names rows wide a b h.left_known h.right_known is.left_begun.each is.right_begun.each is.left_begun.known is.right_begun.known
+        behind_agree names rows wide a b h.left_known h.right_known is.left_begun.each is.right_begun.each is.left_begun.are_known is.right_begun.are_known
         (of_begun (λ l r. AgreeFromReset (circuit_of l) (circuit_of r)) (search_agree h.left h.right cycles conflicts h.made is.searched right_distinct e))
 
     agree_up_to : (stopped : Option Side) → h.made.verdict ≡ verdict.NoDifference stopped → AgreeBehind names rows (UpTo h.made.last) (circuit_of a) (circuit_of b)
     agree_up_to stopped e =
-        behind_agree_up_to names rows wide a b h.left_known h.right_known is.left_begun.each is.right_begun.each is.left_begun.known is.right_begun.known h.made.last
+        behind_agree_up_to names rows wide a b h.left_known h.right_known is.left_begun.each is.right_begun.each is.left_begun.are_known is.right_begun.are_known h.made.last
         (of_begun (λ l r. AgreeUpTo h.made.last (circuit_of l) (circuit_of r)) (search_agree_up_to h.left h.right cycles conflicts h.made is.searched right_distinct stopped e))
 
     agree_before : AgreeBehind names rows (Before h.made.last) (circuit_of a) (circuit_of b)
     agree_before =
-        behind_agree_before names rows wide a b h.left_known h.right_known is.left_begun.each is.right_begun.each is.left_begun.known is.right_begun.known h.made.last
+        behind_agree_before names rows wide a b h.left_known h.right_known is.left_begun.each is.right_begun.each is.left_begun.are_known is.right_begun.are_known h.made.last
         (λ k low. of_begun (λ l r. AgreeUpTo k (circuit_of l) (circuit_of r)) (search_agree_before h.left h.right cycles conflicts h.made is.searched right_distinct k low))
 
+    -- what is shown of the nets that begin is shown of the nets
+    shown_of : IfSome h.shown (λ w. IsShownBehind h.left h.right names rows w) → (w : Witness) → h.shown ≡ Some w → IsShownBehind a b names rows w
+    shown_of told w e =
+        shown_again a b h.left_known h.right_known names rows w
+        (of_begun (λ l r. IsShownBehind l r names rows w) (if_told h.shown (λ v. IsShownBehind h.left h.right names rows v) w e told))
+
     -- both are judged
-    pub judged_by : (j : Judgement) (proofs : List Proof) (text : List ℕ) → ((w : Witness) → h.shown ≡ Some w → IsShownBehind a b names rows w) → j ≡ judgement_of h.made.verdict h.shown → proofs ≡ proofs_of h.made.pairs →
+    pub judged_by : (j : Judgement) (proofs : List Proof) (text : List ℕ) → IfSome h.shown (λ w. IsShownBehind h.left h.right names rows w) → j ≡ judgement_of h.made.verdict h.shown → proofs ≡ proofs_of h.made.pairs →
         text ≡ after_text h.left h.right cycles conflicts (length rows) h.left_known h.right_known h.shown h.made → IsJudged a b names rows cycles conflicts j proofs text
-    judged_by j proofs text shown judgement kept written = record {
+    judged_by j proofs text told judgement kept written = record {
       of = h;
       is = is;
       agree = agree;
       agree_up_to = agree_up_to;
       agree_before = agree_before;
-      differ = shown;
+      differ = shown_of told;
       judgement_is = judgement;
       proofs_are = kept;
       text_is = written;
