@@ -1,8 +1,7 @@
 -- Where two circuits can be compared behind the rows of a stimulus, they are.
-use Rattle.std.specs.Prelude.{IfSome, IsSomeAnd}
+use Rattle.std.specs.Prelude.{IsSomeAnd}
 use Rattle.std.proofs.Common.{◌≡◌, ◌∙◌, ◌⊎◌, ℕ, Bool, List, [], ◌∷◌, sym, ap, inl, inr, Option, Some, None}
 use Rattle.std.proofs.lemmas.Option.{none-some}
-use Rattle.flat_net.specs.View.{NetView}
 use Rattle.circuit_report.specs.declared.sim_report.refusal.Misfit.TheVariants as misfit
 use Rattle.job_circuit.specs.replay.replay_header.Header.{FitsBoth, first_unknown, first_lacking, opened}
 use Rattle.job_base.specs.sec_files.Loading.{Loads}

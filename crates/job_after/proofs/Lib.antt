@@ -1,4 +1,3 @@
-pub mod SearchMeaning
 pub mod Finds
 pub mod Searched
 pub mod Lifted

@@ -1,5 +1,5 @@
 -- What is said of flat nets behind the rows of a stimulus is said of the circuits that they come from.
-use Rattle.std.proofs.Common.{◌≡◌, ◌∙◌, ℕ, ◌<◌, ◌≤◌, Bool, List, [], sym, arith}
+use Rattle.std.proofs.Common.{◌≡◌, ◌∙◌, ℕ, Bool, List, [], sym, arith}
 use Rattle.circuit_theory.specs.Agree.{IsPair}
 use Rattle.circuit_theory.specs.Circuit.{Circuit}
 use Rattle.job_base.proofs.design_laws.FlatParts.{FlatDesign, input_up, output_down}

@@ -1,6 +1,6 @@
 -- What is judged of two nets behind the rows of a stimulus, or why they aren't compared.
 use Rattle.std.specs.Prelude.{IsErrAnd, IfSome}
-use Rattle.std.proofs.Common.{◌≡◌, ℕ, ◌<◌, Bool, List, [], ◌∷◌, length, map, sym, subst, inl, inr, arith, Option, Some, None, Result, Ok, Err}
+use Rattle.std.proofs.Common.{◌≡◌, ℕ, Bool, List, length, map, sym, subst, Option, Some, Result, Ok, Err}
 use Rattle.std.specs.List.{All}
 use Rattle.circuit_theory.specs.declared.Side.{Side}
 use Rattle.circuit_laws.specs.reset_laws.Reset.{AgreeFromReset}
@@ -17,7 +17,7 @@ use Rattle.cycle_search.specs.declared.found.SearchVerdict.TheVariants as verdic
 use Rattle.cycle_search.specs.declared.found.SearchError.{SearchError}
 use Rattle.cycle_search.specs.declared.found.SearchError.TheVariants as search
 use Rattle.cycle_search.specs.Searches.{Searches}
-use Rattle.job_after.proofs.SearchMeaning.{agree as search_agree, agree_up_to as search_agree_up_to, agree_before as search_agree_before}
+use Rattle.sec_jobs.proofs.job_search.search_meaning.Meaning.{agree as search_agree, agree_up_to as search_agree_up_to, agree_before as search_agree_before}
 use Rattle.restart.specs.Behind.{begun}
 use Rattle.restart.specs.Agreement.{AgreeBehind, Each, UpTo, Before}
 use Rattle.restart.specs.Sequence.{IsShownBehind}
@@ -25,7 +25,6 @@ use Rattle.restart.proofs.Begun.{behind_agree, behind_agree_up_to, behind_agree_
 use Rattle.restart.proofs.Again.{shown_again}
 use Rattle.job_base.proofs.sec_files.job_files.Reading.{if_told}
 use Rattle.job_after.specs.declared.fault.AfterFault.{AfterFault}
-use Rattle.job_after.specs.declared.fault.AfterFault.TheVariants as fault
 use Rattle.job_after.specs.declared.judging.Judged.{Judged}
 use Rattle.job_after.specs.Judged.{Behind, IsBegun, IsBehind, IsJudged, judgement_of, proofs_of}
 use Rattle.job_after.specs.Report.{after_text}

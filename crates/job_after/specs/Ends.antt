@@ -1,12 +1,12 @@
 -- How the job ends.
-use Rattle.std.specs.Prelude.{◌≡◌, ◌⊎◌, ℕ, Bool, List, [], ◌∷◌, Option, Some, None, Result, Ok, Err, IfSome}
+use Rattle.std.specs.Prelude.{◌≡◌, ◌⊎◌, ℕ, Bool, List, [], Option, Some, Result, Ok, Err, IfSome}
 use Rattle.circuit_theory.specs.Interface.{first_mismatch}
 use Rattle.flat_net.specs.View.{NetView, ports_of}
 use Rattle.sec_setup.specs.Matching.{InterfacesMatch}
 use Rattle.circuit_report.specs.declared.sim_report.refusal.Misfit.TheVariants as misfit
 use Rattle.job_circuit.specs.declared.replay.replay_header.error.ReplayError.{ReplayError}
 use Rattle.job_circuit.specs.declared.replay.replay_header.error.ReplayError.TheVariants as header
-use Rattle.job_circuit.specs.replay.replay_header.Header.{FitsBoth, FitsOr, first_unknown, opened}
+use Rattle.job_circuit.specs.replay.replay_header.Header.{FitsBoth, FitsOr, opened}
 use Rattle.job_circuit.specs.job_replay.Replays.{replay_paths}
 use Rattle.job_base.specs.declared.sec_files.loader.LoadError.{LoadError}
 use Rattle.job_base.specs.declared.sec_files.stimuli.StimulusError.{StimulusError}

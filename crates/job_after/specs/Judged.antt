@@ -1,12 +1,11 @@
 -- What is judged of two nets behind the rows of a stimulus.
-use Rattle.std.specs.Prelude.{◌≡◌, ℕ, Bool, List, length, map, Option, Some, None}
+use Rattle.std.specs.Prelude.{◌≡◌, ℕ, Bool, List, length, Option, Some, None}
 use Rattle.std.specs.List.{filter_map}
 use Rattle.circuit_theory.specs.declared.Side.{Side}
 use Rattle.flat_net.specs.View.{NetView, circuit_of}
 use Rattle.pair_decide.specs.declared.query.Proof.{Proof}
 use Rattle.witness_report.specs.declared.witness.Witness.{Witness}
 use Rattle.obligations.specs.declared.outcome.verdict.PairResult.{PairResult}
-use Rattle.obligations.specs.declared.outcome.verdict.ResetWitness.{ResetWitness}
 use Rattle.job_base.specs.declared.finding.Judgement.{Judgement}
 use Rattle.job_base.specs.declared.finding.Judgement.TheVariants as judgement
 use Rattle.cycle_search.specs.declared.found.Searched.{Searched}

@@ -1,6 +1,5 @@
 -- The first name that a latch alone has.
-use Rattle.std.proofs.Common.{◌≡◌, ◌∙◌, ◌<◌, ℕ, List, [], ◌∷◌, length, slice_get, sym, ap, inr, arith, refl, subst, Some}
-use Rattle.job_circuit.specs.replay.replay_header.Header.{opened}
+use Rattle.std.proofs.Common.{◌≡◌, ◌∙◌, ℕ, List, [], ◌∷◌, slice_get, sym, ap, inr, Some}
 use Rattle.job_after.proofs.judging.match_header.Goals as goal
 
 first : (names : List (List ℕ)) (name : List ℕ) → slice_get names 0 ≡ Some name → (rest : List (List ℕ)) × (names ≡ name ∷ rest)
