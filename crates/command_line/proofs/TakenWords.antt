@@ -1,7 +1,7 @@
 -- Words that are written out, computed.
 use Rattle.std.proofs.Common.{refl}
 use Rattle.clap.proofs.OnLiterals.{clap_on_literals}
-use Rattle.command_line.specs.Known.{CheckIsTaken, GraphIsTaken, SimIsTaken, ReplayIsTaken, SettleIsTaken, GenIsTaken, LratIsTaken, CertIsTaken, InductIsTaken, ResetIsTaken, CyclesAreTaken, AssumedIsTaken, CheckSettlesIsTaken, ReplaySettlesIsTaken, SettlesIsRefused, AssumedIsRefused, OtherModeIsNoJob, OtherFormIsNoJob, ResetIsNoJob, CyclesAreNoJob}
+use Rattle.command_line.specs.Known.{CheckIsTaken, GraphIsTaken, SimIsTaken, ReplayIsTaken, SettleIsTaken, GenIsTaken, LratIsTaken, CertIsTaken, InductIsTaken, ResetIsTaken, CyclesAreTaken, AfterIsTaken, AssumedIsTaken, CheckSettlesIsTaken, ReplaySettlesIsTaken, SettlesIsRefused, AssumedIsRefused, OtherModeIsNoJob, OtherFormIsNoJob, ResetIsNoJob, CyclesAreNoJob, AfterIsNoJob}
 
 pub check_is_taken : CheckIsTaken
 unfolding clap_on_literals
@@ -51,6 +51,10 @@ pub cycles_are_taken : CyclesAreTaken
 unfolding clap_on_literals
 cycles_are_taken = ((refl, refl), refl)
 
+pub after_is_taken : AfterIsTaken
+unfolding clap_on_literals
+after_is_taken = ((refl, refl), refl)
+
 pub assumed_is_taken : AssumedIsTaken
 unfolding clap_on_literals
 assumed_is_taken = ((refl, refl), refl)
@@ -82,3 +86,7 @@ reset_is_no_job = ((refl, refl), (refl, refl), (refl, refl), (refl, refl))
 pub cycles_are_no_job : CyclesAreNoJob
 unfolding clap_on_literals
 cycles_are_no_job = ((refl, refl), (refl, refl), (refl, refl), refl)
+
+pub after_is_no_job : AfterIsNoJob
+unfolding clap_on_literals
+after_is_no_job = ((refl, refl), (refl, refl), (refl, refl))

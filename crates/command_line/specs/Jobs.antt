@@ -62,9 +62,21 @@ abbrev pub checked_in : Bool → Text → Text → Settings → Option Text → 
 checked_in settles a b settings assumed None = Some (compared_in settles a b settings assumed)
 checked_in settles a b settings assumed (Some word) = search_in a b settings assumed word
 
+-- the search behind the rows of a stimulus, up to the cycle that the word spells; it stands only beside `--reset` and `--cycles`, and
+-- without an assumption
+abbrev pub after_in : Text → Text → Text → Settings → Option Text → Option Text → Option Task
+after_in a b s settings assumed None = None
+after_in a b s settings (Some assumed) (Some word) = None
+after_in a b s settings None (Some word) = if settings.reset then option_map (λ cycles. task.After a b s cycles settings.conflicts) (number_of most_cycles word) else None
+
+-- the same where a stimulus is named
+abbrev pub begun_in : Bool → Text → Text → Settings → Option Text → Option Text → Option Text → Option Task
+begun_in settles a b settings assumed cycles None = checked_in settles a b settings assumed cycles
+begun_in settles a b settings assumed cycles (Some s) = after_in a b s settings assumed cycles
+
 abbrev pub check_in : List Row → Option Task
 check_in rows =
-    with_word (codes "a") rows (λ a. with_word (codes "b") rows (λ b. option_and_then (λ settings. checked_in (is_set (codes "settles") rows) a b settings (first_of (codes "assume") rows) (first_of (codes "cycles") rows)) (settings_in rows)))
+    with_word (codes "a") rows (λ a. with_word (codes "b") rows (λ b. option_and_then (λ settings. begun_in (is_set (codes "settles") rows) a b settings (first_of (codes "assume") rows) (first_of (codes "cycles") rows) (first_of (codes "after") rows)) (settings_in rows)))
 
 abbrev pub graph_in : List Row → Option Task
 graph_in rows = with_word (codes "a") rows (λ a. option_map (λ mode. task.Graph a mode) (mode_in rows))

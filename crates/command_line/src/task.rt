@@ -75,6 +75,14 @@ pub enum Task {
         cycles: u32,
         conflicts: u32,
     },
+    /// Search them for a difference behind the rows of a stimulus, whatever they power up with, in the cycles from 0 to a last one there.
+    After {
+        a: FilePath,
+        b: FilePath,
+        s: FilePath,
+        cycles: u32,
+        conflicts: u32,
+    },
     /// Compare the circuits of two files from their initial values, by blocks of latches that are equal in every cycle.
     Induct {
         a: FilePath,
@@ -136,6 +144,13 @@ impl Drop for Task {
             Task::Search {
                 a: _,
                 b: _,
+                cycles: _,
+                conflicts: _,
+            } => {}
+            Task::After {
+                a: _,
+                b: _,
+                s: _,
                 cycles: _,
                 conflicts: _,
             } => {}

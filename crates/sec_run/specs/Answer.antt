@@ -21,6 +21,7 @@ use Rattle.job_settles.specs.Found.{IsSettlesFound}
 use Rattle.sec_jobs.specs.job_gen.gen_meaning.Found.{IsGenFound}
 use Rattle.sec_jobs.specs.job_cert.job_lrat.Found.{IsLratFound}
 use Rattle.sec_jobs.specs.job_cert.Found.{IsCertFound}
+use Rattle.job_after.specs.Answer.{IsAfterFound}
 use Rattle.sec_jobs.specs.job_induct.induct_meaning.Found.{IsInductFound}
 use Rattle.sec_jobs.specs.job_search.search_meaning.Found.{IsSearchFound}
 
@@ -36,6 +37,7 @@ IsFoundOfJob held (task.Gen seed regroup conflicts) f = IsGenFound (record { see
 IsFoundOfJob held (task.Lrat f l) found = IsLratFound (held f) (held l) found
 IsFoundOfJob held (task.Cert a b pair lrat conflicts) f = IsCertFound (record { pair = pair; refuted = lrat; conflicts = conflicts }) (held a) (held b) f
 IsFoundOfJob held (task.Search a b cycles conflicts) f = IsSearchFound cycles conflicts (held a) (held b) f
+IsFoundOfJob held (task.After a b s cycles conflicts) f = IsAfterFound cycles conflicts (held a) (held b) (held s) f
 IsFoundOfJob held (task.Induct a b conflicts) f = IsInductFound conflicts (held a) (held b) f
 
 -- what is found: that the words are no job, or what is true of the job

@@ -22,6 +22,7 @@ paths_of (task.Gen seed regroup conflicts) = []
 paths_of (task.Lrat f l) = lrat_paths f l
 paths_of (task.Cert a b pair lrat conflicts) = cert_paths a b
 paths_of (task.Search a b cycles conflicts) = induct_paths a b
+paths_of (task.After a b s cycles conflicts) = replay_paths a b s
 paths_of (task.Induct a b conflicts) = induct_paths a b
 
 -- none where the words are no job
@@ -41,6 +42,7 @@ GoesOn (task.Gen seed regroup conflicts) = IsLoaded
 GoesOn (task.Lrat f l) = AreSpelled
 GoesOn (task.Cert a b pair lrat conflicts) = IsLoaded
 GoesOn (task.Search a b cycles conflicts) = IsLoaded
+GoesOn (task.After a b s cycles conflicts) = IsLoaded
 GoesOn (task.Induct a b conflicts) = IsLoaded
 
 -- words that are no job read nothing

@@ -13,6 +13,7 @@ ghost use Rattle.sec_run.specs.Ends.{Found};
 ghost use Rattle.sec_run.specs.Promises.{Means, IsComplete};
 
 use command_line::{Task, WordsError, job};
+use job_after::{AfterComparison, compare_after};
 use job_base::{Finding, Status, StatusName, Stop, finish};
 use job_check::{Comparison, check};
 use job_circuit::job_replay::{Replay, ReplayReport, replay_files};
@@ -159,6 +160,22 @@ fn find<S: Shelf>(alloc: Global, task: &Task, shelf: &mut S) -> Result<Finding, 
                 conflicts: *conflicts,
             };
             compare_in_cycles(alloc, &comparison, shelf)
+        }
+        Task::After {
+            a,
+            b,
+            s,
+            cycles,
+            conflicts,
+        } => {
+            let comparison = AfterComparison {
+                left: a.as_str(),
+                right: b.as_str(),
+                stimulus: s.as_str(),
+                cycles: *cycles,
+                conflicts: *conflicts,
+            };
+            compare_after(alloc, &comparison, shelf)
         }
         Task::Induct { a, b, conflicts } => {
             let comparison = BlockComparison {

@@ -76,6 +76,7 @@ fn words_of<'a>(which: Subcommand) -> (&'a str, &'a [Word<'a>])
                 Word::Option("assume"),
                 Word::Flag("settles"),
                 Word::Cycles,
+                Word::Option("after"),
             ],
         ),
         Subcommand::Graph => ("graph", &[Word::Place("a"), MODE]),

@@ -1,0 +1,5 @@
+pub mod Finds
+pub mod Searched
+pub mod Lifted
+pub mod Means
+pub mod Complete

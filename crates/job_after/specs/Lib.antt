@@ -1,0 +1,4 @@
+pub mod Report
+pub mod Judged
+pub mod Ends
+pub mod Answer
