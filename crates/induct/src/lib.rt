@@ -12,3 +12,4 @@ mod verdict;
 pub use induction::{
     Block, Blocks, InductError, InductPair, InductPairs, InductVerdict, Induction, induct,
 };
+pub use numbers::own_numbers;

@@ -1,0 +1,82 @@
+//! The comparison.
+
+ghost use Rattle.std.specs.Prelude.{◌≡◌, ◌≤◌, None, IfOk, IfErr};
+ghost use Rattle.circuit_theory.specs.Interface.{first_mismatch, AreOrders};
+ghost use Rattle.circuit_laws.specs.reset_laws.Reset.{AgreeFromReset};
+ghost use Rattle.flat_net.specs.Comparable.{IsComparable};
+ghost use Rattle.flat_net.specs.View.{circuit_of, ports_of};
+ghost use Rattle.block_refine.specs.latch_blocks.Signals.{net_weight};
+ghost use Rattle.induct.specs.Inductions.{IsRefusal};
+ghost use Rattle.signal_induct.specs.Tied.{first_apart, IsSignalInduction};
+
+use crate::outputs::{TiedPairs, tied_pairs};
+use block_refine::latch_blocks::is_light;
+use flat_net::Net;
+use induct::{InductError, own_numbers};
+use sec_base::{MAX_WEIGHT, NoMemory, Orders, Side};
+use signal_refine::{Correspondence, SignalNets, correspond};
+use std::alloc::Global;
+
+/// Ties that are an inductive invariant of two circuits, and what they say of the outputs.
+#[derive(Drop)]
+pub struct SignalInduction {
+    pub ties: Correspondence,
+    /// In the order of A's outputs.
+    pub pairs: TiedPairs,
+}
+
+/// Whether all outputs of one name agree from the initial values on, by ties of signals. A query has at most so many conflicts; at the
+/// limit its tie is dropped. `TooLarge` comes where all inputs, latches and gates of a circuit weigh more than 2,000,000 together, each
+/// once; A comes first.
+pub fn induct_signals(
+    alloc: Global,
+    a: &Net,
+    b: &Net,
+    orders: &Orders,
+    conflicts: u32,
+) -> Result<SignalInduction, InductError>
+    requires matches { first_mismatch (ports_of a.now) (ports_of b.now) ≡ None }
+    requires right { IsComparable b.now }
+    requires orders { AreOrders (ports_of a.now) (ports_of b.now) orders.now.left orders.now.right }
+    ensures light { IfOk result (λ _. (net_weight a.now ≤ MAX_WEIGHT) × (net_weight b.now ≤ MAX_WEIGHT)) }
+    ensures made { IfOk result (IsSignalInduction a.now b.now) }
+    ensures agree { IfOk result (λ made. first_apart made.pairs ≡ None → AgreeFromReset (circuit_of a.now) (circuit_of b.now)) }
+    ensures refused { IfErr result (IsRefusal a.now b.now) }
+{
+    if !is_light(a) {
+        return Err(InductError::TooLarge(Side::A));
+    }
+    if !is_light(b) {
+        return Err(InductError::TooLarge(Side::B));
+    }
+    let made = induct_light(alloc, a, b, orders, conflicts)?;
+    Ok(made)
+}
+
+/// The same of two light nets.
+fn induct_light(
+    alloc: Global,
+    a: &Net,
+    b: &Net,
+    orders: &Orders,
+    conflicts: u32,
+) -> Result<SignalInduction, NoMemory>
+    requires matches { first_mismatch (ports_of a.now) (ports_of b.now) ≡ None }
+    requires right { IsComparable b.now }
+    requires orders { AreOrders (ports_of a.now) (ports_of b.now) orders.now.left orders.now.right }
+    requires light { (net_weight a.now ≤ MAX_WEIGHT) × (net_weight b.now ≤ MAX_WEIGHT) }
+    ensures made { IfOk result (IsSignalInduction a.now b.now) }
+    ensures agree { IfOk result (λ made. first_apart made.pairs ≡ None → AgreeFromReset (circuit_of a.now) (circuit_of b.now)) }
+{
+    a.keeps();
+    b.keeps();
+    let own = own_numbers(alloc, a, b, orders)?;
+    let nets = SignalNets {
+        left: a,
+        right: b,
+        orders: &own,
+    };
+    let ties = correspond(alloc, &nets, conflicts)?;
+    let pairs = tied_pairs(alloc, a, b, &ties.anchors)?;
+    Ok(SignalInduction { ties, pairs })
+}
