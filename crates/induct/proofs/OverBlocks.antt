@@ -38,10 +38,6 @@ latches_few a b sound_a sound_b light_a light_b =
     let right = light_few b sound_b in
     omega (arith, left, right, light_a, light_b, sound_a.few_latches, sound_b.few_latches)
 
--- small numbers are below a greater bound
-pub wider : (numbers : List ℕ) → All (λ i. i < 2 ^ 30) numbers → All (λ i. i < 2 ^ 31) numbers
-wider numbers small = All-weaker (λ (i : ℕ). i < 2 ^ 30) (λ (i : ℕ). i < 2 ^ 31) (λ i less. omega (arith, less)) numbers small
-
 -- a graph can be made of the coarsest inductive partition
 pub ready_from : (n : BlockNets) → net_weight n.left.now ≤ 2000000 → net_weight n.right.now ≤ 2000000 → AreOwnNumbers n.left.now n.right.now n.orders.now → AreCoarsest n.left.now n.right.now n.orders.now n.blocks.now → AreReady n
 ready_from n light_a light_b own coarsest = record {
@@ -49,8 +45,8 @@ ready_from n light_a light_b own coarsest = record {
   right_light = light_b;
   left_long = (orders_long n.left.now n.right.now n.orders.now own.are).0;
   right_long = (orders_long n.left.now n.right.now n.orders.now own.are).1;
-  left_small = wider n.orders.now.left own.left_small;
-  right_small = wider n.orders.now.right own.right_small;
+  left_small = own.left_small;
+  right_small = own.right_small;
   each = coarsest.each;
   in_order = coarsest.in_order;
 }

@@ -125,8 +125,8 @@ module _ (a b : NetView) (sound_a : IsSound a) (sound_b : IsSound b) (light_a : 
       left_is = lowered_numbers bound bound from orders.left orders.right made.left made.right left right (omega arith) (omega (arith, from_is)) (λ k j l m e. omega (arith, l, e, from_is, long.0)) (ports_of a).inputs (shared_inputs (ports_of a) (ports_of b)) few are.left_is;
       right_is = lowered_numbers bound from bound orders.right orders.left made.right made.left right left (omega (arith, from_is)) (omega arith) (λ k j l m e. omega (arith, m, e, from_is, long.0)) (ports_of b).inputs (shared_inputs (ports_of a) (ports_of b)) few are.right_is;
     };
-    left_small = lowered_small bound bound orders.left made.left left (2 ^ 30) (omega (arith, bound_is, few_a, few_b)) (omega (arith, bound_is, few_a, few_b, long.0));
-    right_small = lowered_small bound from orders.right made.right right (2 ^ 30) (omega (arith, bound_is, few_a, few_b)) (omega (arith, bound_is, from_is, few_a, few_b, long.1));
+    left_small = lowered_small bound bound orders.left made.left left (2 ^ 31) (omega (arith, bound_is, few_a, few_b)) (omega (arith, bound_is, few_a, few_b, long.0));
+    right_small = lowered_small bound from orders.right made.right right (2 ^ 31) (omega (arith, bound_is, few_a, few_b)) (omega (arith, bound_is, from_is, few_a, few_b, long.1));
   }
     where
       long : (length orders.left ≡ length a.inputs) × (length orders.right ≡ length b.inputs)

@@ -31,8 +31,8 @@ use Rattle.induct.specs.declared.induction.InductError.TheVariants as refusal
 -- numbers of the interface, all small
 pub record AreOwnNumbers (a b : NetView) (own : Orders) : Type 0 where
   pub are : AreOrders (ports_of a) (ports_of b) own.left own.right
-  pub left_small : All (λ i. i < 2 ^ 30) own.left
-  pub right_small : All (λ i. i < 2 ^ 30) own.right
+  pub left_small : All (λ i. i < 2 ^ 31) own.left
+  pub right_small : All (λ i. i < 2 ^ 31) own.right
 
 -- the latch at a place, where so many latches of A stand before those of B
 abbrev pub tag_at : ℕ → ℕ → Tag

@@ -7,4 +7,4 @@ mod outputs;
 
 pub use answer::{OutputAnswer, Shown};
 pub use block_refine::{Refined, SplitLimit, refine};
-pub use outputs::{OutputPair, OutputPairs, compare_outputs, output_named};
+pub use outputs::{OutputPair, OutputPairs, compare_outputs};

@@ -12,4 +12,3 @@ mod verdict;
 pub use induction::{
     Block, Blocks, InductError, InductPair, InductPairs, InductVerdict, Induction, induct,
 };
-pub use numbers::own_numbers;

@@ -12,7 +12,7 @@ use std::alloc::Global;
 
 /// The same numbers, but for inputs that are left out: those at or above the number of both nets' inputs, which only inputs that are
 /// left out can have, are put by numbers of their own just above it.
-pub fn own_numbers(
+pub(crate) fn own_numbers(
     alloc: Global,
     a: &Net,
     b: &Net,

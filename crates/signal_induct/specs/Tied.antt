@@ -1,15 +1,17 @@
 -- Two circuits compared by ties of their signals.
-use Rattle.std.specs.Prelude.{◌≡◌, ℕ, suc, ◌+◌, ◌==◌, ◌&&◌, ◌||◌, not, Bool, true, false, if◌then◌else◌, List, [], ◌∷◌, ◌++◌, length, slice_get, find, unwrap_or, Option, option_map, Some}
+use Rattle.std.specs.Prelude.{◌≡◌, ℕ, suc, ◌+◌, ◌==◌, ◌&&◌, ◌||◌, not, Bool, true, false, if◌then◌else◌, List, [], ◌∷◌, ◌++◌, length, map, slice_get, find, unwrap_or, Option, option_map}
 use Rattle.std.specs.List.{AllZip}
-use Rattle.circuit_theory.specs.Agree.{place_named}
+use Rattle.circuit_theory.specs.Interface.{AreOrders}
 use Rattle.sec_base.specs.declared.basics.Orders.{Orders}
-use Rattle.flat_net.specs.declared.parts.Port.{Port}
-use Rattle.flat_net.specs.View.{NetView, circuit_of}
+use Rattle.flat_net.specs.View.{NetView, circuit_of, ports_of}
+use Rattle.witness_report.specs.declared.witness.PairName.{PairName}
+use Rattle.witness_report.specs.declared.witness.PairName.TheVariants as pair_name
+use Rattle.sec_setup.specs.declared.ports.pairs.SignalPair.{SignalPair}
+use Rattle.sec_setup.specs.ports.Pairing.{IsOutputPair}
 use Rattle.signal_laws.specs.declared.anchor.Anchor.{Anchor}
 use Rattle.signal_laws.specs.declared.anchor.Anchor.TheVariants as anchor
 use Rattle.signal_laws.specs.Laws.{AreInductive}
 use Rattle.signal_refine.specs.Asking.{same_bit}
-use Rattle.induct.specs.Inductions.{AreOwnNumbers}
 use Rattle.signal_induct.specs.declared.outputs.TiedPair.{TiedPair}
 use Rattle.signal_induct.specs.declared.induction.SignalInduction.{SignalInduction}
 
@@ -34,13 +36,15 @@ abbrev pub ties_from : ℕ → List Anchor → ℕ
 ties_from p [] = 0
 ties_from p (k ∷ anchors) = (if is_tied p k then 1 else 0) + ties_from (suc p) anchors
 
--- An output of A and B's output of its name, where so many signals of A stand before those of B: equal where both are tied to one bit or
--- one signal, under one sign.
-pub record IsTiedPair (b : NetView) (size : ℕ) (anchors : List Anchor) (port : Port) (pair : TiedPair) : Type 0 where
-  pub name_is : pair.name ≡ port.name
-  pub other : ℕ
-  pub other_is : place_named (circuit_of b).outputs port.name ≡ Some other
-  pub equal_is : pair.equal ≡ same_anchor (anchor_at anchors port.signal.0) (anchor_at anchors (size + other))
+-- the name of the outputs
+abbrev pub name_of : PairName → List ℕ
+name_of (pair_name.Output name) = name
+name_of (pair_name.Next name) = name
+
+-- Two outputs of one name, where so many signals of A stand before those of B: equal where both are tied to one bit or one signal, under
+-- one sign.
+abbrev pub tied_pair : ℕ → List Anchor → SignalPair → TiedPair
+tied_pair size anchors p = record { name = name_of p.name; equal = same_anchor (anchor_at anchors p.left.0) (anchor_at anchors (size + p.right.0)) }
 
 -- the name of the first output that isn't shown equal
 abbrev pub first_apart : List TiedPair → Option (List ℕ)
@@ -50,6 +54,8 @@ first_apart pairs = option_map (λ (p : TiedPair). p.name) (find (λ (p : TiedPa
 -- name by them.
 pub record IsSignalInduction (a b : NetView) (made : SignalInduction) : Type 0 where
   pub own : Orders
-  pub are_own : AreOwnNumbers a b own
+  pub are_own : AreOrders (ports_of a) (ports_of b) own.left own.right
   pub inductive : AreInductive (circuit_of a) (circuit_of b) (own.left ++ own.right) (length a.drivers) made.ties.anchors.items
-  pub pairs_are : AllZip (IsTiedPair b (length a.drivers) made.ties.anchors.items) a.outputs made.pairs
+  pub outputs : List SignalPair
+  pub are_outputs : AllZip (IsOutputPair b) a.outputs outputs
+  pub pairs_are : made.pairs ≡ map (tied_pair (length a.drivers) made.ties.anchors.items) outputs

@@ -1,6 +1,6 @@
 //! The comparison.
 
-ghost use Rattle.std.specs.Prelude.{◌≡◌, ◌≤◌, None, IfOk, IfErr};
+ghost use Rattle.std.specs.Prelude.{◌≡◌, ◌^◌, ◌<◌, ◌≤◌, None, All, IfOk, IfErr, IsTrue};
 ghost use Rattle.circuit_theory.specs.Interface.{first_mismatch, AreOrders};
 ghost use Rattle.circuit_laws.specs.reset_laws.Reset.{AgreeFromReset};
 ghost use Rattle.flat_net.specs.Comparable.{IsComparable};
@@ -9,10 +9,10 @@ ghost use Rattle.block_refine.specs.latch_blocks.Signals.{net_weight};
 ghost use Rattle.induct.specs.Inductions.{IsRefusal};
 ghost use Rattle.signal_induct.specs.Tied.{first_apart, IsSignalInduction};
 
-use crate::outputs::{TiedPairs, tied_pairs};
+use crate::outputs::{TiedPairs, output_pairs, tied_pairs};
 use block_refine::latch_blocks::is_light;
 use flat_net::Net;
-use induct::{InductError, own_numbers};
+use induct::InductError;
 use sec_base::{MAX_WEIGHT, NoMemory, Orders, Side};
 use signal_refine::{Correspondence, SignalNets, correspond};
 use std::alloc::Global;
@@ -53,7 +53,8 @@ pub fn induct_signals(
     Ok(made)
 }
 
-/// The same of two light nets.
+/// The same of two light nets. Inputs that are left out have numbers of their own; one of 2^30 or more counts as no memory, and `interface`
+/// gives none to light nets.
 fn induct_light(
     alloc: Global,
     a: &Net,
@@ -70,13 +71,28 @@ fn induct_light(
 {
     a.keeps();
     b.keeps();
-    let own = own_numbers(alloc, a, b, orders)?;
+    if !(are_small(orders.left.as_slice()) && are_small(orders.right.as_slice())) {
+        return Err(NoMemory);
+    }
     let nets = SignalNets {
         left: a,
         right: b,
-        orders: &own,
+        orders,
     };
     let ties = correspond(alloc, &nets, conflicts)?;
-    let pairs = tied_pairs(alloc, a, b, &ties.anchors)?;
+    let outputs = output_pairs(alloc, a, b)?;
+    let pairs = tied_pairs(alloc, a.size(), &ties.anchors, outputs)?;
     Ok(SignalInduction { ties, pairs })
+}
+
+/// Whether all of these numbers are below 2^30.
+fn are_small(numbers: &[u32]) -> bool
+    ensures { IsTrue result → All (λ i. i < 2 ^ 30) numbers.now }
+{
+    for i in numbers {
+        if *i >= 1 << 30 {
+            return false;
+        }
+    }
+    true
 }

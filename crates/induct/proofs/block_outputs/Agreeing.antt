@@ -23,7 +23,7 @@ use Rattle.induct.specs.block_outputs.Answers.{IsAnswer, IsOutputAnswer}
 use Rattle.induct.specs.block_outputs.Laws.{EqualOutputsAgree}
 
 -- the output of B that a pair names
-pub named_place : (b : NetView) (name : List ℕ) (q : ℕ) → IsComparable b → Contains (circuit_of b).outputs (record { name = name; place = q }) → place_named (circuit_of b).outputs name ≡ Some q
+named_place : (b : NetView) (name : List ℕ) (q : ℕ) → IsComparable b → Contains (circuit_of b).outputs (record { name = name; place = q }) → place_named (circuit_of b).outputs name ≡ Some q
 named_place b name q right there =
     let found = Contains-map_from named b.outputs (record { name = name; place = q }) there in
     let at = at_of b.outputs found.0 found.1 in

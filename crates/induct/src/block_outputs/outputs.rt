@@ -74,7 +74,7 @@ fn output_pair(
 }
 
 /// The signal of the output of this name, by the names of all outputs.
-pub fn output_named(net: &Net, names: &NameTable, name: &[u8]) -> Signal
+fn output_named(net: &Net, names: &NameTable, name: &[u8]) -> Signal
     requires net { IsComparable net.now }
     requires names { names.now ≡ map (λ p. p.name) net.now.outputs }
     requires there { Contains names.now name.now }

@@ -28,7 +28,7 @@ module _ (left right : Option (List ℕ)) (x y : List ℕ) (is : left ≡ Some x
   of_right P h = if_told right P y also h
 
   -- nothing is refused
-  pub stands : (r : Refusal) → IsInductRefusal left right r → ⊥
+  stands : (r : Refusal) → IsInductRefusal left right r → ⊥
   stands (refusal.TooLong file.A) h = is_short x can.left (of_left IsTooLong h)
   stands (refusal.TooLong file.B) h = is_short y can.right (of_right IsTooLong h.1)
   stands (refusal.TooLong file.C) h = h
