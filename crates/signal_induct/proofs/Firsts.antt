@@ -13,12 +13,12 @@ module _ (pairs : List TiedPair) (i : ℕ) (p : TiedPair) (before : first_apart 
   by_answer b e = here ∙ ap (λ c. option_map (λ (x : TiedPair). x.name) (cond (not c) (Some p) (find (λ (x : TiedPair). not x.equal) (drop (i + 1) pairs)))) e
 
   -- it is this one
-  pub found : p.equal ≡ false → first_apart pairs ≡ Some p.name
-  found e = by_answer false e
+  pub apart : p.equal ≡ false → first_apart pairs ≡ Some p.name
+  apart e = by_answer false e
 
   -- or one behind it
-  pub passed : p.equal ≡ true → first_apart pairs ≡ first_apart (drop (i + 1) pairs)
-  passed e = by_answer true e
+  pub equal : p.equal ≡ true → first_apart pairs ≡ first_apart (drop (i + 1) pairs)
+  equal e = by_answer true e
 
 -- or there is none
 pub none_found : (pairs : List TiedPair) (i : ℕ) → first_apart pairs ≡ first_apart (drop i pairs) → length pairs ≤ i → first_apart pairs ≡ None

@@ -69,11 +69,33 @@ fn induct_light(
     ensures made { IfOk result (IsSignalInduction a.now b.now) }
     ensures agree { IfOk result (λ made. first_apart made.pairs ≡ None → AgreeFromReset (circuit_of a.now) (circuit_of b.now)) }
 {
+    let left = are_small(orders.left.as_slice());
+    let right = are_small(orders.right.as_slice());
+    if left && right {
+        return tie(alloc, a, b, orders, conflicts);
+    }
+    Err(NoMemory)
+}
+
+/// The same where all inputs' numbers are small.
+fn tie(
+    alloc: Global,
+    a: &Net,
+    b: &Net,
+    orders: &Orders,
+    conflicts: u32,
+) -> Result<SignalInduction, NoMemory>
+    requires matches { first_mismatch (ports_of a.now) (ports_of b.now) ≡ None }
+    requires right { IsComparable b.now }
+    requires orders { AreOrders (ports_of a.now) (ports_of b.now) orders.now.left orders.now.right }
+    requires light { (net_weight a.now ≤ MAX_WEIGHT) × (net_weight b.now ≤ MAX_WEIGHT) }
+    requires left_small { All (λ i. i < 2 ^ 30) orders.now.left }
+    requires right_small { All (λ i. i < 2 ^ 30) orders.now.right }
+    ensures made { IfOk result (IsSignalInduction a.now b.now) }
+    ensures agree { IfOk result (λ made. first_apart made.pairs ≡ None → AgreeFromReset (circuit_of a.now) (circuit_of b.now)) }
+{
     a.keeps();
     b.keeps();
-    if !(are_small(orders.left.as_slice()) && are_small(orders.right.as_slice())) {
-        return Err(NoMemory);
-    }
     let nets = SignalNets {
         left: a,
         right: b,
@@ -89,10 +111,17 @@ fn induct_light(
 fn are_small(numbers: &[u32]) -> bool
     ensures { IsTrue result → All (λ i. i < 2 ^ 30) numbers.now }
 {
+    let mut small = true;
     for i in numbers {
-        if *i >= 1 << 30 {
-            return false;
-        }
+        small = with_number(small, *i);
     }
-    true
+    small
+}
+
+/// Whether this number is below 2^30 too.
+fn with_number(small: bool, number: u32) -> bool
+    ensures others { IsTrue result → IsTrue small }
+    ensures own { IsTrue result → number < 2 ^ 30 }
+{
+    small && number < 1 << 30
 }

@@ -83,7 +83,8 @@ pub fn first_apart(pairs: &[TiedPair]) -> Option<&Word>
     ensures { option_map (λ name. name.now) result ≡ Rattle.signal_induct.specs.Tied.first_apart pairs.now }
 {
     for pair in pairs {
-        if !pair.equal {
+        let apart = !pair.equal;
+        if apart {
             return Some(&pair.name);
         }
     }

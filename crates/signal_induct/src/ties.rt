@@ -1,6 +1,7 @@
 //! What signals are tied to.
 
 ghost use Rattle.std.specs.Prelude.{◌≡◌, ◌+◌, ◌<◌, ◌^◌, if◌then◌else◌};
+ghost use Rattle.signal_refine.specs.Asking;
 ghost use Rattle.signal_induct.specs.Tied.{anchor_at, same_anchor, is_tied, ties_from};
 
 use signal_laws::Anchor;
@@ -39,7 +40,7 @@ pub(crate) fn same_anchor(one: Anchor, other: Anchor) -> bool
 
 /// Whether both bits are one.
 fn same_bit(one: bool, other: bool) -> bool
-    ensures { result ≡ Rattle.signal_refine.specs.Asking.same_bit one other }
+    ensures { result ≡ Asking.same_bit one other }
 {
     if one { other } else { !other }
 }

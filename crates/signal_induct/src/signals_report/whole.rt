@@ -2,6 +2,7 @@
 
 ghost use Rattle.std.specs.Prelude.{◌≡◌, ◌++◌, length, codes, IfOk, OnOk};
 ghost use Rattle.std.specs.List.{flat_map};
+ghost use Rattle.signal_induct.specs.Tied;
 ghost use Rattle.signal_induct.specs.signals_report.Report.{latch_line, latches_text, pair_line, verdict_text, signals_text};
 
 use crate::induction::SignalInduction;
@@ -75,7 +76,7 @@ fn put_pairs(text: &mut Vec<u8>, pairs: &[TiedPair]) -> Result<(), NoMemory>
 
 /// Puts the verdict.
 fn put_verdict(text: &mut Vec<u8>, pairs: &[TiedPair]) -> Result<(), NoMemory>
-    ensures { OnOk result (text.new.items ≡ text.old.items ++ verdict_text (Rattle.signal_induct.specs.Tied.first_apart pairs.now)) }
+    ensures { OnOk result (text.new.items ≡ text.old.items ++ verdict_text (Tied.first_apart pairs.now)) }
 {
     match first_apart(pairs) {
         None => put(text, b"verdict equal\n"),

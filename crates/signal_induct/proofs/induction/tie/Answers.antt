@@ -7,7 +7,22 @@ use Rattle.induct.proofs.OwnNumbers.{orders_long}
 use Rattle.signal_induct.specs.declared.induction.SignalInduction.{SignalInduction}
 use Rattle.signal_induct.specs.Tied.{tied_pair, IsSignalInduction}
 use Rattle.signal_induct.proofs.Agreeing.{all_agree}
-use Rattle.signal_induct.proofs.induction.induct_light.Goals as goal
+use Rattle.signal_induct.proofs.induction.tie.Goals as goal
+
+pub correspond-requires : goal.correspond-requires
+correspond-requires c =
+    let a = c.args.a.now in
+    let b = c.args.b.now in
+    let long = orders_long a b c.args.orders.now c.requires.orders in
+    let left = light_few a c.keeps.ensures.sound in
+    let right = light_few b c.keeps-2.ensures.sound in
+    record {
+      left_long = long.0;
+      right_long = long.1;
+      left_small = c.requires.left_small;
+      right_small = c.requires.right_small;
+      few = omega (arith, left, right, c.requires.light.0, c.requires.light.1);
+    }
 
 pub returns-clause-made : goal.returns-clause-made
 returns-clause-made c = record {
@@ -16,7 +31,7 @@ returns-clause-made c = record {
   inductive = c.in_ok-ties.ensures;
   outputs = c.in_ok-outputs.outputs;
   are_outputs = c.in_ok-outputs.ensures;
-  pairs_are = c.in_ok-pairs.ensures ∙ ap (λ n. map (tied_pair n c.in_ok-ties.ties.anchors.items) c.in_ok-outputs.outputs) c.size.ensures;
+  pairs_are = c.in_ok-pairs.ensures ∙ (ap (λ ks. map (tied_pair c.size.result ks) c.in_ok-outputs.outputs) c.deref.ensures.value ∙ ap (λ n. map (tied_pair n c.in_ok-ties.ties.anchors.items) c.in_ok-outputs.outputs) c.size.ensures);
 }
 
 pub returns-clause-agree : goal.returns-clause-agree
@@ -28,6 +43,6 @@ returns-clause-agree c none =
       inductive = c.in_ok-ties.ensures;
       outputs = c.in_ok-outputs.outputs;
       are_outputs = c.in_ok-outputs.ensures;
-      pairs_are = c.in_ok-pairs.ensures ∙ ap (λ n. map (tied_pair n c.in_ok-ties.ties.anchors.items) c.in_ok-outputs.outputs) c.size.ensures;
+      pairs_are = c.in_ok-pairs.ensures ∙ (ap (λ ks. map (tied_pair c.size.result ks) c.in_ok-outputs.outputs) c.deref.ensures.value ∙ ap (λ n. map (tied_pair n c.in_ok-ties.ties.anchors.items) c.in_ok-outputs.outputs) c.size.ensures);
     } in
     all_agree c.args.a.now c.args.b.now made is c.keeps.ensures.sound c.requires.right none
