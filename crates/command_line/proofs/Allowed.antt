@@ -11,7 +11,7 @@ use Rattle.sec_base.specs.declared.settings.Settings.{Settings}
 use Rattle.command_line.specs.declared.task.Task.{Task}
 use Rattle.command_line.specs.declared.task.Task.TheVariants as task
 use Rattle.command_line.specs.command_words.Command.{sec_app, most_conflicts, most_cycles, any_number}
-use Rattle.command_line.specs.Jobs.{task_in, check_in, compared_in, checked_in, begun_in, graph_in, sim_in, replay_in, settle_in, gen_in, lrat_in, cert_in, induct_in, form_in, settings_in, conflicts_in, mode_in, mode_of, refuses_reset, number_of, is_set, with_word}
+use Rattle.command_line.specs.Jobs.{task_in, check_in, compared_in, checked_in, begun_in, graph_in, sim_in, replay_in, settle_in, gen_in, lrat_in, cert_in, induct_in, form_in, settings_in, conflicts_in, mode_in, mode_of, refuses_reset, number_of, is_set, with_word, inducted_in}
 use Rattle.command_line.specs.Allowed.{IsAllowed, JobsAreAllowed}
 
 some_is : {X : Type 0} {x y : X} → Some x ≡ Some y → x ≡ y
@@ -201,12 +201,17 @@ allowed_cert rows job e =
     let conflicts = map_some (task.Cert a.0 b.0 pair.0 refuted.0) (conflicts_in rows) job refuted.2 in
     subst IsAllowed conflicts.2 (few rows conflicts.0 conflicts.1)
 
+allowed_inducted : (signals : Bool) (a b : Text) (n : ℕ) → n ≤ 200000 → IsAllowed (inducted_in signals a b n)
+allowed_inducted false a b n h = h
+allowed_inducted true a b n h = h
+
 allowed_induct : (rows : List Row) (job : Task) → induct_in rows ≡ Some job → IsAllowed job
 allowed_induct rows job e =
-    let a = and_then_some (λ x. with_word (codes "b") rows (λ y. option_map (task.Induct x y) (conflicts_in rows))) (first_of (codes "a") rows) job e in
-    let b = and_then_some (λ y. option_map (task.Induct a.0 y) (conflicts_in rows)) (first_of (codes "b") rows) job a.2 in
-    let conflicts = map_some (task.Induct a.0 b.0) (conflicts_in rows) job b.2 in
-    subst IsAllowed conflicts.2 (few rows conflicts.0 conflicts.1)
+    let signals : Bool = is_set (codes "signals") rows in
+    let a = and_then_some (λ x. with_word (codes "b") rows (λ y. option_map (inducted_in signals x y) (conflicts_in rows))) (first_of (codes "a") rows) job e in
+    let b = and_then_some (λ y. option_map (inducted_in signals a.0 y) (conflicts_in rows)) (first_of (codes "b") rows) job a.2 in
+    let conflicts = map_some (inducted_in signals a.0 b.0) (conflicts_in rows) job b.2 in
+    subst IsAllowed conflicts.2 (allowed_inducted signals a.0 b.0 conflicts.0 (few rows conflicts.0 conflicts.1))
 
 -- the tasks of the subcommands behind the seventh, the sixth, the fifth, the fourth, the third, the second and the first
 abbrev certs : List ℕ → List Row → Option Task

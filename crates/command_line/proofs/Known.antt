@@ -248,7 +248,7 @@ cert_is words e help known =
     cert_job rows a.0 b.0 p.0 n.0 a.1 b.1 p.1 n.1 n.2 known
 
 induct_own : EachRule (IsOwn (part induct_app.top).rules) (part induct_app.top).rules
-induct_own = ((refl, omega arith), ((refl, omega arith), ((refl, omega arith), ((refl, tt), tt))))
+induct_own = ((refl, omega arith), ((refl, omega arith), ((refl, omega arith), ((refl, omega arith), ((refl, tt), tt)))))
 
 induct_is : IsJob (part induct_app.top)
 induct_is words e help known =

@@ -112,8 +112,13 @@ cert_in rows =
     with_word (codes "a") rows (λ a. with_word (codes "b") rows (λ b. with_word (codes "pair") rows (λ pair.
     option_and_then (λ lrat. option_map (λ conflicts. task.Cert a b pair lrat conflicts) (conflicts_in rows)) (form_in rows))))
 
+-- the induction over both circuits, by ties of signals with `--signals`, and else by blocks of latches
+abbrev pub inducted_in : Bool → Text → Text → ℕ → Task
+inducted_in false a b conflicts = task.Induct a b conflicts
+inducted_in true a b conflicts = task.InductSignals a b conflicts
+
 abbrev pub induct_in : List Row → Option Task
-induct_in rows = with_word (codes "a") rows (λ a. with_word (codes "b") rows (λ b. option_map (λ conflicts. task.Induct a b conflicts) (conflicts_in rows)))
+induct_in rows = with_word (codes "a") rows (λ a. with_word (codes "b") rows (λ b. option_map (inducted_in (is_set (codes "signals") rows) a b) (conflicts_in rows)))
 
 -- the task of a subcommand's matches
 abbrev pub task_in : Text → List Row → Option Task

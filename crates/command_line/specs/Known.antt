@@ -65,6 +65,12 @@ CertIsTaken = AreTaken (codes "cert" ∷ codes "a" ∷ codes "b" ∷ codes "y" �
 abbrev pub InductIsTaken : Type 0
 InductIsTaken = AreTaken (codes "induct" ∷ codes "a" ∷ codes "b" ∷ codes "--conflicts" ∷ codes "7" ∷ [])
 
+-- words with `--signals`, and what they ask for
+abbrev pub SignalsAreTaken : Type 0
+SignalsAreTaken =
+    AreTaken (codes "induct" ∷ codes "a" ∷ codes "b" ∷ codes "--signals" ∷ [])
+    × (job_of (codes "induct" ∷ codes "--signals" ∷ codes "a" ∷ codes "b" ∷ codes "--conflicts" ∷ codes "7" ∷ []) ≡ Some (task.InductSignals (codes "a") (codes "b") 7))
+
 -- words with `--reset`, and what they ask for
 abbrev pub ResetIsTaken : Type 0
 ResetIsTaken =

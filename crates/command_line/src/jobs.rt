@@ -6,7 +6,7 @@ ghost use Rattle.clap.specs.Words.{fault_of, first_of, found_of, rows_of, subcom
 ghost use Rattle.clap.specs.ValueTests.{accepts};
 ghost use Rattle.clap.specs.declared.builder.value_parser.ValueParser.TheVariants as parser;
 ghost use Rattle.command_line.specs.command_words.Command.{sec_app};
-ghost use Rattle.command_line.specs.Jobs.{job_of, task_in, check_in, compared_in, graph_in, sim_in, replay_in, settle_in, gen_in, lrat_in, cert_in, induct_in, form_in, mode_of, mode_in, refuses_reset, is_set, number_of, conflicts_in, settings_in, checked_in, search_in, after_in};
+ghost use Rattle.command_line.specs.Jobs.{job_of, task_in, check_in, compared_in, graph_in, sim_in, replay_in, settle_in, gen_in, lrat_in, cert_in, induct_in, form_in, mode_of, mode_in, refuses_reset, is_set, number_of, conflicts_in, settings_in, checked_in, search_in, after_in, inducted_in};
 
 use crate::command_words::sec_command;
 use crate::task::Task;
@@ -460,7 +460,18 @@ fn induct_in(alloc: Global, matches: &ArgMatches<'_>) -> Result<Option<Task>, No
         return Ok(None);
     };
     let (a, b) = paths_of(alloc, a, b)?;
-    Ok(Some(Task::Induct { a, b, conflicts }))
+    let signals = is_set(matches, "signals");
+    Ok(Some(inducted_in(signals, a, b, conflicts)))
+}
+
+/// The induction over these files, by ties of signals where `--signals` stands.
+fn inducted_in(signals: bool, a: FilePath, b: FilePath, conflicts: u32) -> Task
+    ensures { result ≡ inducted_in signals a b conflicts }
+{
+    if signals {
+        return Task::InductSignals { a, b, conflicts };
+    }
+    Task::Induct { a, b, conflicts }
 }
 
 /// The task of a subcommand's matches.

@@ -89,6 +89,12 @@ pub enum Task {
         b: FilePath,
         conflicts: u32,
     },
+    /// Compare them so by ties of signals, which are equal or complements in every cycle.
+    InductSignals {
+        a: FilePath,
+        b: FilePath,
+        conflicts: u32,
+    },
 }
 
 /// It is let go by one call: an owner isn't taken apart field by field at each way out.
@@ -155,6 +161,11 @@ impl Drop for Task {
                 conflicts: _,
             } => {}
             Task::Induct {
+                a: _,
+                b: _,
+                conflicts: _,
+            } => {}
+            Task::InductSignals {
                 a: _,
                 b: _,
                 conflicts: _,

@@ -19,6 +19,8 @@ use Rattle.job_circuit.proofs.job_replay.CompleteReplays.{replay_complete}
 use Rattle.job_check.proofs.check_meaning.Complete.{check_complete}
 use Rattle.job_check.proofs.check_meaning.Means.{check_means}
 use Rattle.job_settles.proofs.Means.{settles_means, settles_complete}
+use Rattle.job_signals.proofs.Means.{signals_means}
+use Rattle.job_signals.proofs.Complete.{signals_complete}
 use Rattle.sec_jobs.proofs.job_gen.gen_meaning.Means.{gen_means, gen_complete}
 use Rattle.sec_jobs.proofs.job_cert.job_lrat.Means.{lrat_means, lrat_complete}
 use Rattle.sec_jobs.proofs.job_cert.Means.{cert_means}
@@ -48,6 +50,7 @@ means held (Some (task.Cert a b pair lrat conflicts)) before now f proofs name f
 means held (Some (task.Search a b cycles conflicts)) before now f proofs name found w = search_means cycles conflicts (held a) (held b) before now f proofs name found w
 means held (Some (task.After a b s cycles conflicts)) before now f proofs name found w = after_means cycles conflicts (held a) (held b) (held s) before now f proofs name found w
 means held (Some (task.Induct a b conflicts)) before now f proofs name found w = induct_means conflicts (held a) (held b) before now f proofs name found w
+means held (Some (task.InductSignals a b conflicts)) before now f proofs name found w = signals_means (held a) (held b) before now f proofs name found w
 
 -- a run that ends before it has found anything says nothing
 pub memory_means : (held : Held) (job : Option Task) (before now : Option (List ℕ)) (proofs : List Proof) → Means held job before now proofs status.NoMemory
@@ -64,6 +67,7 @@ memory_means held (Some (task.Cert a b pair lrat conflicts)) before now proofs =
 memory_means held (Some (task.Search a b cycles conflicts)) before now proofs = tt
 memory_means held (Some (task.After a b s cycles conflicts)) before now proofs = tt
 memory_means held (Some (task.Induct a b conflicts)) before now proofs = tt
+memory_means held (Some (task.InductSignals a b conflicts)) before now proofs = tt
 
 pub fault_means : (held : Held) (job : Option Task) (before now : Option (List ℕ)) (proofs : List Proof) → Means held job before now proofs status.ReadFault
 fault_means held None before now proofs = tt
@@ -79,6 +83,7 @@ fault_means held (Some (task.Cert a b pair lrat conflicts)) before now proofs = 
 fault_means held (Some (task.Search a b cycles conflicts)) before now proofs = tt
 fault_means held (Some (task.After a b s cycles conflicts)) before now proofs = tt
 fault_means held (Some (task.Induct a b conflicts)) before now proofs = tt
+fault_means held (Some (task.InductSignals a b conflicts)) before now proofs = tt
 
 -- a job that can be done is done, by what is found of it
 is_complete : (held : Held) (job : Option Task) (f : Finding) → IsFinding held job f → IsComplete held job (status_of f)
@@ -95,6 +100,7 @@ is_complete held (Some (task.Cert a b pair lrat conflicts)) f found = cert_compl
 is_complete held (Some (task.Search a b cycles conflicts)) f found = search_complete cycles conflicts (held a) (held b) f found
 is_complete held (Some (task.After a b s cycles conflicts)) f found = after_complete cycles conflicts (held a) (held b) (held s) f found
 is_complete held (Some (task.Induct a b conflicts)) f found = induct_complete conflicts (held a) (held b) f found
+is_complete held (Some (task.InductSignals a b conflicts)) f found = signals_complete (held a) (held b) f found
 
 -- so is one that ends at want of memory
 pub memory_is_complete : (held : Held) (job : Option Task) → IsComplete held job status.NoMemory
@@ -111,6 +117,7 @@ memory_is_complete held (Some (task.Cert a b pair lrat conflicts)) = memory_cert
 memory_is_complete held (Some (task.Search a b cycles conflicts)) = λ can. tt
 memory_is_complete held (Some (task.After a b s cycles conflicts)) = λ can. tt
 memory_is_complete held (Some (task.Induct a b conflicts)) = λ can. tt
+memory_is_complete held (Some (task.InductSignals a b conflicts)) = λ can. tt
 
 -- so a run is complete that ends with a finding, or at want of memory
 pub written_is_complete : (held : Held) (job : Option Task) (before now : Option (List ℕ)) (f : Finding) (proofs : List Proof) (name : StatusName) →

@@ -19,6 +19,7 @@ use job_check::{Comparison, check};
 use job_circuit::job_replay::{Replay, ReplayReport, replay_files};
 use job_circuit::{Simulation, simulate, tell_graph};
 use job_settles::check_settles;
+use job_signals::{SignalComparison, compare_by_signals};
 use sec_base::{FilePath, Shelf, Sink, Word};
 use sec_jobs::job_cert::job_lrat::{Refutation, check_refutation};
 use sec_jobs::job_cert::{Certification, Wanted, certify};
@@ -184,6 +185,14 @@ fn find<S: Shelf>(alloc: Global, task: &Task, shelf: &mut S) -> Result<Finding, 
                 conflicts: *conflicts,
             };
             compare_by_blocks(alloc, &comparison, shelf)
+        }
+        Task::InductSignals { a, b, conflicts } => {
+            let comparison = SignalComparison {
+                left: a.as_str(),
+                right: b.as_str(),
+                conflicts: *conflicts,
+            };
+            compare_by_signals(alloc, &comparison, shelf)
         }
     }
 }

@@ -41,7 +41,7 @@ enum Subcommand {
     Lrat,
     /// Two circuits, the name of outputs, and the form of their certificate.
     Cert,
-    /// Two circuits that are compared from their initial values by blocks of latches.
+    /// Two circuits that are compared from their initial values by blocks of latches, or by ties of signals.
     Induct,
 }
 
@@ -121,7 +121,12 @@ fn words_of<'a>(which: Subcommand) -> (&'a str, &'a [Word<'a>])
         ),
         Subcommand::Induct => (
             "induct",
-            &[Word::Place("a"), Word::Place("b"), Word::Conflicts],
+            &[
+                Word::Place("a"),
+                Word::Place("b"),
+                Word::Conflicts,
+                Word::Flag("signals"),
+            ],
         ),
     }
 }
