@@ -1,0 +1,3 @@
+pub mod OneGraph
+pub mod Clauses
+pub mod Fitting
