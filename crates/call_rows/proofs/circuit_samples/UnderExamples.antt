@@ -167,7 +167,7 @@ met = record { numbered = numbered; reads = reads; equal = λ p q pair. equal p 
       right_tree = Branch first_cover (Cons (Leaf 1 0) (Cons (Leaf 0 0) Nil));
       left_unfolds = (0, Unfolds.gate {fanins = 1 ∷ 0 ∷ []} (1, omega arith, refl) (UnfoldsAll.more (Unfolds.input (inr (inl (refl, refl)))) (UnfoldsAll.more (Unfolds.input (inl (refl, refl))) UnfoldsAll.none)));
       right_unfolds = (0, Unfolds.gate {fanins = 1 ∷ 0 ∷ []} (1, omega arith, refl) (UnfoldsAll.more (Unfolds.input (inr (inl (refl, refl)))) (UnfoldsAll.more (Unfolds.input (inl (refl, refl))) UnfoldsAll.none)));
-      same = λ x care. and_bit (x 1 0) (x 0 0) (meets_row (λ i. x i 0) (care.1 0 (_, 0, Contains-head (Branch and_cover (Cons (Leaf 1 0) (Cons (Leaf 0 0) Nil))) _, HasLeaf.inside (HasLeafIn.later (HasLeafIn.first HasLeaf.leaf)))));
+      same = λ x care. and_bit (x 1 0) (x 0 0) (meets_row (λ i. x i 0) (care.1 0 (Branch and_cover (Cons (Leaf 1 0) (Cons (Leaf 0 0) Nil)), 0, Contains-head (Branch and_cover (Cons (Leaf 1 0) (Cons (Leaf 0 0) Nil))) (Branch first_cover (Cons (Leaf 1 0) (Cons (Leaf 0 0) Nil)) ∷ []), HasLeaf.inside (HasLeafIn.later (HasLeafIn.first HasLeaf.leaf)))));
     }
 
     q_equal : Equal 2 2
