@@ -46,15 +46,15 @@ module _ (a b : NetView) (request : Request) where
   fits_printed left right text l r h = go request.refuted h.made
     where
       go : (t : Bool) → IsMadeBy t request.conflicts h.cnf (finding.Done text) → FitsPrinted t left right request.pair text
-      go true m x y c d printed is also lc ld tells =
-          let same = text_one_encoding x y request.pair a b c d h.cnf tells.cnf (if_told left (λ t. Loads t a) x is l) (if_told right (λ t. Loads t b) y also r) lc ld h.clauses tells.clauses in
+      go true m = λ x y c d printed is also lc ld tells.
+          (let same = text_one_encoding x y request.pair a b c d h.cnf tells.cnf (if_told left (λ t. Loads t a) x is l) (if_told right (λ t. Loads t b) y also r) lc ld h.clauses tells.clauses in
           let one : formula_for h.cnf ≡ formula_for tells.cnf = ap₂ (λ (n : ℕ) (cs : List (List Literal)). record { variables = n; clauses = cs }) same.variables same.clauses in
           record {
             formula = formula_for tells.cnf;
             spells = tells.spells.1;
             line = m.accepted.0;
             accepted = subst (λ (f : Formula). IsTextVerdict f text (Accepted m.accepted.0)) one m.accepted.1;
-          }
+          })
       go false m = tt
 
   told_met : (cnf : Cnf) (t : Bool) → request.refuted ≡ t → IsMadeBy t request.conflicts cnf (finding.Unrefuted unrefuted.Satisfiable) → (request.refuted ≡ true) × CanBeMet cnf.clauses
