@@ -1,5 +1,5 @@
 -- What is shown of the nets that begin with 0 is shown of the nets, which are set back.
-use Rattle.std.proofs.Common.{◌≡◌, ◌∙◌, length, sym, ap, subst}
+use Rattle.std.proofs.Common.{◌∙◌, length, sym, ap, subst}
 use Rattle.flat_net.specs.Comparable.{IsComparable}
 use Rattle.flat_net.specs.View.{NetView}
 use Rattle.restart.proofs.Again.{begun_comparable}
