@@ -3,3 +3,4 @@ pub mod Searched
 pub mod Lifted
 pub mod Means
 pub mod Complete
+pub mod Zeros

@@ -1,14 +1,14 @@
 //! Two nets searched for a difference behind the rows of a stimulus.
 
-ghost use Rattle.std.specs.Prelude.{◌≡◌, ◌≤◌, ◌++◌, IfOk, IfSome, OnOk, option_to_list};
+ghost use Rattle.std.specs.Prelude.{◌≡◌, ◌≤◌, ◌++◌, IfOk, OnOk, option_to_list};
 ghost use Rattle.flat_net.specs.Comparable.{IsComparable};
-ghost use Rattle.restart.specs.Sequence.{IsShownBehind};
 ghost use Rattle.job_after.specs.Ends.{FitsAfter, IsJudgedBy, after_end};
 ghost use Rattle.job_after.specs.Judged.{judgement_of, proofs_of};
 
 use crate::after_report::{After, report};
 use crate::fault::AfterFault;
 use crate::known::begin;
+use crate::shown::{Start, shown_of};
 use base_tables::NameTable;
 use circuit_report::sim_report::Misfit;
 use cycle_search::{SearchVerdict, Searched, search_cycles};
@@ -17,8 +17,7 @@ use job_base::{Finding, Judgement, Proofs, Refusal, Stop};
 use job_circuit::replay::ReplayError;
 use job_circuit::replay::replay_header::opened_by;
 use obligations::PairResults;
-use obligations::outcome::{PairName, PairResult, Witness};
-use restart::shown_behind;
+use obligations::outcome::{PairResult, Witness};
 use sec_base::{MAX_CONFLICTS, NoMemory, Text};
 use sec_setup::ports::name_tables::{table_of_names, word_of};
 use std::alloc::Global;
@@ -51,7 +50,15 @@ pub(crate) fn judge_after(
     let left = begin(alloc, &mut a, &header, &stimulus.rows)?;
     let right = begin(alloc, &mut b, &header, &stimulus.rows)?;
     let searched = search_cycles(alloc, &a, &b, cycles, conflicts)?;
-    let shown = shown_of(alloc, &a, &b, &header, stimulus, &searched)?;
+    let start = Start {
+        header: &header,
+        stimulus,
+        left: &left,
+        right: &right,
+        cycles,
+        conflicts,
+    };
+    let shown = shown_of(alloc, &mut a, &mut b, &start, &searched)?;
     let after = After {
         rows: stimulus.rows.len() as u64,
         left: &left,
@@ -77,30 +84,6 @@ fn match_header(alloc: Global, a: &Net, b: &Net, header: &NameTable) -> Result<(
         return Err(ReplayError::Unknown(word_of(alloc, opened.name(0))?));
     }
     Ok(())
-}
-
-/// The difference that is shown behind the rows, if one is.
-fn shown_of(
-    alloc: Global,
-    a: &Net,
-    b: &Net,
-    header: &NameTable,
-    stimulus: &Stimulus,
-    searched: &Searched,
-) -> Result<Option<Witness>, NoMemory>
-    requires { header.now ≡ stimulus.now.names }
-    ensures { IfOk result (λ shown. IfSome shown (IsShownBehind a.now b.now stimulus.now.names stimulus.now.rows)) }
-{
-    match &searched.verdict {
-        SearchVerdict::Different(found) => match &found.witness.pair {
-            PairName::Output(name) => {
-                let (rows, sequence) = (stimulus.rows.as_slice(), &found.witness.stimulus);
-                shown_behind(alloc, a, b, header, rows, name, sequence)
-            }
-            PairName::Next(_) => Ok(None),
-        },
-        _ => Ok(None),
-    }
 }
 
 fn judgement_of(verdict: &SearchVerdict, shown: &Option<Witness>) -> Judgement

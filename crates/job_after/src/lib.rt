@@ -6,5 +6,6 @@ mod comparison;
 mod fault;
 mod judging;
 mod known;
+mod shown;
 
 pub use comparison::{AfterComparison, compare_after};

@@ -2,11 +2,13 @@
 use Rattle.std.proofs.Common.{◌≡◌, ◌∙◌, ℕ, List, Bool, length, sym, ap, subst, Option, Err}
 use Rattle.flat_net.specs.Comparable.{IsComparable}
 use Rattle.flat_net.specs.View.{NetView}
+use Rattle.restart.specs.Behind.{begun}
 use Rattle.restart.proofs.Again.{begun_comparable}
 use Rattle.restart.proofs.Starting.{begun_long}
 use Rattle.job_after.specs.Judged.{Behind, IsBegun, IsBehind}
 use Rattle.job_after.specs.Report.{after_text}
 use Rattle.job_after.specs.Ends.{FitsAfter, header_fault, search_fault}
+use Rattle.job_after.proofs.Zeros.{stays}
 use Rattle.job_after.proofs.Searched.{refused_by, unfit, refused, judged_by}
 use Rattle.job_after.proofs.judging.judge_after.Goals as goal
 
@@ -24,11 +26,33 @@ search_cycles-requires-clause-left c = comparable c.args.a _ _ _ c.begin.new.net
 pub search_cycles-requires-clause-right : goal.search_cycles-requires-clause-right
 search_cycles-requires-clause-right c = comparable c.args.b _ _ _ c.begin-2.new.net c.in_ok-right.ensures c.requires.right
 
+pub shown_of-requires-clause-left : goal.shown_of-requires-clause-left
+shown_of-requires-clause-left c = comparable c.args.a _ _ _ c.begin.new.net c.in_ok-left.ensures c.requires.left
+
+pub shown_of-requires-clause-right : goal.shown_of-requires-clause-right
+shown_of-requires-clause-right c = comparable c.args.b _ _ _ c.begin-2.new.net c.in_ok-right.ensures c.requires.right
+
+pub shown_of-requires-clause-left_known : goal.shown_of-requires-clause-left_known
+shown_of-requires-clause-left_known c = ap (λ (known : List (Option Bool)). length known) c.deref.ensures.value ∙ long c.args.a _ _ c.in_ok-left.left.items c.begin.new.net c.in_ok-left.ensures
+
+pub shown_of-requires-clause-right_known : goal.shown_of-requires-clause-right_known
+shown_of-requires-clause-right_known c = ap (λ (known : List (Option Bool)). length known) c.deref-2.ensures.value ∙ long c.args.b _ _ c.in_ok-right.right.items c.begin-2.new.net c.in_ok-right.ensures
+
+pub shown_of-requires-clause-left_begun : goal.shown_of-requires-clause-left_begun
+shown_of-requires-clause-left_begun c = ap (λ (known : List (Option Bool)). begun c.begin.new.net known) c.deref.ensures.value ∙ stays c.args.a _ _ c.in_ok-left.left.items c.begin.new.net c.in_ok-left.ensures
+
+pub shown_of-requires-clause-right_begun : goal.shown_of-requires-clause-right_begun
+shown_of-requires-clause-right_begun c = ap (λ (known : List (Option Bool)). begun c.begin-2.new.net known) c.deref-2.ensures.value ∙ stays c.args.b _ _ c.in_ok-right.right.items c.begin-2.new.net c.in_ok-right.ensures
+
 pub report-requires-clause-left : goal.report-requires-clause-left
-report-requires-clause-left c = ap (λ (known : List (Option Bool)). length known) c.deref.ensures.value ∙ long c.args.a _ _ c.in_ok-left.left.items c.begin.new.net c.in_ok-left.ensures
+report-requires-clause-left c =
+    ap (λ (known : List (Option Bool)). length known) c.deref-3.ensures.value
+    ∙ (long c.args.a _ _ c.in_ok-left.left.items c.begin.new.net c.in_ok-left.ensures ∙ ap (λ (n : NetView). length n.latches) (sym c.in_ok-shown.ensures.same.0))
 
 pub report-requires-clause-right : goal.report-requires-clause-right
-report-requires-clause-right c = ap (λ (known : List (Option Bool)). length known) c.deref-2.ensures.value ∙ long c.args.b _ _ c.in_ok-right.right.items c.begin-2.new.net c.in_ok-right.ensures
+report-requires-clause-right c =
+    ap (λ (known : List (Option Bool)). length known) c.deref-4.ensures.value
+    ∙ (long c.args.b _ _ c.in_ok-right.right.items c.begin-2.new.net c.in_ok-right.ensures ∙ ap (λ (n : NetView). length n.latches) (sym c.in_ok-shown.ensures.same.1))
 
 pub returns-in_err-match_header : goal.returns-in_err-match_header
 returns-in_err-match_header c =
@@ -69,6 +93,6 @@ returns c =
       searched = c.in_ok-searched.ensures;
     } in
     let told = c.in_ok-text.ensures in
-    let written : c.in_ok-text.text ≡ after_text l r c.args.cycles c.args.conflicts (length s.rows) left right shown made = cc (told, c.len.ensures, c.deref.ensures.value, c.deref-2.ensures.value) in
+    let written : c.in_ok-text.text ≡ after_text l r c.args.cycles c.args.conflicts (length s.rows) left right shown made = cc (told, c.len.ensures, c.deref-3.ensures.value, c.deref-4.ensures.value, c.in_ok-shown.ensures.same.0, c.in_ok-shown.ensures.same.1) in
     judged_by a b s.names s.rows c.args.cycles c.args.conflicts s.fit h is c.requires.right.distinct c.judgement_of-judgement.result c.in_ok-proofs.proofs c.in_ok-text.text
-    c.in_ok-shown.ensures c.judgement_of-judgement.ensures c.in_ok-proofs.ensures written
+    c.in_ok-shown.ensures.shown c.judgement_of-judgement.ensures c.in_ok-proofs.ensures written
