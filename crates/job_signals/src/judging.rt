@@ -93,12 +93,7 @@ fn mismatch_of(error: SetupError) -> JudgeError
 }
 
 /// What is told of what was made.
-fn judged_of(
-    alloc: Global,
-    a: &Net,
-    b: &Net,
-    made: &SignalInduction,
-) -> Result<Judged, NoMemory>
+fn judged_of(alloc: Global, a: &Net, b: &Net, made: &SignalInduction) -> Result<Judged, NoMemory>
     ensures judgement { IfOk result (λ j. j.judgement ≡ judgement_of (first_apart made.now.pairs)) }
     ensures text { IfOk result (λ j. j.text ≡ signals_text a.now b.now made.now) }
 {
@@ -117,10 +112,7 @@ fn judgement_of(pairs: &[TiedPair]) -> Judgement
 }
 
 /// What is found by the judgement, or by its refusal. No query's limit is told, so there are no proofs.
-pub(crate) fn judged_end(
-    alloc: Global,
-    judged: Result<Judged, JudgeError>,
-) -> Result<Finding, Stop>
+pub(crate) fn judged_end(alloc: Global, judged: Result<Judged, JudgeError>) -> Result<Finding, Stop>
     ensures { result ≡ judged_end judged }
 {
     match judged {

@@ -76,13 +76,7 @@ fn narrowed(aig: &mut Aig, care: Lit, l: Lit, r: Lit) -> Result<Lit, NoMemory>
 }
 
 /// Whether the two literals are one wherever the care holds.
-fn ask(
-    alloc: Global,
-    aig: &mut Aig,
-    asked: &Asked<'_>,
-    l: Lit,
-    r: Lit,
-) -> Result<Proved, NoMemory>
+fn ask(alloc: Global, aig: &mut Aig, asked: &Asked<'_>, l: Lit, r: Lit) -> Result<Proved, NoMemory>
     requires care { asked.now.care.0 < 2 * length aig.old }
     requires left { l.0 < 2 * length aig.old }
     requires right { r.0 < 2 * length aig.old }

@@ -5,8 +5,8 @@ use base_tables::PlaceTable;
 use sec_base::{Ids, NoMemory};
 use signal_laws::Anchor;
 use std::alloc::Global;
-use swept_queries::node_agreement::Proved;
 use sweep_candidates::Model;
+use swept_queries::node_agreement::Proved;
 
 /// The class of the constant 0, and behind it that of each signal by its place. A signal whose phase is set has its complement there.
 #[derive(Drop)]

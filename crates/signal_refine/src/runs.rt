@@ -136,12 +136,7 @@ fn carried(
 }
 
 /// The words of what the latch at the place takes over; 0 for other signals.
-fn next_words(
-    nets: &SignalNets<'_>,
-    table: &SignatureTable,
-    lits: &[Lit],
-    place: usize,
-) -> [u64; 8]
+fn next_words(nets: &SignalNets<'_>, table: &SignatureTable, lits: &[Lit], place: usize) -> [u64; 8]
     requires place { place < places_of nets.now }
     requires lits { All (λ x. x.0 < 2 * length table.now) lits.now }
 {

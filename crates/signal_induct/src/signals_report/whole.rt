@@ -16,12 +16,7 @@ use std::alloc::Global;
 /// The report: how many signals both circuits have, how many of them are tied to no other, and how many are; a line for each latch that
 /// is tied, with what it is tied to; a line for each output; how many ties were dropped since a query met the limit; and the verdict. Each
 /// line ends with a line feed; numbers are decimal, and names stand byte for byte.
-pub fn report(
-    alloc: Global,
-    a: &Net,
-    b: &Net,
-    made: &SignalInduction,
-) -> Result<Text, NoMemory>
+pub fn report(alloc: Global, a: &Net, b: &Net, made: &SignalInduction) -> Result<Text, NoMemory>
     ensures { IfOk result (λ text. text ≡ signals_text a.now b.now made.now) }
 {
     let anchors = &made.ties.anchors;

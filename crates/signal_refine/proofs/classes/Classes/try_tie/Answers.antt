@@ -13,6 +13,8 @@ pub returns-in-Same-clause-shown : goal.returns-in-Same-clause-shown
 returns-in-Same-clause-shown c = λ yes a on.
     let g = c.args.aig.now in
     let lits = c.args.asked.now.lits.now in
-    let own = get_or lits c.args.place (record { 0 = 0 }) in
-    (own, slice_get-get_or lits c.args.place (record { 0 = 0 }) (omega (arith, c.if-place-asked.false)),
-    subst (AnchorHas g a lits c.args.anchor) (sym (c.in_ok-answer.ensures.same c.in-Same.is a on)) (c.in-Some.ensures.has g a c.keeps.ensures.graph))
+    let own = get_or lits c.args.place (record { 0 = 0 }) in (
+      own,
+      slice_get-get_or lits c.args.place (record { 0 = 0 }) (omega (arith, c.if-place-asked.false)),
+      subst (AnchorHas g a lits c.args.anchor) (sym (c.in_ok-answer.ensures.same c.in-Same.is a on)) (c.in-Some.ensures.has g a c.keeps.ensures.graph),
+    )
