@@ -53,6 +53,7 @@ leaf_is x i k HasLeaf.leaf = refl
 of_and : (x : Variable ℕ) (cover : Cover) → HasLeaf x (and_tree cover) → Contains both_now x
 of_and x cover (HasLeaf.inside (HasLeafIn.first h)) = subst (Contains both_now) (sym (leaf_is x 0 0 h)) (Contains-head a_now (b_now ∷ []))
 of_and x cover (HasLeaf.inside (HasLeafIn.later (HasLeafIn.first h))) = subst (Contains both_now) (sym (leaf_is x 1 0 h)) (Contains-tail a_now b_now (b_now ∷ []) (Contains-head b_now []))
+of_and x cover (HasLeaf.inside (HasLeafIn.later (HasLeafIn.later h))) = elim h [ ]
 
 read_by_trees : (x : Variable ℕ) (tree : Tree ℕ) → Contains trees tree → HasLeaf x tree → Contains both_now x
 read_by_trees x tree h leaf = by (Contains-cases (and_tree on_cover) tree (and_tree off_cover ∷ []) h)
@@ -101,9 +102,8 @@ on_made = (
   (
     and_nodes,
     6,
-    (and_nodes, 6, 7, (inputs_alone, 2, (refl, refl), and_nodes, 6, (inr (new_and, refl), 3, refl, refl), refl, refl), (refl, refl), refl),
-    refl,
-    refl,
+    (and_nodes, 6, 7, (inputs_alone, 2, (refl, refl), (and_nodes, 6, (inr (new_and, refl), (3, refl, refl)), (refl, refl))), (refl, refl), refl),
+    (refl, refl),
   ),
   refl,
 )
@@ -116,13 +116,12 @@ off_made = (
   (
     and_nodes,
     3,
-    (and_nodes, 3, 2, (and_nodes, 3, (refl, refl), and_nodes, 3, (refl, refl), refl, refl), (refl, refl), refl),
+    (and_nodes, 3, 2, (and_nodes, 3, (refl, refl), (and_nodes, 3, (refl, refl), (refl, refl))), (refl, refl), refl),
     (
       and_nodes,
       7,
-      (and_nodes, 5, 6, (and_nodes, 1, (refl, refl), and_nodes, 5, (refl, refl), refl, refl), (inl ((3, omega arith, refl), refl), 3, refl, refl), refl),
-      refl,
-      refl,
+      (and_nodes, 5, 6, (and_nodes, 1, (refl, refl), (and_nodes, 5, (refl, refl), (refl, refl))), (inl ((3, omega arith, refl), refl), (3, refl, refl)), refl),
+      (refl, refl),
     ),
   ),
   refl,
@@ -137,8 +136,8 @@ on_tree_made = (
     inputs_alone,
     2,
     4 ∷ [],
-    (inputs_alone, 4, [], (refl, refl), (1, refl, inl ((2, omega arith, refl), refl), 2, refl, refl), refl),
-    (0, refl, inl ((1, omega arith, refl), refl), 1, refl, refl),
+    (inputs_alone, 4, [], (refl, refl), (1, refl, inl ((2, omega arith, refl), refl), (2, refl, refl)), refl),
+    (0, refl, inl ((1, omega arith, refl), refl), (1, refl, refl)),
     refl,
   ),
   on_made,
@@ -152,8 +151,8 @@ off_tree_made = (
     and_nodes,
     2,
     4 ∷ [],
-    (and_nodes, 4, [], (refl, refl), (1, refl, inl ((2, omega arith, refl), refl), 2, refl, refl), refl),
-    (0, refl, inl ((1, omega arith, refl), refl), 1, refl, refl),
+    (and_nodes, 4, [], (refl, refl), (1, refl, inl ((2, omega arith, refl), refl), (2, refl, refl)), refl),
+    (0, refl, inl ((1, omega arith, refl), refl), (1, refl, refl)),
     refl,
   ),
   off_made,

@@ -72,23 +72,43 @@ one = record { to = exchanged; back = exchanged; circuits = circuits; within = �
 abbrev own_names : List (List ℕ)
 own_names = codes "a" ∷ codes "b" ∷ codes "c" ∷ []
 
+-- names with other first letters are two
+abbrev first_letter : List ℕ → ℕ
+first_letter [] = 0
+first_letter (x ∷ xs) = x
+
+same_letter : (m n : List ℕ) → Some m ≡ Some n → first_letter m ≡ first_letter n
+same_letter m n h = ap first_letter (same_Some m n h)
+
+b_isnt_a : Some (codes "b") ≡ Some (codes "a") → ⊥
+b_isnt_a h = let e : 98 ≡ 97 = same_letter (codes "b") (codes "a") h in omega (arith, e)
+
+a_isnt_b : Some (codes "a") ≡ Some (codes "b") → ⊥
+a_isnt_b h = let e : 97 ≡ 98 = same_letter (codes "a") (codes "b") h in omega (arith, e)
+
+a_isnt_c : Some (codes "a") ≡ Some (codes "c") → ⊥
+a_isnt_c h = let e : 97 ≡ 99 = same_letter (codes "a") (codes "c") h in omega (arith, e)
+
+b_isnt_c : Some (codes "b") ≡ Some (codes "c") → ⊥
+b_isnt_c h = let e : 98 ≡ 99 = same_letter (codes "b") (codes "c") h in omega (arith, e)
+
 module _ (number : ℕ) where
   abbrev Common : ℕ → List ℕ → Type 0
   Common k name = (i : ℕ) → slice_get read_names i ≡ Some name → slice_get (0 ∷ 1 ∷ number ∷ []) k ≡ Some i
 
   common_a : Common 0 (codes "a")
   common_a zero h = refl
-  common_a (suc zero) h = absurd (cc)
+  common_a (suc zero) h = absurd (b_isnt_a h)
   common_a (suc (suc i)) h = absurd (none-some (codes "a") h)
 
   common_b : Common 1 (codes "b")
-  common_b zero h = absurd (cc)
+  common_b zero h = absurd (a_isnt_b h)
   common_b (suc zero) h = refl
   common_b (suc (suc i)) h = absurd (none-some (codes "b") h)
 
   common_c : Common 2 (codes "c")
-  common_c zero h = absurd (cc)
-  common_c (suc zero) h = absurd (cc)
+  common_c zero h = absurd (a_isnt_c h)
+  common_c (suc zero) h = absurd (b_isnt_c h)
   common_c (suc (suc i)) h = absurd (none-some (codes "c") h)
 
   abbrev LeftOut : ℕ → List ℕ → Type 0
