@@ -134,6 +134,79 @@ first_difference() {
   esac
 }
 
+# A file with one output alone: one_output NAME FROM TO
+one_output() {
+  NAME=$1 awk '
+    $1 == ".outputs" || more { if (!told++) print ".outputs " ENVIRON["NAME"]; more = $NF == "\\"; next }
+    { print }' "$2" > "$3" || exit 73
+}
+
+# Behind a search that ended at flip-flops of which a reset says nothing, or at a limit, tries whether an output is known in both designs and differs: where
+# the circuit of what is known shows one, the search over the rows before that, with this output alone, shows it of the designs. Sets `found` and `told` as
+# that does: known_difference ROWS_OF_RESET HELD
+known_difference() {
+  local rails=$scratch/rails guess at name
+  awk -v old="$a" -v resets="$scratch/resets" -v columns="$scratch/columns" -v held="$2" -v head="$rails.head" -v body="$rails.body" -v none="$rails.none" \
+    -f "$parts/rails.awk" "$scratch/resets" "$scratch/columns" "$a" "$b" || exit 73
+  [ -s "$rails.none" ] || return 0
+  { cat "$rails.head" "$rails.body" && echo .end; } > "$rails.blif" || exit 73
+  { cat "$rails.head" "$rails.none" && echo .end; } > "$rails.0.blif" || exit 73
+  cycles=$((cycles + $2 > 1000 ? 1000 : cycles + $2)) search guess "$rails.blif" "$rails.0.blif"
+  [ "$told" -eq 1 ] || return 0
+  guess=$found
+  name=$(sed -n 's/^verdict different differs:\(.*\) cycle .*/\1/p' "$guess")
+  at=$(sed -n 's/^verdict different .* cycle \([0-9]*\) values .*/\1/p' "$guess")
+  # The difference may come while the reset is held.
+  {
+    head -n $((at > 0 && at < $2 ? at + 1 : $2 + 1)) "$1"
+    sed '1,/^verdict/d' "$guess" | awk -v held="$2" -v last="$at" 'NR > held + 1 && NR <= last + 1'
+  } > "$scratch/rows.$number"
+  one_output "$name" "$a" "$scratch/one.old.blif"
+  one_output "$name" "$b" "$scratch/one.new.blif"
+  cycles=0 search known "$scratch/one.old.blif" "$scratch/one.new.blif" --after "$scratch/rows.$number"
+}
+
+# Where it isn't decided from any power-up, and inputs reset the designs: a difference in the first cycles behind a reset is the answer. Sets
+# `behind` to what was found. What is known behind the rows of a reset is so whatever the flip-flops held before.
+behind_a_reset() {
+  local found told before held=8 it unknown=''
+  case "$is_given,$status, ${check[*]} " in
+    yes,* | *' --assume'*) return 0 ;;
+    ,[239],*) ;;
+    *) return 0 ;;
+  esac
+  inputs > "$scratch/columns"
+  resets_of > "$scratch/resets"
+  [ -s "$scratch/resets" ] || return 0
+  held_rows "$held" > "$scratch/reset.$number"
+  search behind "$a" "$b" --after "$scratch/reset.$number"
+  if [ "$told" -eq 2 ] && [ -z "$(searched)" ]; then
+    unknown=$(awk '$1 == "unknown" { count += $3 } END { print count + 0 }' "$found")
+  fi
+  case $told,$unknown in
+    2,?* | 3,* | 124,*)
+      before=$told
+      known_difference "$scratch/reset.$number" "$held"
+      [ "$told" -eq 1 ] || told=$before
+      ;;
+  esac
+  it="behind $held cycles with $(resets_told)"
+  case $told in
+    1)
+      report=$found status=1 exposed=''
+      behind="; different $it, by check --reset --cycles $cycles --after"
+      ;;
+    0 | 2)
+      if [ -n "$unknown" ]; then
+        behind="; $it not shown either, since $unknown flip-flops stay unknown"
+      else
+        behind="; no difference within $(searched) cycles $it"
+      fi
+      ;;
+    3 | 124) behind="; nothing decided $it" ;;
+  esac
+}
+
 # Asks from the initial values of two files, and sets `way` too. By induct no inputs are assumed, so an answer of equal says more. With
 # --cycles a given number of cycles is asked about, with feedback too.
 from_initial_values() {
