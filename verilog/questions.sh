@@ -119,14 +119,29 @@ search() {
   sec_to "$found" check "$2" "$3" "${words[@]}" --reset --cycles "$cycles" "${@:4}" || told=$?
 }
 
+# Whether ties of signals show two files equal, for 30 seconds at most; sets `found` to the report and `told` to the status:
+# tied NAME OLD NEW WORDS..
+tied() {
+  local words=() bound=()
+  mapfile -t words < <(valued --conflicts)
+  ! command -v timeout >/dev/null || bound=(timeout 30)
+  found=$scratch/$1.$number told=0
+  sec_to "$found" induct "$2" "$3" "${words[@]}" --signals "${@:4}" || told=$?
+}
+
 # In how many cycles a search found no difference.
 searched() {
   sed -n 's/^verdict not-shown cycles \([0-9]*\)$/\1/p' "$found"
 }
 
-# Behind a not-shown from the initial values of two files: a difference in the first cycles is the answer.
-first_difference() {
+# Behind a not-shown from the initial values of two files: ties of signals that show them equal, or a difference in the first cycles, is the answer.
+by_signals_or_search() {
   local found told
+  tied signals "$1" "$2"
+  if [ "$told" -eq 0 ]; then
+    report=$found status=0 way='induct --signals'
+    return
+  fi
   search cycles "$1" "$2"
   case $told in
     1) report=$found status=1 way="check --reset --cycles $cycles" ;;
@@ -166,8 +181,9 @@ known_difference() {
   cycles=0 search known "$scratch/one.old.blif" "$scratch/one.new.blif" --after "$scratch/rows.$number"
 }
 
-# Where it isn't decided from any power-up, and inputs reset the designs: a difference in the first cycles behind a reset is the answer. Sets
-# `behind` to what was found. What is known behind the rows of a reset is so whatever the flip-flops held before.
+# Where it isn't decided from any power-up, and inputs reset the designs: that ties of signals show them equal behind a reset is the answer, or
+# else a difference in the first cycles there. Sets `behind` to what was found. What is known behind the rows of a reset is so whatever the
+# flip-flops held before.
 behind_a_reset() {
   local found told before held=8 it unknown=''
   case "$is_given,$status, ${check[*]} " in
@@ -179,6 +195,13 @@ behind_a_reset() {
   resets_of > "$scratch/resets"
   [ -s "$scratch/resets" ] || return 0
   held_rows "$held" > "$scratch/reset.$number"
+  it="behind $held cycles with $(resets_told)"
+  tied signals "$a" "$b" --after "$scratch/reset.$number"
+  if [ "$told" -eq 0 ]; then
+    report=$found status=0 exposed=''
+    behind="; equal $it, by induct --signals --after"
+    return
+  fi
   search behind "$a" "$b" --after "$scratch/reset.$number"
   if [ "$told" -eq 2 ] && [ -z "$(searched)" ]; then
     unknown=$(awk '$1 == "unknown" { count += $3 } END { print count + 0 }' "$found")
@@ -190,7 +213,6 @@ behind_a_reset() {
       [ "$told" -eq 1 ] || told=$before
       ;;
   esac
-  it="behind $held cycles with $(resets_told)"
   case $told in
     1)
       report=$found status=1 exposed=''
@@ -217,7 +239,7 @@ from_initial_values() {
     way=induct
     mapfile -t words < <(valued --conflicts)
     sec_to "$report" induct "$1" "$2" "${words[@]}" || status=$?
-    [ "$status" -ne 2 ] || first_difference "$1" "$2"
+    [ "$status" -ne 2 ] || by_signals_or_search "$1" "$2"
   else
     way='check --reset'
     mapfile -t words < <(valued --conflicts --assume)
