@@ -141,6 +141,7 @@ unfolds =
     (UnfoldsAll.more (Unfolds.gate {fanins = 1 ∷ []} {cover = not_cover} (1, omega arith, refl) (UnfoldsAll.more (Unfolds.input (inr (inl (refl, refl)))) UnfoldsAll.none)) UnfoldsAll.none))
 
 pub nets_have_one_tree : HaveOneTree
+unfolding one
 nets_have_one_tree = record {
   one = one;
   left = left;
