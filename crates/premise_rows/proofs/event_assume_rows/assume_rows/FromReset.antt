@@ -7,8 +7,7 @@ use Rattle.std.proofs.lemmas.Nat.{mul-le}
 use Rattle.std.proofs.lemmas.Option.{slice_get_within}
 use Rattle.circuit_theory.specs.Interface.{Ports, shared_inputs}
 use Rattle.circuit_theory.specs.Query.{HasLeaf}
-use Rattle.circuit_theory.specs.Tree.{Tree}
-use Rattle.circuit_theory.proofs.Lists.{Contains-cases, Contains-head, Contains-tail, only, at_of, length-map}
+use Rattle.circuit_theory.proofs.Lists.{Contains-head, Contains-tail, at_of, length-map}
 use Rattle.circuit_laws.specs.reset_laws.Weight.{ResetVisits}
 use Rattle.circuit_laws.proofs.Counting.{fewer}
 use Rattle.flat_net.specs.declared.parts.Port.{Port}
@@ -66,17 +65,11 @@ few_sum (suc n) m (ks ∷ each) few h =
 
 -- what is read in a cycle is of it or of an earlier one
 read_before : (n : Numbered) (x : NamedPair ℕ ℕ) (t k : ℕ) → IsReadIn n x t k → k ≤ t
-read_before n x t k r = by r.read.0 r.read.1 r.read.3 (Contains-cases r.left_tree r.read.0 (r.right_tree ∷ []) r.read.2)
+read_before n x t k r = by r.read.1
   where
-    in_left : (i : ℕ) → HasLeaf (record { input = i; at = k }) r.left_tree → k ≤ t
-    in_left i h = let v = leaf_visits n.a n.left n.left_base x.left t (record { input = i; at = k }) r.left_unfolds ResetVisits.itself h in (shifted n.a x.left t v.2).0
-
-    in_right : (i : ℕ) → HasLeaf (record { input = i; at = k }) r.right_tree → k ≤ t
-    in_right i h = let v = leaf_visits n.b n.right n.right_base x.right t (record { input = i; at = k }) r.right_unfolds ResetVisits.itself h in (shifted n.b x.right t v.2).0
-
-    by : (tree : Tree ℕ) (i : ℕ) → HasLeaf (record { input = i; at = k }) tree → (r.left_tree ≡ tree) ⊎ Contains (r.right_tree ∷ []) tree → k ≤ t
-    by tree i h (inl e) = in_left i (subst (HasLeaf (record { input = i; at = k })) (sym e) h)
-    by tree i h (inr c) = in_right i (subst (HasLeaf (record { input = i; at = k })) (sym (only r.right_tree tree c)) h)
+    by : HasLeaf (record { input = r.read.0; at = k }) r.left_tree ⊎ HasLeaf (record { input = r.read.0; at = k }) r.right_tree → k ≤ t
+    by (inl h) = let v = leaf_visits n.a n.left n.left_base x.left t (record { input = r.read.0; at = k }) r.left_unfolds ResetVisits.itself h in (shifted n.a x.left t v.2).0
+    by (inr h) = let v = leaf_visits n.b n.right n.right_base x.right t (record { input = r.read.0; at = k }) r.right_unfolds ResetVisits.itself h in (shifted n.b x.right t v.2).0
 
 module _ (a b : NetView) (left : IsSmall small_late a) (right : IsSmall small_early b) where
   shared_are : shared_by a b ≡ codes "a" ∷ codes "b" ∷ []
