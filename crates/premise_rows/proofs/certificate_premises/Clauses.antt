@@ -1,6 +1,5 @@
 -- The clauses of two ands by other rows.
 use Rattle.std.proofs.Common.{◌≡◌, ◌∙◌, ℕ, zero, suc, ◌/◌, List, [], ◌∷◌, ◌++◌, slice_get, Some, refl, sym, subst, arith, inl, inr}
-use Rattle.std.specs.Prelude.{◌⊎◌}
 use Rattle.std.specs.List.{Contains}
 use Rattle.std.specs.List.Sorted.{IsStrictlyIncreasing}
 use Rattle.std.proofs.lemmas.Option.{same_Some}
@@ -15,7 +14,7 @@ use Rattle.sec_jobs.specs.job_cert.pair_clauses.Clauses.{AreEncoded}
 use Rattle.call_rows.proofs.circuit_samples.Each.{each_at}
 use Rattle.premise_rows.specs.event_limit_premises.AtLimit.{is, isnt}
 use Rattle.premise_rows.specs.event_pair_premises.Held.{and_of}
-use Rattle.premise_rows.specs.certificate_premises.OneGraph.{on_cover, off_cover, and_by, rooted, and_tree, and_nodes, and_clauses, AndsHaveOneGraph}
+use Rattle.premise_rows.specs.certificate_premises.OneGraph.{on_cover, off_cover, and_by, and_tree, and_nodes, and_clauses, AndsHaveOneGraph}
 use Rattle.premise_rows.proofs.block_premises.TurningNets.{each}
 use Rattle.premise_rows.proofs.event_limit_premises.ChosenClauses.{clause_of, unit, swapped, each_clause}
 use Rattle.premise_rows.proofs.certificate_premises.OneGraph.{unfolds, is_tree, has_tree, is_net, graph}

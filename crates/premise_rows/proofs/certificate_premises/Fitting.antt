@@ -1,7 +1,7 @@
 -- A refutation is accepted over the clauses that another call prints.
-use Rattle.std.proofs.Common.{ℕ, List, refl}
+use Rattle.std.proofs.Common.{refl}
 use Rattle.sec_jobs.specs.job_cert.Answer.{AcceptsOver}
-use Rattle.premise_rows.specs.certificate_premises.Fitting.{Fit, CertificatesFit}
+use Rattle.premise_rows.specs.certificate_premises.Fitting.{CertificatesFit}
 
 pub certificates_fit : CertificatesFit
 certificates_fit x y pair any conflicts before now earlier later proofs others (printed, taken, nets, none) (text, wrote, own, fits) =

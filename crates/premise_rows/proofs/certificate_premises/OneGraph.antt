@@ -5,7 +5,7 @@ use Rattle.std.specs.List.{Contains}
 use Rattle.circuit_theory.specs.Cover.{Cover}
 use Rattle.circuit_theory.specs.Net.{IsNet}
 use Rattle.circuit_theory.specs.Query.{Variable, AreVariables, HasLeaf, HasLeafIn, ShiftBefore}
-use Rattle.circuit_theory.specs.Tree.{Tree, Leaf, Branch, Nil, Cons, Unfolds, UnfoldsAll}
+use Rattle.circuit_theory.specs.Tree.{Tree, Leaf, Unfolds, UnfoldsAll}
 use Rattle.circuit_theory.proofs.Lists.{Contains-cases, Contains-head, Contains-tail, only}
 use Rattle.flat_net.specs.View.{circuit_of}
 use Rattle.event_nodes.specs.aig.Graph.{flip}

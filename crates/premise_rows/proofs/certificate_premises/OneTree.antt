@@ -1,13 +1,13 @@
 -- An output has one tree in both nets.
-use Rattle.std.proofs.Common.{◌≡◌, ◌≢◌, ◌∙◌, ℕ, zero, suc, ◌<◌, ◌≤◌, List, [], ◌∷◌, length, slice_get, Some, None, refl, sym, ap, subst, arith, inl, inr}
-use Rattle.std.specs.Prelude.{◌⊎◌, codes}
+use Rattle.std.proofs.Common.{◌≡◌, ◌≢◌, ℕ, zero, suc, ◌<◌, ◌≤◌, List, [], ◌∷◌, slice_get, Some, refl, ap, arith, inl, inr}
+use Rattle.std.specs.Prelude.{codes}
 use Rattle.std.specs.List.{Contains, AllPairs}
 use Rattle.std.proofs.lemmas.Option.{none-some, same_Some}
 use Rattle.circuit_theory.specs.Circuit.{Equation}
 use Rattle.circuit_theory.specs.Interface.{AreNumbersOf}
 use Rattle.circuit_theory.specs.Joined.{moved}
 use Rattle.circuit_theory.specs.Tree.{Unfolds, UnfoldsAll}
-use Rattle.flat_net.specs.View.{NetView, circuit_of, ports_of}
+use Rattle.flat_net.specs.View.{circuit_of}
 use Rattle.net_assembly.specs.net_alike.Renumbered.{AreRenumbered, IsReadBy}
 use Rattle.flatten.specs.OneNet.{AreOneNet}
 use Rattle.design_trees.specs.OneTree.{AreNamedNumbers}
@@ -141,6 +141,7 @@ unfolds =
     (UnfoldsAll.more (Unfolds.gate {fanins = 1 ∷ []} {cover = not_cover} (1, omega arith, refl) (UnfoldsAll.more (Unfolds.input (inr (inl (refl, refl)))) UnfoldsAll.none)) UnfoldsAll.none))
 
 pub nets_have_one_tree : HaveOneTree
+unfolding one
 nets_have_one_tree = record {
   one = one;
   left = left;

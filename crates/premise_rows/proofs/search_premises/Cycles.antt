@@ -1,13 +1,11 @@
 -- A latch that turns and one that rises agree in the cycles 0 and 1, and differ in cycle 2.
-use Rattle.std.proofs.Common.{◌≡◌, ◌≢◌, ◌∙◌, ℕ, zero, suc, ◌<◌, ◌≤◌, Bool, true, false, List, [], ◌∷◌, refl, sym, ap, subst, arith}
-use Rattle.std.specs.List.{Contains, AllPairs}
+use Rattle.std.proofs.Common.{◌≡◌, ◌∙◌, ℕ, zero, suc, ◌≤◌, Bool, true, false, [], ◌∷◌, refl, sym, ap, subst, arith}
 use Rattle.circuit_theory.specs.Agree.{IsPair}
-use Rattle.circuit_theory.specs.Circuit.{Circuit, Gate, Named, Started, IsLatch}
+use Rattle.circuit_theory.specs.Circuit.{Named, Started, IsLatch}
 use Rattle.circuit_theory.specs.Cover.{cover_value}
-use Rattle.circuit_theory.specs.Net.{IsNet}
-use Rattle.circuit_theory.specs.Tree.{Tree, Fixed, Branch, Cons, Nil, AreNumbered, tree_value}
+use Rattle.circuit_theory.specs.Tree.{Tree, Fixed, Branch, Cons, Nil, tree_value}
 use Rattle.circuit_theory.proofs.Lists.{only}
-use Rattle.circuit_laws.specs.reset_laws.Reset.{ResetUnfolds, ResetUnfoldsAll, HasStarts, AreBased, HaveEqualResets}
+use Rattle.circuit_laws.specs.reset_laws.Reset.{ResetUnfolds, ResetUnfoldsAll, HasStarts, HaveEqualResets}
 use Rattle.circuit_laws.proofs.reset_laws.ResetExist.{reset_trees_are_one}
 use Rattle.cycle_laws.specs.Samples.{turned, toggle}
 use Rattle.cycle_laws.proofs.Cycles.{equal_up_to_agree, cycles_are_decided}

@@ -1,5 +1,5 @@
 -- Two circuits whose latches read themselves, or not, and agree in two cycles.
-use Rattle.std.specs.Prelude.{◌≢◌, ◌≡◌, ◌↔◌, ℕ, ◌≤◌, ◌<◌, Bool, true, false, List, [], ◌∷◌, length}
+use Rattle.std.specs.Prelude.{◌≢◌, ◌≡◌, ◌↔◌, ℕ, ◌≤◌, Bool, true, false, [], ◌∷◌, length}
 use Rattle.std.specs.List.{AllPairs}
 use Rattle.circuit_theory.specs.Agree.{IsPair}
 use Rattle.circuit_theory.specs.Circuit.{Circuit, Gate, Latch}
