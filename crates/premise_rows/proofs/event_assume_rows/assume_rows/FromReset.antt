@@ -65,19 +65,11 @@ few_sum (suc n) m (ks ∷ each) few h =
 
 -- what is read in a cycle is of it or of an earlier one
 read_before : (n : Numbered) (x : NamedPair ℕ ℕ) (t k : ℕ) → IsReadIn n x t k → k ≤ t
-<<<<<<< HEAD
 read_before n x t k r = by (leaf_of_either r.left_tree r.right_tree k r.read)
   where
     by : HasLeaf (record { input = r.read.1; at = k }) r.left_tree ⊎ HasLeaf (record { input = r.read.1; at = k }) r.right_tree → k ≤ t
     by (inl h) = let v = leaf_visits n.a n.left n.left_base x.left t (record { input = r.read.1; at = k }) r.left_unfolds ResetVisits.itself h in (shifted n.a x.left t v.2).0
     by (inr h) = let v = leaf_visits n.b n.right n.right_base x.right t (record { input = r.read.1; at = k }) r.right_unfolds ResetVisits.itself h in (shifted n.b x.right t v.2).0
-=======
-read_before n x t k r = by r.read.1
-  where
-    by : HasLeaf (record { input = r.read.0; at = k }) r.left_tree ⊎ HasLeaf (record { input = r.read.0; at = k }) r.right_tree → k ≤ t
-    by (inl h) = let v = leaf_visits n.a n.left n.left_base x.left t (record { input = r.read.0; at = k }) r.left_unfolds ResetVisits.itself h in (shifted n.a x.left t v.2).0
-    by (inr h) = let v = leaf_visits n.b n.right n.right_base x.right t (record { input = r.read.0; at = k }) r.right_unfolds ResetVisits.itself h in (shifted n.b x.right t v.2).0
->>>>>>> 9091655703a3174b92dc023747c3b1448ada7160
 
 module _ (a b : NetView) (left : IsSmall small_late a) (right : IsSmall small_early b) where
   shared_are : shared_by a b ≡ codes "a" ∷ codes "b" ∷ []
