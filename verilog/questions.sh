@@ -126,7 +126,7 @@ tied() {
   mapfile -t words < <(valued --conflicts)
   ! command -v timeout >/dev/null || bound=(timeout 30)
   found=$scratch/$1.$number told=0
-  sec_to "$found" induct "$2" "$3" "${words[@]}" --signals "${@:4}" || told=$?
+  sec_to "$found" induct "$2" "$3" "${words[@]}" --signals "${@:4}" 2> "$scratch/said" || told=$?
 }
 
 # In how many cycles a search found no difference.
