@@ -163,7 +163,7 @@ fn prove_wholly(
         };
     }
     let cone = graph.cone(alloc, &[x, k])?;
-    budget.charge(cone.len());
+    budget.note_cone(cone.len(), graph.size());
     prove_in(alloc, graph, cone.as_slice(), x, k, budget)
 }
 
