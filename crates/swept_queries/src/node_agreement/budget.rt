@@ -55,13 +55,26 @@ impl Budget {
         }
     }
 
+    /// What is spent on nodes that look constant, in a graph of so many: at most 100 conflicts for each search, and walks over as many nodes as
+    /// the graph has, and some.
+    pub(crate) fn for_constants(nodes: u32) -> Budget {
+        Budget {
+            each: 100,
+            next: 100,
+            left: 20_000,
+            searches: true,
+            in_vain: 0,
+            walks: u64::from(nodes).saturating_add(1 << 10),
+        }
+    }
+
     /// Whether there may be one more search. Where no conflicts are allowed it is one that needs none.
     pub(crate) fn may_search(&self) -> bool {
         self.searches && (self.each == 0 || self.left > 0 && self.walks > 0)
     }
 
     /// Notes that so many nodes were walked.
-    fn note_walk(&mut self, nodes: u64) {
+    pub(crate) fn note_walk(&mut self, nodes: u64) {
         self.walks = self.walks.saturating_sub(nodes);
     }
 

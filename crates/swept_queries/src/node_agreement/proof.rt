@@ -145,7 +145,7 @@ fn prove_in_window(
 }
 
 /// Tries it over the whole cones. Where no conflicts are allowed these are looked at only if they are small.
-fn prove_wholly(
+pub(crate) fn prove_wholly(
     alloc: Global,
     graph: &Aig,
     x: Lit,
