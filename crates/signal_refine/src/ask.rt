@@ -92,10 +92,11 @@ fn ask(alloc: Global, aig: &mut Aig, asked: &Asked<'_>, l: Lit, r: Lit) -> Resul
     }
     let apart = aig.and(asked.care, Aig::not(same))?;
     let none = zero(aig);
-    let mut budget = Budget::new(Effort {
+    let effort = Effort {
         conflicts: asked.conflicts.saturating_mul(20),
         searches: true,
-    });
+    };
+    let mut budget = Budget::new(effort, aig.size());
     prove(alloc, aig, &[], apart, none, &mut budget)
 }
 
