@@ -4,6 +4,7 @@ ghost use Rattle.std.specs.Prelude.{◌≡◌, ℕ, Bool, true, ◌*◌, ◌<◌
 ghost use Rattle.aig.specs.declared.node.Node.{Node};
 ghost use Rattle.aig.specs.Graph.{Grows};
 ghost use Rattle.aig.specs.Values.{value};
+ghost use Rattle.aig.specs.lane_eval.root_classes.Agreeing.{Agree};
 ghost use Rattle.swept_queries.specs.declared.node_agreement.proof.Proved.TheVariants as proved;
 ghost use Rattle.signal_refine.specs.Asking.{same_bit, IsCare, IsShownAt, AreShown};
 
@@ -75,6 +76,26 @@ fn narrowed(aig: &mut Aig, care: Lit, l: Lit, r: Lit) -> Result<Lit, NoMemory>
     aig.and(care, same)
 }
 
+/// For how many conflicts two literals are searched for a difference under every assignment, before the care counts.
+const FEW: u32 = 100;
+
+/// Whether the two literals are one under every assignment, as far as a short search shows.
+fn are_one(alloc: Global, aig: &Aig, conflicts: u32, l: Lit, r: Lit) -> Result<bool, NoMemory>
+    requires left { l.0 < 2 * length aig.now }
+    requires right { r.0 < 2 * length aig.now }
+    ensures { IfOk result (λ same. IsTrue same → Agree aig.now l.0 r.0) }
+{
+    let effort = Effort {
+        conflicts: conflicts.min(FEW).saturating_mul(20),
+        searches: true,
+    };
+    let mut budget = Budget::new(effort, aig.size());
+    match prove(alloc, aig, &[], l, r, &mut budget)? {
+        Proved::Same => Ok(true),
+        _ => Ok(false),
+    }
+}
+
 /// Whether the two literals are one wherever the care holds.
 fn ask(alloc: Global, aig: &mut Aig, asked: &Asked<'_>, l: Lit, r: Lit) -> Result<Proved, NoMemory>
     requires care { asked.now.care.0 < 2 * length aig.old }
@@ -83,7 +104,7 @@ fn ask(alloc: Global, aig: &mut Aig, asked: &Asked<'_>, l: Lit, r: Lit) -> Resul
     ensures same { IfOk result (λ p. p ≡ proved.Same → (a : ℕ → Bool) → value aig.old a asked.now.care.0 ≡ true → value aig.old a l.0 ≡ value aig.old a r.0) }
     ensures grows { OnOk result (Grows aig.old aig.new) }
 {
-    if l.0 == r.0 {
+    if l.0 == r.0 || are_one(alloc, aig, asked.conflicts, l, r)? {
         return Ok(Proved::Same);
     }
     let same = equal(aig, l, r)?;
