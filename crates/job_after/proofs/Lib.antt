@@ -1,3 +1,4 @@
+pub mod Unread
 pub mod Finds
 pub mod Searched
 pub mod Lifted
