@@ -1,3 +1,4 @@
+pub mod Starts
 pub mod Unread
 pub mod Finds
 pub mod Searched

@@ -18,4 +18,4 @@ returns-in-Whole-clause-found g c =
     let read = c.in-Whole.ensures.read in
     subst (λ (r : Result Finding Stop). AfterFound held before now job r) (sym c.after_end.ensures)
     (nets_end job.cycles job.conflicts (held job.left) (held job.right) (held job.stimulus) (ReadFailed held before now (replay_paths job.left job.right job.stimulus)) c.in-Whole.a c.in-Whole.b
-    c.in-Whole.stimulus.names c.in-Whole.stimulus.rows c.judge_after-judged.result read.0 read.1 read.2.0 c.judge_after-judged.ensures)
+    c.in-Whole.stimulus.names c.in-Whole.stimulus.rows c.judge_after-judged.result read.0 read.1 read.2 c.judge_after-judged.ensures)
