@@ -60,12 +60,7 @@ impl From<InductError> for JudgeError {
 }
 
 /// Compares the circuits, where their interfaces match.
-pub fn judge_nets(
-    alloc: Global,
-    a: &Net,
-    b: &Net,
-    conflicts: u32,
-) -> Result<Judged, JudgeError>
+pub fn judge_nets(alloc: Global, a: &Net, b: &Net, conflicts: u32) -> Result<Judged, JudgeError>
     requires left { IsComparable a.now }
     requires right { IsComparable b.now }
     ensures { IsJudgedBy a.now b.now result }

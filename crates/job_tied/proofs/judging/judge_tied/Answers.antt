@@ -53,8 +53,7 @@ returns c =
     let left = c.in_ok-left.left.items in
     let right = c.in_ok-right.right.items in
     let told = c.in_ok-text.ensures in
-    let written : c.in_ok-text.text ≡ begun_text l r (length s.rows) left right ++ c.in-Ok.judged.text = cc (told, c.len-rows.ensures, c.deref.ensures.value, c.deref-2.ensures.value) in
-    (
+    let written : c.in_ok-text.text ≡ begun_text l r (length s.rows) left right ++ c.in-Ok.judged.text = cc (told, c.len-rows.ensures, c.deref.ensures.value, c.deref-2.ensures.value) in (
       c.new.ensures,
       judged_by a b s.names s.rows l r left right (subst (λ (names : List (List ℕ)). IsBegun a names s.rows left l) c.in_ok-header.ensures c.in_ok-left.ensures)
           (subst (λ (names : List (List ℕ)). IsBegun b names s.rows right r) c.in_ok-header.ensures c.in_ok-right.ensures) s.fit c.in-Ok.judged.judgement c.in-Ok.judged.text c.in_ok-text.text c.in-Ok.ensures written,
