@@ -95,6 +95,13 @@ pub enum Task {
         b: FilePath,
         conflicts: u32,
     },
+    /// Compare them by ties of signals behind the rows of a stimulus, whatever they power up with.
+    InductAfter {
+        a: FilePath,
+        b: FilePath,
+        s: FilePath,
+        conflicts: u32,
+    },
 }
 
 /// It is let go by one call: an owner isn't taken apart field by field at each way out.
@@ -168,6 +175,12 @@ impl Drop for Task {
             Task::InductSignals {
                 a: _,
                 b: _,
+                conflicts: _,
+            } => {}
+            Task::InductAfter {
+                a: _,
+                b: _,
+                s: _,
                 conflicts: _,
             } => {}
         }

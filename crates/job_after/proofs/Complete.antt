@@ -2,6 +2,8 @@
 use Rattle.std.specs.Prelude.{IsSomeAnd}
 use Rattle.std.proofs.Common.{◌≡◌, ◌∙◌, ◌⊎◌, ℕ, Bool, List, [], ◌∷◌, sym, ap, inl, inr, Option, Some, None}
 use Rattle.std.proofs.lemmas.Option.{none-some}
+use Rattle.circuit_theory.specs.declared.Side.{Side}
+use Rattle.flat_net.specs.View.{NetView}
 use Rattle.circuit_report.specs.declared.sim_report.refusal.Misfit.TheVariants as misfit
 use Rattle.job_circuit.specs.replay.replay_header.Header.{FitsBoth, first_unknown, first_lacking, opened}
 use Rattle.job_base.specs.sec_files.Loading.{Loads}
@@ -17,14 +19,14 @@ use Rattle.job_base.specs.declared.finding.Finding.TheVariants as finding
 use Rattle.job_base.specs.Written.{status_of, judgement_status}
 use Rattle.job_base.proofs.sec_files.job_files.Accepted.{not_long, not_faulty, not_unsound, not_misread, no_long_stimulus, not_headless, no_row_refused, same_names}
 use Rattle.job_base.proofs.sec_files.job_files.Reading.{some_and, if_told}
-use Rattle.job_after.specs.Answer.{IsAfterRefusal, IsAfterFound, CanBeBegun, IsAfterAnswer, IsAfterComplete}
+use Rattle.job_after.specs.Answer.{IsBegunRefusal, IsAfterFound, IsWide, CanBeBegun, CanBegin, IsAfterAnswer, IsAfterComplete}
 
-module _ (left right stimulus : Option (List ℕ)) (x y z : List ℕ) (is : left ≡ Some x) (other : right ≡ Some y) (told : stimulus ≡ Some z) (can : CanBeBegun x y z) where
+module _ (TooLarge : NetView → NetView → Side → Type 0) (left right stimulus : Option (List ℕ)) (x y z : List ℕ) (is : left ≡ Some x) (other : right ≡ Some y) (told : stimulus ≡ Some z) (can : CanBeBegun TooLarge x y z) where
   -- the names and rows of the stimulus are those of the one that fits
   names_are : (names : List (List ℕ)) (rows : List (List Bool)) → IsStimulus z names rows → can.names ≡ names
   names_are names rows spells = same_names z can.names names can.rows rows can.stimulus.form spells.form
 
-  stands : (r : Refusal) → IsAfterRefusal left right stimulus r → ⊥
+  stands : (r : Refusal) → IsBegunRefusal TooLarge left right stimulus r → ⊥
   stands (refusal.TooLong file.A) h = not_long left x is can.left h
   stands (refusal.TooLong file.B) h = not_long right y other can.right h.1
   stands (refusal.TooLong file.C) h = h
@@ -84,29 +86,30 @@ module _ (left right stimulus : Option (List ℕ)) (x y z : List ℕ) (is : left
   stands refusal.Vacuous h = h
   stands (refusal.Pair name) h = h
 
-  judged : (j : Judgement) → IsAfterAnswer (judgement_status j)
-  judged judgement.Equal = tt
-  judged judgement.NotShown = tt
-  judged judgement.Different = tt
-  judged judgement.Limit = tt
+-- circuits that can begin behind the rows aren't refused
+pub no_refusal : (TooLarge : NetView → NetView → Side → Type 0) (left right stimulus : Option (List ℕ)) → CanBegin TooLarge left right stimulus → (r : Refusal) → IsBegunRefusal TooLarge left right stimulus r → ⊥
+no_refusal TooLarge left right stimulus can r h =
+    let x = some_and left (λ s. IsSomeAnd right (λ t. IsSomeAnd stimulus (λ u. CanBeBegun TooLarge s t u))) can in
+    let y = some_and right (λ t. IsSomeAnd stimulus (λ u. CanBeBegun TooLarge x.0 t u)) x.2 in
+    let z = some_and stimulus (λ u. CanBeBegun TooLarge x.0 y.0 u) y.2 in
+    stands TooLarge left right stimulus x.0 y.0 z.0 x.1 y.1 z.1 z.2 r h
 
-  answered : (cycles conflicts : ℕ) (f : Finding) → IsAfterFound cycles conflicts left right stimulus f → IsAfterAnswer (status_of f)
-  answered cycles conflicts finding.Words h = absurd h
-  answered cycles conflicts (finding.Refused r) h = absurd (stands r h)
-  answered cycles conflicts (finding.Cyclic side names) h = absurd h
-  answered cycles conflicts (finding.Unpaired side names) h = absurd h
-  answered cycles conflicts (finding.Checked o s) h = absurd h
-  answered cycles conflicts (finding.Done text) h = absurd h
-  answered cycles conflicts (finding.Generated o report) h = absurd h
-  answered cycles conflicts (finding.Replayed differences) h = absurd h
-  answered cycles conflicts (finding.Undecided side name proof) h = absurd h
-  answered cycles conflicts (finding.Unrefuted u) h = absurd h
-  answered cycles conflicts (finding.Judged j proofs text) h = judged j
+judged : (j : Judgement) → IsAfterAnswer (judgement_status j)
+judged judgement.Equal = tt
+judged judgement.NotShown = tt
+judged judgement.Different = tt
+judged judgement.Limit = tt
 
 -- what is found has the status of a verdict
 pub after_complete : (cycles conflicts : ℕ) (left right stimulus : Option (List ℕ)) (f : Finding) → IsAfterFound cycles conflicts left right stimulus f → IsAfterComplete left right stimulus (status_of f)
-after_complete cycles conflicts left right stimulus f found can =
-    let x = some_and left (λ s. IsSomeAnd right (λ t. IsSomeAnd stimulus (λ u. CanBeBegun s t u))) can in
-    let y = some_and right (λ t. IsSomeAnd stimulus (λ u. CanBeBegun x.0 t u)) x.2 in
-    let z = some_and stimulus (λ u. CanBeBegun x.0 y.0 u) y.2 in
-    answered left right stimulus x.0 y.0 z.0 x.1 y.1 z.1 z.2 cycles conflicts f found
+after_complete cycles conflicts left right stimulus finding.Words h can = absurd h
+after_complete cycles conflicts left right stimulus (finding.Refused r) h can = absurd (no_refusal IsWide left right stimulus can r h)
+after_complete cycles conflicts left right stimulus (finding.Cyclic side names) h can = absurd h
+after_complete cycles conflicts left right stimulus (finding.Unpaired side names) h can = absurd h
+after_complete cycles conflicts left right stimulus (finding.Checked o s) h can = absurd h
+after_complete cycles conflicts left right stimulus (finding.Done text) h can = absurd h
+after_complete cycles conflicts left right stimulus (finding.Generated o report) h can = absurd h
+after_complete cycles conflicts left right stimulus (finding.Replayed differences) h can = absurd h
+after_complete cycles conflicts left right stimulus (finding.Undecided side name proof) h can = absurd h
+after_complete cycles conflicts left right stimulus (finding.Unrefuted u) h can = absurd h
+after_complete cycles conflicts left right stimulus (finding.Judged j proofs text) h can = judged j

@@ -1,27 +1,16 @@
--- What the parts of the work on two circuits and a stimulus find.
+-- What both circuits that are read are found to be.
 use Rattle.std.specs.Prelude.{IfSome, IsErrOf}
-use Rattle.std.proofs.Common.{◌≡◌, ℕ, ◌≤◌, Bool, List, [], ◌∷◌, refl, sym, subst, inl, inr, Option, Result, Ok, Err}
-use Rattle.std.proofs.lemmas.List.Elements.{All-nil, All-cons}
-use Rattle.sec_base.specs.base_shelves.Outside.{Rose}
+use Rattle.std.proofs.Common.{ℕ, Bool, List, Option, Result, Ok, Err}
 use Rattle.flat_net.specs.View.{NetView}
-use Rattle.job_base.specs.declared.sec_files.loader.LoadError.{LoadError}
-use Rattle.job_base.specs.declared.sec_files.stimuli.StimulusError.{StimulusError}
-use Rattle.job_base.specs.sec_files.Loading.{Loads, LoadFails}
-use Rattle.job_base.specs.sec_files.Stimuli.{IsStimulus, StimulusFails}
-use Rattle.job_base.specs.declared.finding.File.TheVariants as file
-use Rattle.job_base.specs.declared.finding.Finding.{Finding}
-use Rattle.job_base.specs.declared.finding.Stop.{Stop}
+use Rattle.job_base.specs.sec_files.Loading.{Loads}
+use Rattle.job_base.specs.sec_files.Stimuli.{IsStimulus}
 use Rattle.job_base.specs.declared.finding.Stop.TheVariants as stop
 use Rattle.job_base.specs.Ends.{EndsBy}
-use Rattle.job_base.specs.sec_files.job_files.Ends.{load_end, stimulus_end}
-use Rattle.job_base.specs.sec_files.job_files.Reading.{IsLoaded, Held, ReadFailed}
-use Rattle.job_base.proofs.sec_files.job_files.Loading.{load_ends, stimulus_ends, later_fails, later_stimulus}
-use Rattle.job_base.proofs.sec_files.job_files.Reading.{first_failed, second_failed, is_loaded}
 use Rattle.job_after.specs.declared.fault.AfterFault.{AfterFault}
 use Rattle.job_after.specs.declared.fault.AfterFault.TheVariants as fault
 use Rattle.job_after.specs.declared.judging.Judged.{Judged}
-use Rattle.job_after.specs.Answer.{AfterJob, IsAfterFound}
-use Rattle.job_after.specs.Ends.{IsJudgedBy, after_end, EndsOver, EndsWithBoth, AfterFound}
+use Rattle.job_after.specs.Answer.{IsAfterFound}
+use Rattle.job_after.specs.Ends.{IsJudgedBy, after_end}
 
 -- both circuits are judged
 pub nets_end : (cycles conflicts : ℕ) (left right stimulus : Option (List ℕ)) (failed : Type 0) (a b : NetView) (names : List (List ℕ)) (rows : List (List Bool)) (judged : Result Judged AfterFault) → IfSome left (λ x. Loads x a) →
@@ -41,55 +30,3 @@ no_fault_judged (Err (fault.Missing name)) h = absurd (cc)
 no_fault_judged (Err (fault.Interface name)) h = absurd (cc)
 no_fault_judged (Err (fault.TooLarge side)) h = absurd (cc)
 no_fault_judged (Err fault.NoMemory) h = absurd (cc)
-
--- what is found beside both nets at a later time is found at the earlier
-pub over_later : (cycles conflicts : ℕ) (later held : Option (List ℕ)) (a b c : ℕ) (m k : NetView) (r : Result Finding Stop) → later ≡ held → a ≤ b → EndsOver cycles conflicts later (Rose b c) m k r → EndsOver cycles conflicts held (Rose a c) m k r
-over_later cycles conflicts later held a b c m k r same grew (inl h) = inl (h.0, later_stimulus later held a b c h.0 same grew h.1, h.2)
-over_later cycles conflicts later held a b c m k r same grew (inr h) = inr (h.0, h.1, h.2, subst (λ (o : Option (List ℕ)). IfSome o (λ z. IsStimulus z h.0 h.1)) same h.3, h.4, h.5)
-
-module _ (held : Held) (before now : List ℕ → ℕ) (job : AfterJob) where
-  abbrev Found : Finding → Type 0
-  Found = IsAfterFound job.cycles job.conflicts (held job.left) (held job.right) (held job.stimulus)
-
-  abbrev Failed : Type 0
-  Failed = ReadFailed held before now (job.left ∷ job.right ∷ job.stimulus ∷ [])
-
-  -- A's file isn't loaded
-  pub left_ends : (error : LoadError) → LoadFails (held job.left) (Rose (before job.left) (now job.left)) error → EndsBy Found Failed (load_end file.A error)
-  left_ends error h =
-      load_ends Found Failed (Rose (before job.left) (now job.left)) (held job.left) file.A (λ long. long) (λ line kind faulty. faulty) (λ fault unsound. unsound) (λ place kind misread. misread)
-      (first_failed held before now job.left (job.right ∷ job.stimulus ∷ [])) error h
-
-  -- B's isn't, beside A's
-  right_ends : IsLoaded (held job.left) → (error : LoadError) → LoadFails (held job.right) (Rose (before job.right) (now job.right)) error → EndsBy Found Failed (load_end file.B error)
-  right_ends l error h =
-      load_ends Found Failed (Rose (before job.right) (now job.right)) (held job.right) file.B (λ long. (l, long)) (λ line kind faulty. (l, faulty)) (λ fault unsound. (l, unsound)) (λ place kind misread. (l, misread))
-      (second_failed held before now job.left job.right (job.stimulus ∷ []) l) error h
-
-  -- both circuits are loaded, and the read behind them failed
-  third_failed : IsLoaded (held job.left) → IsLoaded (held job.right) → Rose (before job.stimulus) (now job.stimulus) → Failed
-  third_failed l r rose =
-      let P : List ℕ → Type 0 = λ earlier. IsLoaded (held earlier) in
-      record { fetch = 2; path = job.stimulus; is_path = refl; rose = rose; reached = All-cons P job.left (job.right ∷ []) l (All-cons P job.right [] r (All-nil P)) }
-
-  -- the stimulus isn't loaded, beside both circuits
-  over_ends : IsLoaded (held job.left) → IsLoaded (held job.right) → (error : StimulusError) → StimulusFails (held job.stimulus) (Rose (before job.stimulus) (now job.stimulus)) error → EndsBy Found Failed (stimulus_end error)
-  over_ends l r error h =
-      stimulus_ends Found Failed (Rose (before job.stimulus) (now job.stimulus)) (held job.stimulus) (λ long. (l, r, long)) (λ line headless. (l, r, headless)) (λ line rowless. (l, r, rowless)) (third_failed l r) error h
-
-  -- what is found beside A's net is found of all files; what is held and the faults are those of a later time
-  pub beside_found : (a : NetView) (right stimulus : Option (List ℕ)) (right_middle middle : ℕ) (r : Result Finding Stop) → IfSome (held job.left) (λ x. Loads x a) → right ≡ held job.right → before job.right ≤ right_middle →
-      stimulus ≡ held job.stimulus → before job.stimulus ≤ middle → EndsWithBoth job.cycles job.conflicts right (Rose right_middle (now job.right)) stimulus (Rose middle (now job.stimulus)) a r → AfterFound held before now job r
-  beside_found a right stimulus right_middle middle r l same grew told later (inl h) =
-      subst (λ (e : Result Finding Stop). AfterFound held before now job e) (sym h.2)
-      (right_ends (is_loaded (held job.left) a l) h.0 (later_fails right (held job.right) (before job.right) right_middle (now job.right) h.0 same grew h.1))
-  beside_found a right stimulus right_middle middle r l same grew told later (inr h) = go (over_later job.cycles job.conflicts stimulus (held job.stimulus) (before job.stimulus) middle (now job.stimulus) a h.0 r told later h.2)
-    where
-      b_loads : IfSome (held job.right) (λ y. Loads y h.0)
-      b_loads = subst (λ (o : Option (List ℕ)). IfSome o (λ y. Loads y h.0)) same h.1
-
-      go : EndsOver job.cycles job.conflicts (held job.stimulus) (Rose (before job.stimulus) (now job.stimulus)) a h.0 r → AfterFound held before now job r
-      go (inl e) = subst (λ (q : Result Finding Stop). AfterFound held before now job q) (sym e.2) (over_ends (is_loaded (held job.left) a l) (is_loaded (held job.right) h.0 b_loads) e.0 e.1)
-      go (inr e) =
-          subst (λ (q : Result Finding Stop). AfterFound held before now job q) (sym e.5)
-          (nets_end job.cycles job.conflicts (held job.left) (held job.right) (held job.stimulus) Failed a h.0 e.0 e.1 e.2 l b_loads e.3 e.4)

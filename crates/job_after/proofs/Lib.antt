@@ -1,3 +1,5 @@
+pub mod Starts
+pub mod Unread
 pub mod Finds
 pub mod Searched
 pub mod Lifted

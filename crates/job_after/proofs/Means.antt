@@ -135,7 +135,7 @@ module _ (cycles conflicts : ℕ) (before now : Option (List ℕ)) (a b : NetVie
           (subst (VerdictFits h.is.searched.numbers h.of.left h.of.right cycles h.of.made.last (named_pairs [] (circuit_of h.of.left) (circuit_of h.of.right)) h.of.made.pairs) is h.is.searched.found.verdict_is)
 
 -- what is said of nets and of a stimulus, of their texts
-of_three : (left right stimulus : Option (List ℕ)) (a b : NetView) (names : List (List ℕ)) (rows : List (List Bool)) (P : List ℕ → List ℕ → List ℕ → Type 0) → IfSome left (λ x. Loads x a) → IfSome right (λ y. Loads y b) →
+pub of_three : (left right stimulus : Option (List ℕ)) (a b : NetView) (names : List (List ℕ)) (rows : List (List Bool)) (P : List ℕ → List ℕ → List ℕ → Type 0) → IfSome left (λ x. Loads x a) → IfSome right (λ y. Loads y b) →
     IfSome stimulus (λ z. IsStimulus z names rows) → ((x y z : List ℕ) → Loads x a → Loads y b → IsStimulus z names rows → P x y z) → OfThree left right stimulus P
 of_three left right stimulus a b names rows P l r s f = record { left_loads = is_loaded left a l; right_loads = is_loaded right b r; said = all left right stimulus l r s }
   where

@@ -59,29 +59,39 @@ pub record IsRefusedSearch (a b : NetView) (names : List (List ℕ)) (rows : Lis
   pub right_begun : IsBegun b names rows right_known right
   pub said : P left right
 
--- why the circuits aren't compared; the first cause in the order of the work
-abbrev pub IsAfterRefusal : Option (List ℕ) → Option (List ℕ) → Option (List ℕ) → Refusal → Type 0
-IsAfterRefusal left right stimulus (refusal.TooLong file.S) = OfStimulus left right stimulus file.S IsTooLong
-IsAfterRefusal left right stimulus (refusal.TooLong f) = OfCircuit left right f IsTooLong
-IsAfterRefusal left right stimulus (refusal.Text f line (line_fault.Circuit kind)) = OfCircuit left right f (λ x. HasFault x line kind)
-IsAfterRefusal left right stimulus (refusal.Text f line line_fault.BadHeader) = OfStimulus left right stimulus f (λ z. HasBadHeader z line)
-IsAfterRefusal left right stimulus (refusal.Text f line (line_fault.Clauses kind)) = ⊥
-IsAfterRefusal left right stimulus (refusal.Text f line line_fault.BadRow) = OfStimulus left right stimulus f (λ z. HasBadRow z line)
-IsAfterRefusal left right stimulus (refusal.Design f fault) = OfCircuit left right f (λ x. HasDesignFault x fault)
-IsAfterRefusal left right stimulus (refusal.Record f place kind) = OfCircuit left right f (λ x. HasRecordFault x place kind)
-IsAfterRefusal left right stimulus (refusal.Misfit (misfit.Unknown name)) = OfReplay left right stimulus (λ a b names rows. IsUnfit a b names name)
-IsAfterRefusal left right stimulus (refusal.Misfit (misfit.Missing name)) = OfReplay left right stimulus (λ a b names rows. FitsOr a b names (Err (header.Missing name)))
-IsAfterRefusal left right stimulus (refusal.Misfit misfit.Power) = ⊥
-IsAfterRefusal left right stimulus (refusal.Interface name) = OfReplay left right stimulus (λ a b names rows. IsRefusedSearch a b names rows (λ l r. first_mismatch (ports_of l) (ports_of r) ≡ Some name))
-IsAfterRefusal left right stimulus (refusal.TooLarge side) = OfReplay left right stimulus (λ a b names rows. IsRefusedSearch a b names rows (λ l r. InterfacesMatch l r × IsOneTooLarge l r 0 side))
-IsAfterRefusal left right stimulus refusal.TooManyEvents = ⊥
-IsAfterRefusal left right stimulus (refusal.Assume fault) = ⊥
-IsAfterRefusal left right stimulus refusal.Vacuous = ⊥
-IsAfterRefusal left right stimulus (refusal.Pair name) = ⊥
+-- one of the files isn't loaded; the first in the order of the work
+abbrev pub IsUnreadRefusal : Option (List ℕ) → Option (List ℕ) → Option (List ℕ) → Refusal → Type 0
+IsUnreadRefusal left right stimulus (refusal.TooLong file.S) = OfStimulus left right stimulus file.S IsTooLong
+IsUnreadRefusal left right stimulus (refusal.TooLong f) = OfCircuit left right f IsTooLong
+IsUnreadRefusal left right stimulus (refusal.Text f line (line_fault.Circuit kind)) = OfCircuit left right f (λ x. HasFault x line kind)
+IsUnreadRefusal left right stimulus (refusal.Text f line line_fault.BadHeader) = OfStimulus left right stimulus f (λ z. HasBadHeader z line)
+IsUnreadRefusal left right stimulus (refusal.Text f line (line_fault.Clauses kind)) = ⊥
+IsUnreadRefusal left right stimulus (refusal.Text f line line_fault.BadRow) = OfStimulus left right stimulus f (λ z. HasBadRow z line)
+IsUnreadRefusal left right stimulus (refusal.Design f fault) = OfCircuit left right f (λ x. HasDesignFault x fault)
+IsUnreadRefusal left right stimulus (refusal.Record f place kind) = OfCircuit left right f (λ x. HasRecordFault x place kind)
+IsUnreadRefusal left right stimulus other = ⊥
+
+-- what is found where one of the files isn't loaded
+abbrev pub IsUnread : Option (List ℕ) → Option (List ℕ) → Option (List ℕ) → Finding → Type 0
+IsUnread left right stimulus (finding.Refused r) = IsUnreadRefusal left right stimulus r
+IsUnread left right stimulus other = ⊥
+
+-- Why the circuits aren't compared; the first cause in the order of the work. What makes one of two circuits too large for the comparison
+-- is told of both as they begin behind the rows.
+abbrev pub IsBegunRefusal : (NetView → NetView → Side → Type 0) → Option (List ℕ) → Option (List ℕ) → Option (List ℕ) → Refusal → Type 0
+IsBegunRefusal TooLarge left right stimulus (refusal.Misfit (misfit.Unknown name)) = OfReplay left right stimulus (λ a b names rows. IsUnfit a b names name)
+IsBegunRefusal TooLarge left right stimulus (refusal.Misfit (misfit.Missing name)) = OfReplay left right stimulus (λ a b names rows. FitsOr a b names (Err (header.Missing name)))
+IsBegunRefusal TooLarge left right stimulus (refusal.Interface name) = OfReplay left right stimulus (λ a b names rows. IsRefusedSearch a b names rows (λ l r. first_mismatch (ports_of l) (ports_of r) ≡ Some name))
+IsBegunRefusal TooLarge left right stimulus (refusal.TooLarge side) = OfReplay left right stimulus (λ a b names rows. IsRefusedSearch a b names rows (λ l r. InterfacesMatch l r × TooLarge l r side))
+IsBegunRefusal TooLarge left right stimulus other = IsUnreadRefusal left right stimulus other
+
+-- the unfoldings of this circuit's outputs in the first cycle weigh more than 2,000,000 together
+abbrev pub IsWide : NetView → NetView → Side → Type 0
+IsWide l r side = IsOneTooLarge l r 0 side
 
 -- what is found of three files
 abbrev pub IsAfterFound : ℕ → ℕ → Option (List ℕ) → Option (List ℕ) → Option (List ℕ) → Finding → Type 0
-IsAfterFound cycles conflicts left right stimulus (finding.Refused r) = IsAfterRefusal left right stimulus r
+IsAfterFound cycles conflicts left right stimulus (finding.Refused r) = IsBegunRefusal IsWide left right stimulus r
 IsAfterFound cycles conflicts left right stimulus (finding.Judged j proofs text) = OfReplay left right stimulus (λ a b names rows. IsJudged a b names rows cycles conflicts j proofs text)
 IsAfterFound cycles conflicts left right stimulus other = ⊥
 
@@ -158,8 +168,8 @@ AfterMeans cycles conflicts left right stimulus before now proofs status.Done = 
 AfterMeans cycles conflicts left right stimulus before now proofs other = Unit {0}
 
 -- Both texts of circuits are accepted, and the third is a stimulus that names all inputs that both have, and inputs alone. As they begin
--- behind its rows, their interfaces match, and no circuit's outputs weigh more than 2,000,000 in the first cycle there.
-pub record CanBeBegun (x y z : List ℕ) : Type 0 where
+-- behind its rows, their interfaces match, and none is too large.
+pub record CanBeBegun (TooLarge : NetView → NetView → Side → Type 0) (x y z : List ℕ) : Type 0 where
   pub left : IsAccepted x
   pub right : IsAccepted y
   pub names : List (List ℕ)
@@ -169,11 +179,11 @@ pub record CanBeBegun (x y z : List ℕ) : Type 0 where
   pub match : (a b : NetView) (names : List (List ℕ)) (rows : List (List Bool)) (l r : NetView) (left_known right_known : List (Option Bool)) → Loads x a → Loads y b → IsStimulus z names rows →
       IsBegun a names rows left_known l → IsBegun b names rows right_known r → first_mismatch (ports_of l) (ports_of r) ≡ None
   pub light : (a b : NetView) (names : List (List ℕ)) (rows : List (List Bool)) (l r : NetView) (left_known right_known : List (Option Bool)) → Loads x a → Loads y b → IsStimulus z names rows →
-      IsBegun a names rows left_known l → IsBegun b names rows right_known r → (side : Side) → IsOneTooLarge l r 0 side → ⊥
+      IsBegun a names rows left_known l → IsBegun b names rows right_known r → (side : Side) → TooLarge l r side → ⊥
 
 -- the three texts are told, and can be compared so
-abbrev pub CanBegin : Option (List ℕ) → Option (List ℕ) → Option (List ℕ) → Type 0
-CanBegin left right stimulus = IsSomeAnd left (λ x. IsSomeAnd right (λ y. IsSomeAnd stimulus (λ z. CanBeBegun x y z)))
+abbrev pub CanBegin : (NetView → NetView → Side → Type 0) → Option (List ℕ) → Option (List ℕ) → Option (List ℕ) → Type 0
+CanBegin TooLarge left right stimulus = IsSomeAnd left (λ x. IsSomeAnd right (λ y. IsSomeAnd stimulus (λ z. CanBeBegun TooLarge x y z)))
 
 -- the statuses of an answer, and that of want of memory, which has no cause here
 abbrev pub IsAfterAnswer : StatusName → Type 0
@@ -186,4 +196,4 @@ IsAfterAnswer other = ⊥
 
 -- circuits that can be compared so are, if no read and no write fails
 abbrev pub IsAfterComplete : Option (List ℕ) → Option (List ℕ) → Option (List ℕ) → StatusName → Type 0
-IsAfterComplete left right stimulus name = CanBegin left right stimulus → IsAfterAnswer name
+IsAfterComplete left right stimulus name = CanBegin IsWide left right stimulus → IsAfterAnswer name

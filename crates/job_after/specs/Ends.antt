@@ -1,5 +1,5 @@
 -- How the job ends.
-use Rattle.std.specs.Prelude.{◌≡◌, ◌⊎◌, ℕ, Bool, List, [], Option, Some, Result, Ok, Err, IfSome}
+use Rattle.std.specs.Prelude.{◌≡◌, ℕ, Bool, List, [], Option, Some, Result, Ok, Err}
 use Rattle.circuit_theory.specs.Interface.{first_mismatch}
 use Rattle.flat_net.specs.View.{NetView, ports_of}
 use Rattle.sec_setup.specs.Matching.{InterfacesMatch}
@@ -8,27 +8,20 @@ use Rattle.job_circuit.specs.declared.replay.replay_header.error.ReplayError.{Re
 use Rattle.job_circuit.specs.declared.replay.replay_header.error.ReplayError.TheVariants as header
 use Rattle.job_circuit.specs.replay.replay_header.Header.{FitsBoth, FitsOr, opened}
 use Rattle.job_circuit.specs.job_replay.Replays.{replay_paths}
-use Rattle.job_base.specs.declared.sec_files.loader.LoadError.{LoadError}
-use Rattle.job_base.specs.declared.sec_files.stimuli.StimulusError.{StimulusError}
-use Rattle.job_base.specs.sec_files.Loading.{Loads, LoadFails}
-use Rattle.job_base.specs.sec_files.Stimuli.{IsStimulus, StimulusFails}
-use Rattle.job_base.specs.declared.finding.File.TheVariants as file
 use Rattle.job_base.specs.declared.finding.Refusal.TheVariants as refusal
 use Rattle.job_base.specs.declared.finding.Finding.{Finding}
 use Rattle.job_base.specs.declared.finding.Finding.TheVariants as finding
 use Rattle.job_base.specs.declared.finding.Stop.{Stop}
 use Rattle.job_base.specs.declared.finding.Stop.TheVariants as stop
 use Rattle.job_base.specs.Ends.{EndsBy}
-use Rattle.job_base.specs.sec_files.job_files.Ends.{load_end, stimulus_end}
 use Rattle.job_base.specs.sec_files.job_files.Reading.{Held, ReadFailed}
 use Rattle.cycle_search.specs.declared.found.SearchError.{SearchError}
-use Rattle.cycle_search.specs.Outputs.{IsOneTooLarge}
 use Rattle.cycle_search.specs.declared.found.SearchError.TheVariants as search
 use Rattle.job_after.specs.declared.fault.AfterFault.{AfterFault}
 use Rattle.job_after.specs.declared.fault.AfterFault.TheVariants as fault
 use Rattle.job_after.specs.declared.judging.Judged.{Judged}
 use Rattle.job_after.specs.Judged.{IsJudged}
-use Rattle.job_after.specs.Answer.{AfterJob, IsAfterFound, IsUnfit, IsRefusedSearch}
+use Rattle.job_after.specs.Answer.{AfterJob, IsAfterFound, IsUnfit, IsRefusedSearch, IsWide}
 
 -- the fault by the search's, or by the header's
 abbrev pub search_fault : SearchError → AfterFault
@@ -54,7 +47,7 @@ IsJudgedBy a b names rows cycles conflicts (Ok j) = IsJudged a b names rows cycl
 IsJudgedBy a b names rows cycles conflicts (Err (fault.Unknown name)) = IsUnfit a b names name
 IsJudgedBy a b names rows cycles conflicts (Err (fault.Missing name)) = FitsOr a b names (Err (header.Missing name))
 IsJudgedBy a b names rows cycles conflicts (Err (fault.Interface name)) = IsRefusedSearch a b names rows (λ l r. first_mismatch (ports_of l) (ports_of r) ≡ Some name)
-IsJudgedBy a b names rows cycles conflicts (Err (fault.TooLarge side)) = IsRefusedSearch a b names rows (λ l r. InterfacesMatch l r × IsOneTooLarge l r 0 side)
+IsJudgedBy a b names rows cycles conflicts (Err (fault.TooLarge side)) = IsRefusedSearch a b names rows (λ l r. InterfacesMatch l r × IsWide l r side)
 IsJudgedBy a b names rows cycles conflicts (Err fault.NoMemory) = Unit {0}
 
 -- what is found by it
@@ -69,16 +62,3 @@ after_end (Err fault.NoMemory) = Err stop.NoMemory
 -- the work on three files ends with a finding that is right, or by a read that failed, or at want of memory
 abbrev pub AfterFound : Held → (List ℕ → ℕ) → (List ℕ → ℕ) → AfterJob → Result Finding Stop → Type 0
 AfterFound held before now job r = EndsBy (IsAfterFound job.cycles job.conflicts (held job.left) (held job.right) (held job.stimulus)) (ReadFailed held before now (replay_paths job.left job.right job.stimulus)) r
-
--- How the work on the stimulus ends beside both nets: it isn't loaded, by what is held of it and whether a read of it failed; or both
--- nets are judged.
-abbrev pub EndsOver : ℕ → ℕ → Option (List ℕ) → Type 0 → NetView → NetView → Result Finding Stop → Type 0
-EndsOver cycles conflicts text rose a b r =
-    ((error : StimulusError) × StimulusFails text rose error × (r ≡ stimulus_end error))
-    ⊎ ((names : List (List ℕ)) × (rows : List (List Bool)) × (judged : Result Judged AfterFault) × IfSome text (λ z. IsStimulus z names rows) × IsJudgedBy a b names rows cycles conflicts judged × (r ≡ after_end judged))
-
--- the same of the work on B's file and the stimulus beside A's net
-abbrev pub EndsWithBoth : ℕ → ℕ → Option (List ℕ) → Type 0 → Option (List ℕ) → Type 0 → NetView → Result Finding Stop → Type 0
-EndsWithBoth cycles conflicts right right_rose text rose a r =
-    ((error : LoadError) × LoadFails right right_rose error × (r ≡ load_end file.B error))
-    ⊎ ((b : NetView) × IfSome right (λ y. Loads y b) × EndsOver cycles conflicts text rose a b r)

@@ -2,3 +2,4 @@ pub mod Report
 pub mod Judged
 pub mod Ends
 pub mod Answer
+pub mod Read

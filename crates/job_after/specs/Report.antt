@@ -34,6 +34,10 @@ first_name n (Some j) = 32 ∷ (latch_at n j).name
 abbrev pub unknown_line : List ℕ → NetView → List (Option Bool) → List ℕ
 unknown_line front n known = front ++ decimal (unknown_count known) ++ first_name n (first_unknown known) ++ 10 ∷ []
 
+-- how many rows the stimulus has, and what isn't known of both nets behind them
+abbrev pub begun_text : NetView → NetView → ℕ → List (Option Bool) → List (Option Bool) → List ℕ
+begun_text a b rows left right = codes "after " ++ decimal rows ++ 10 ∷ [] ++ unknown_line (codes "unknown A ") a left ++ unknown_line (codes "unknown B ") b right
+
 -- a difference with its sequence
 abbrev pub sequence_text : Witness → List ℕ
 sequence_text w = codes "verdict different " ++ pair_text w.pair ++ values_text w ++ stimulus_text w.stimulus.names w.stimulus.rows
@@ -54,4 +58,4 @@ shown_text conflicts s None = found_text conflicts s.last s.verdict
 -- the whole report
 abbrev pub after_text : NetView → NetView → ℕ → ℕ → ℕ → List (Option Bool) → List (Option Bool) → Option Witness → Searched → List ℕ
 after_text a b cycles conflicts rows left right shown s =
-    codes "after " ++ decimal rows ++ 10 ∷ [] ++ unknown_line (codes "unknown A ") a left ++ unknown_line (codes "unknown B ") b right ++ front_text a b cycles s ++ shown_text conflicts s shown
+    begun_text a b rows left right ++ front_text a b cycles s ++ shown_text conflicts s shown

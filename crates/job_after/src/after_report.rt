@@ -1,7 +1,7 @@
 //! The report.
 
 ghost use Rattle.std.specs.Prelude.{◌≡◌, ◌++◌, length, IfOk, OnOk};
-ghost use Rattle.job_after.specs.Report.{unknown_line, first_unknown, first_name, sequence_text, unshown_text, shown_text, after_text};
+ghost use Rattle.job_after.specs.Report.{unknown_line, first_unknown, first_name, begun_text, sequence_text, unshown_text, shown_text, after_text};
 
 use crate::known::{first_unknown, unknown_count};
 use cycle_search::search_report::{put_count_line, put_front, put_name, put_values, put_verdict};
@@ -39,12 +39,29 @@ pub(crate) fn report(
     ensures { IfOk result (λ text. text ≡ after_text a.now b.now cycles conflicts after.now.rows after.now.left.now after.now.right.now after.now.shown.now searched.now) }
 {
     let mut text = Vec::new(alloc);
-    put_count_line(alloc, &mut text, b"after ", after.rows)?;
-    put_unknown(alloc, &mut text, b"unknown A ", a, after.left)?;
-    put_unknown(alloc, &mut text, b"unknown B ", b, after.right)?;
+    put_begun(alloc, &mut text, a, b, after.rows, after.left, after.right)?;
     put_front(alloc, &mut text, a, b, cycles, searched)?;
     put_after_verdict(alloc, &mut text, conflicts, searched, after.shown)?;
     Ok(Seq::from_vec(text))
+}
+
+/// Puts how many rows the stimulus has, and for each net how many latches aren't known behind them, with the first one's name.
+pub fn put_begun(
+    alloc: Global,
+    text: &mut Vec<u8>,
+    a: &Net,
+    b: &Net,
+    rows: u64,
+    left: &[Option<bool>],
+    right: &[Option<bool>],
+) -> Result<(), NoMemory>
+    requires left { length left.now ≡ length a.now.latches }
+    requires right { length right.now ≡ length b.now.latches }
+    ensures { OnOk result (text.new.items ≡ text.old.items ++ begun_text a.now b.now rows left.now right.now) }
+{
+    put_count_line(alloc, text, b"after ", rows)?;
+    put_unknown(alloc, text, b"unknown A ", a, left)?;
+    put_unknown(alloc, text, b"unknown B ", b, right)
 }
 
 /// Puts how many latches of the net aren't known, and the first one's name.

@@ -6,14 +6,14 @@ use sec_base::{NoMemory, Side, Word};
 
 /// Why two circuits aren't compared.
 #[derive(Drop)]
-pub(crate) enum AfterFault {
+pub enum AfterFault {
     /// The first name of the stimulus that is an input of neither circuit.
     Unknown(Word),
     /// The first input that both circuits have, in the first one's order, that the stimulus lacks.
     Missing(Word),
     /// The first name that one circuit has and the other lacks.
     Interface(Word),
-    /// The unfoldings of this circuit's outputs in the first cycle behind the rows weigh more than 2,000,000 together.
+    /// This circuit, as it begins behind the rows, is too large for the comparison.
     TooLarge(Side),
     /// Memory was wanted and couldn't be had.
     NoMemory,

@@ -25,10 +25,10 @@ use witness_report::Stimulus;
 
 /// What is judged of two circuits: with the proofs of the queries that met the limit, and the report.
 #[derive(Drop)]
-pub(crate) struct Judged {
-    pub(crate) judgement: Judgement,
-    pub(crate) proofs: Proofs,
-    pub(crate) text: Text,
+pub struct Judged {
+    pub judgement: Judgement,
+    pub proofs: Proofs,
+    pub text: Text,
 }
 
 /// Compares the circuits behind the rows, where the stimulus fits both and their interfaces match.
@@ -76,7 +76,7 @@ pub(crate) fn judge_after(
 }
 
 /// Refuses the first name of the stimulus that is no input of a circuit, or an input of both that it lacks.
-fn match_header(alloc: Global, a: &Net, b: &Net, header: &NameTable) -> Result<(), ReplayError>
+pub fn match_header(alloc: Global, a: &Net, b: &Net, header: &NameTable) -> Result<(), ReplayError>
     ensures { FitsAfter a.now b.now header.now result }
 {
     let opened = opened_by(alloc, a, b, header)?;
@@ -130,7 +130,7 @@ fn keep_proof(proofs: &mut Proofs, pair: PairResult) -> Result<(), NoMemory>
 }
 
 /// What is found by the judgement, or by its refusal.
-pub(crate) fn after_end(judged: Result<Judged, AfterFault>) -> Result<Finding, Stop>
+pub fn after_end(judged: Result<Judged, AfterFault>) -> Result<Finding, Stop>
     ensures { result ≡ after_end judged }
 {
     match judged {

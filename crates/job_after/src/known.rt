@@ -11,7 +11,7 @@ use sec_base::{BitRows, NoMemory};
 use std::alloc::Global;
 
 /// What is known of the net's latches behind the rows, which the net has now as its initial values.
-pub(crate) fn begin(
+pub fn begin(
     alloc: Global,
     net: &mut Net,
     names: &NameTable,

@@ -54,15 +54,15 @@ module _ (before now : Option (List ℕ)) (a b : NetView) (j : Judgement) (text 
       go (Some name) is q = record { of = texts; pair = name; is_verdict = is }
 
 -- a verdict is none of the other statuses
-not_different : (apart : Option (List ℕ)) → judgement_status (judgement_of apart) ≡ status.Different → ⊥
+pub not_different : (apart : Option (List ℕ)) → judgement_status (judgement_of apart) ≡ status.Different → ⊥
 not_different None q = cc
 not_different (Some name) q = cc
 
-not_limit : (apart : Option (List ℕ)) → judgement_status (judgement_of apart) ≡ status.Limit → ⊥
+pub not_limit : (apart : Option (List ℕ)) → judgement_status (judgement_of apart) ≡ status.Limit → ⊥
 not_limit None q = cc
 not_limit (Some name) q = cc
 
-not_done : (apart : Option (List ℕ)) → judgement_status (judgement_of apart) ≡ status.Done → ⊥
+pub not_done : (apart : Option (List ℕ)) → judgement_status (judgement_of apart) ≡ status.Done → ⊥
 not_done None q = cc
 not_done (Some name) q = cc
 

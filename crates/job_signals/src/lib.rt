@@ -5,3 +5,4 @@ mod comparison;
 mod judging;
 
 pub use comparison::{SignalComparison, compare_by_signals};
+pub use judging::{JudgeError, Judged, judge_nets};

@@ -19,6 +19,7 @@ use Rattle.job_circuit.specs.job_replay.Told.{report_with}
 use Rattle.job_check.specs.check_meaning.check_found.Found.{IsFoundOf}
 use Rattle.job_settles.specs.Found.{IsSettlesFound}
 use Rattle.job_signals.specs.Found.{IsSignalsFound}
+use Rattle.job_tied.specs.Found.{IsTiedFound}
 use Rattle.sec_jobs.specs.job_gen.gen_meaning.Found.{IsGenFound}
 use Rattle.sec_jobs.specs.job_cert.job_lrat.Found.{IsLratFound}
 use Rattle.sec_jobs.specs.job_cert.Found.{IsCertFound}
@@ -41,6 +42,7 @@ IsFoundOfJob held (task.Search a b cycles conflicts) f = IsSearchFound cycles co
 IsFoundOfJob held (task.After a b s cycles conflicts) f = IsAfterFound cycles conflicts (held a) (held b) (held s) f
 IsFoundOfJob held (task.Induct a b conflicts) f = IsInductFound conflicts (held a) (held b) f
 IsFoundOfJob held (task.InductSignals a b conflicts) f = IsSignalsFound (held a) (held b) f
+IsFoundOfJob held (task.InductAfter a b s conflicts) f = IsTiedFound (held a) (held b) (held s) f
 
 -- what is found: that the words are no job, or what is true of the job
 abbrev pub IsFinding : Held → Option Task → Finding → Type 0

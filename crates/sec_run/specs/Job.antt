@@ -25,6 +25,7 @@ paths_of (task.Search a b cycles conflicts) = induct_paths a b
 paths_of (task.After a b s cycles conflicts) = replay_paths a b s
 paths_of (task.Induct a b conflicts) = induct_paths a b
 paths_of (task.InductSignals a b conflicts) = induct_paths a b
+paths_of (task.InductAfter a b s conflicts) = replay_paths a b s
 
 -- none where the words are no job
 abbrev pub paths_in : Option Task → List (List ℕ)
@@ -46,6 +47,7 @@ GoesOn (task.Search a b cycles conflicts) = IsLoaded
 GoesOn (task.After a b s cycles conflicts) = IsLoaded
 GoesOn (task.Induct a b conflicts) = IsLoaded
 GoesOn (task.InductSignals a b conflicts) = IsLoaded
+GoesOn (task.InductAfter a b s conflicts) = IsLoaded
 
 -- words that are no job read nothing
 abbrev pub GoesOnIn : Option Task → Option (List ℕ) → Type 0

@@ -14,6 +14,7 @@ use Rattle.job_circuit.specs.job_replay.Told.{report_with}
 use Rattle.job_check.specs.check_meaning.Answer.{CheckMeans, IsCheckComplete}
 use Rattle.job_settles.specs.Answer.{SettlesMeans}
 use Rattle.job_signals.specs.Answer.{SignalsMeans}
+use Rattle.job_tied.specs.Answer.{TiedMeans, IsTiedComplete}
 use Rattle.sec_jobs.specs.job_gen.gen_meaning.Answer.{GenMeans, IsGenAnswer}
 use Rattle.sec_jobs.specs.job_cert.job_lrat.Answer.{LratMeans, IsLratComplete}
 use Rattle.sec_jobs.specs.job_cert.Answer.{CertMeans, IsCertComplete}
@@ -37,6 +38,7 @@ Means held (Some (task.Search a b cycles conflicts)) before now proofs name = Se
 Means held (Some (task.After a b s cycles conflicts)) before now proofs name = AfterMeans cycles conflicts (held a) (held b) (held s) before now proofs name
 Means held (Some (task.Induct a b conflicts)) before now proofs name = InductMeans conflicts (held a) (held b) before now proofs name
 Means held (Some (task.InductSignals a b conflicts)) before now proofs name = SignalsMeans (held a) (held b) before now proofs name
+Means held (Some (task.InductAfter a b s conflicts)) before now proofs name = TiedMeans (held a) (held b) (held s) before now proofs name
 
 -- Where the job can be done, it ends so, if no read and no write fails; words that are no job are told.
 abbrev pub IsComplete : Held → Option Task → StatusName → Type 0
@@ -54,3 +56,4 @@ IsComplete held (Some (task.Search a b cycles conflicts)) name = IsSearchComplet
 IsComplete held (Some (task.After a b s cycles conflicts)) name = IsAfterComplete (held a) (held b) (held s) name
 IsComplete held (Some (task.Induct a b conflicts)) name = IsInductComplete (held a) (held b) name
 IsComplete held (Some (task.InductSignals a b conflicts)) name = IsInductComplete (held a) (held b) name
+IsComplete held (Some (task.InductAfter a b s conflicts)) name = IsTiedComplete (held a) (held b) (held s) name

@@ -20,6 +20,7 @@ use job_circuit::job_replay::{Replay, ReplayReport, replay_files};
 use job_circuit::{Simulation, simulate, tell_graph};
 use job_settles::check_settles;
 use job_signals::{SignalComparison, compare_by_signals};
+use job_tied::{TiedComparison, compare_tied};
 use sec_base::{FilePath, Shelf, Sink, Word};
 use sec_jobs::job_cert::job_lrat::{Refutation, check_refutation};
 use sec_jobs::job_cert::{Certification, Wanted, certify};
@@ -193,6 +194,15 @@ fn find<S: Shelf>(alloc: Global, task: &Task, shelf: &mut S) -> Result<Finding, 
                 conflicts: *conflicts,
             };
             compare_by_signals(alloc, &comparison, shelf)
+        }
+        Task::InductAfter { a, b, s, conflicts } => {
+            let comparison = TiedComparison {
+                left: a.as_str(),
+                right: b.as_str(),
+                stimulus: s.as_str(),
+                conflicts: *conflicts,
+            };
+            compare_tied(alloc, &comparison, shelf)
         }
     }
 }

@@ -126,6 +126,7 @@ fn words_of<'a>(which: Subcommand) -> (&'a str, &'a [Word<'a>])
                 Word::Place("b"),
                 Word::Conflicts,
                 Word::Flag("signals"),
+                Word::Option("after"),
             ],
         ),
     }

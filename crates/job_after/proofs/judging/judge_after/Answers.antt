@@ -1,24 +1,14 @@
 -- What is judged, or the refusal.
 use Rattle.std.proofs.Common.{◌≡◌, ◌∙◌, ℕ, List, Bool, length, sym, ap, subst, Option, Err}
-use Rattle.flat_net.specs.Comparable.{IsComparable}
 use Rattle.flat_net.specs.View.{NetView}
 use Rattle.restart.specs.Behind.{begun}
-use Rattle.restart.proofs.Again.{begun_comparable}
-use Rattle.restart.proofs.Starting.{begun_long}
 use Rattle.job_after.specs.Judged.{Behind, IsBegun, IsBehind}
 use Rattle.job_after.specs.Report.{after_text}
 use Rattle.job_after.specs.Ends.{FitsAfter, header_fault, search_fault}
+use Rattle.job_after.proofs.Starts.{comparable, long}
 use Rattle.job_after.proofs.Zeros.{stays}
 use Rattle.job_after.proofs.Searched.{refused_by, unfit, refused, judged_by}
 use Rattle.job_after.proofs.judging.judge_after.Goals as goal
-
--- a net that begins can be compared where the net can
-comparable : (n : NetView) (names : List (List ℕ)) (rows : List (List Bool)) (known : List (Option Bool)) (m : NetView) → IsBegun n names rows known m → IsComparable n → IsComparable m
-comparable n names rows known m h fits = subst IsComparable (sym h.is) (begun_comparable n known fits)
-
--- it has as many latches as are told
-long : (n : NetView) (names : List (List ℕ)) (rows : List (List Bool)) (known : List (Option Bool)) (m : NetView) → IsBegun n names rows known m → length known ≡ length m.latches
-long n names rows known m h = h.each ∙ sym (ap (λ (k : NetView). length k.latches) h.is ∙ begun_long n.latches known)
 
 pub search_cycles-requires-clause-left : goal.search_cycles-requires-clause-left
 search_cycles-requires-clause-left c = comparable c.args.a _ _ _ c.begin.new.net c.in_ok-left.ensures c.requires.left
