@@ -124,13 +124,13 @@ and_from_initial_values() {
   started "$a" "$scratch/old.$number.blif"
   started "$b" "$scratch/new.$number.blif"
   from_initial_values "$scratch/old.$number.blif" "$scratch/new.$number.blif"
-  start="$from from any power-up, where outputs are settled; $(answer_of "$report") from the initial values, by $way"
+  start="$from from any power-up, where outputs are settled$behind; $(answer_of "$report") from the initial values, by $way"
   [ "$(sum_of free)" -eq 0 ] || start+=", with the $(sum_of free) flip-flops at 0 that have none"
 }
 
 # Asks what is to be asked of two designs.
 compare() {
-  local start from ran=''
+  local start from ran='' behind=''
   a=$folder/$old_name.blif b=$folder/$new_name.blif exposed='' settled=''
   if [ -n "$is_reset" ]; then
     from_initial_values "$a" "$b"
@@ -143,7 +143,8 @@ compare() {
     [ -z "$ran" ] || from="different ($ran)"
     look_at_exposed
     [ "$status" -ne 0 ] || look_at_settling
-    start='from any power-up, where outputs are settled'
+    behind_a_reset
+    start="${behind:+$from }from any power-up, where outputs are settled$behind"
     [ -z "$ran" ] || start="different, as $ran"
     if [ "$(sum_of started)" -eq 0 ]; then
       start+='; no flip-flop has an initial value'

@@ -119,18 +119,113 @@ search() {
   sec_to "$found" check "$2" "$3" "${words[@]}" --reset --cycles "$cycles" "${@:4}" || told=$?
 }
 
+# Whether ties of signals show two files equal, for 30 seconds at most; sets `found` to the report and `told` to the status:
+# tied NAME OLD NEW WORDS..
+tied() {
+  local words=() bound=()
+  mapfile -t words < <(valued --conflicts)
+  ! command -v timeout >/dev/null || bound=(timeout 30)
+  found=$scratch/$1.$number told=0
+  sec_to "$found" induct "$2" "$3" "${words[@]}" --signals "${@:4}" 2> "$scratch/said" || told=$?
+}
+
 # In how many cycles a search found no difference.
 searched() {
   sed -n 's/^verdict not-shown cycles \([0-9]*\)$/\1/p' "$found"
 }
 
-# Behind a not-shown from the initial values of two files: a difference in the first cycles is the answer.
-first_difference() {
+# Behind a not-shown from the initial values of two files: ties of signals that show them equal, or a difference in the first cycles, is the answer.
+by_signals_or_search() {
   local found told
+  tied signals "$1" "$2"
+  if [ "$told" -eq 0 ]; then
+    report=$found status=0 way='induct --signals'
+    return
+  fi
   search cycles "$1" "$2"
   case $told in
     1) report=$found status=1 way="check --reset --cycles $cycles" ;;
     2) way+="; no difference within $(searched) cycles" ;;
+  esac
+}
+
+# A file with one output alone: one_output NAME FROM TO
+one_output() {
+  NAME=$1 awk '
+    $1 == ".outputs" || more { if (!told++) print ".outputs " ENVIRON["NAME"]; more = $NF == "\\"; next }
+    { print }' "$2" > "$3" || exit 73
+}
+
+# Behind a search that ended at flip-flops of which a reset says nothing, or at a limit, tries whether an output is known in both designs and differs: where
+# the circuit of what is known shows one, the search over the rows before that, with this output alone, shows it of the designs. Sets `found` and `told` as
+# that does: known_difference ROWS_OF_RESET HELD
+known_difference() {
+  local rails=$scratch/rails guess at name
+  awk -v old="$a" -v resets="$scratch/resets" -v columns="$scratch/columns" -v held="$2" -v head="$rails.head" -v body="$rails.body" -v none="$rails.none" \
+    -f "$parts/rails.awk" "$scratch/resets" "$scratch/columns" "$a" "$b" || exit 73
+  [ -s "$rails.none" ] || return 0
+  { cat "$rails.head" "$rails.body" && echo .end; } > "$rails.blif" || exit 73
+  { cat "$rails.head" "$rails.none" && echo .end; } > "$rails.0.blif" || exit 73
+  cycles=$((cycles + $2 > 1000 ? 1000 : cycles + $2)) search guess "$rails.blif" "$rails.0.blif"
+  [ "$told" -eq 1 ] || return 0
+  guess=$found
+  name=$(sed -n 's/^verdict different differs:\(.*\) cycle .*/\1/p' "$guess")
+  at=$(sed -n 's/^verdict different .* cycle \([0-9]*\) values .*/\1/p' "$guess")
+  # The difference may come while the reset is held.
+  {
+    head -n $((at > 0 && at < $2 ? at + 1 : $2 + 1)) "$1"
+    sed '1,/^verdict/d' "$guess" | awk -v held="$2" -v last="$at" 'NR > held + 1 && NR <= last + 1'
+  } > "$scratch/rows.$number"
+  one_output "$name" "$a" "$scratch/one.old.blif"
+  one_output "$name" "$b" "$scratch/one.new.blif"
+  cycles=0 search known "$scratch/one.old.blif" "$scratch/one.new.blif" --after "$scratch/rows.$number"
+}
+
+# Where it isn't decided from any power-up, and inputs reset the designs: that ties of signals show them equal behind a reset is the answer, or
+# else a difference in the first cycles there. Sets `behind` to what was found. What is known behind the rows of a reset is so whatever the
+# flip-flops held before.
+behind_a_reset() {
+  local found told before held=8 it unknown=''
+  case "$is_given,$status, ${check[*]} " in
+    yes,* | *' --assume'*) return 0 ;;
+    ,[239],*) ;;
+    *) return 0 ;;
+  esac
+  inputs > "$scratch/columns"
+  resets_of > "$scratch/resets"
+  [ -s "$scratch/resets" ] || return 0
+  held_rows "$held" > "$scratch/reset.$number"
+  it="behind $held cycles with $(resets_told)"
+  tied signals "$a" "$b" --after "$scratch/reset.$number"
+  if [ "$told" -eq 0 ]; then
+    report=$found status=0 exposed=''
+    behind="; equal $it, by induct --signals --after"
+    return
+  fi
+  search behind "$a" "$b" --after "$scratch/reset.$number"
+  if [ "$told" -eq 2 ] && [ -z "$(searched)" ]; then
+    unknown=$(awk '$1 == "unknown" { count += $3 } END { print count + 0 }' "$found")
+  fi
+  case $told,$unknown in
+    2,?* | 3,* | 124,*)
+      before=$told
+      known_difference "$scratch/reset.$number" "$held"
+      [ "$told" -eq 1 ] || told=$before
+      ;;
+  esac
+  case $told in
+    1)
+      report=$found status=1 exposed=''
+      behind="; different $it, by check --reset --cycles $cycles --after"
+      ;;
+    0 | 2)
+      if [ -n "$unknown" ]; then
+        behind="; $it not shown either, since $unknown flip-flops stay unknown"
+      else
+        behind="; no difference within $(searched) cycles $it"
+      fi
+      ;;
+    3 | 124) behind="; nothing decided $it" ;;
   esac
 }
 
@@ -144,7 +239,7 @@ from_initial_values() {
     way=induct
     mapfile -t words < <(valued --conflicts)
     sec_to "$report" induct "$1" "$2" "${words[@]}" || status=$?
-    [ "$status" -ne 2 ] || first_difference "$1" "$2"
+    [ "$status" -ne 2 ] || by_signals_or_search "$1" "$2"
   else
     way='check --reset'
     mapfile -t words < <(valued --conflicts --assume)

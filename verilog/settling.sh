@@ -1,5 +1,5 @@
 # shellcheck shell=bash disable=SC2154,SC2034
-# Since when pairs are settled in a random run behind a reset. Read by sec-verilog.
+# Which inputs reset a design, and since when pairs are settled in a random run behind a reset. Read by sec-verilog.
 
 # The inputs of the first file but for both clocks.
 inputs() {
@@ -59,6 +59,17 @@ stimulus() {
 # Which inputs are held at what, in words.
 resets_told() {
   awk '{ print $1 " at " $2 }' "$scratch/resets" | paste -s -d ',' | sed 's/,/, /g'
+}
+
+# A stimulus of some rows in which the resets are held, and all other inputs are 0: held_rows ROWS
+held_rows() {
+  awk -v rows="$1" '
+    FILENAME == ARGV[1] { held_at[$1] = $2; next }
+    { names = names " " $1; line = line ($1 in held_at ? held_at[$1] : 0) }
+    END {
+      print "inputs" names
+      while (rows-- > 0) print line
+    }' "$scratch/resets" "$scratch/columns"
 }
 
 # Sets `settled` to how many pairs are settled, and since when, in a random run behind a reset.

@@ -1,7 +1,7 @@
 -- Words that are written out, computed.
 use Rattle.std.proofs.Common.{refl}
 use Rattle.clap.proofs.OnLiterals.{clap_on_literals}
-use Rattle.command_line.specs.Known.{CheckIsTaken, GraphIsTaken, SimIsTaken, ReplayIsTaken, SettleIsTaken, GenIsTaken, LratIsTaken, CertIsTaken, InductIsTaken, ResetIsTaken, CyclesAreTaken, AssumedIsTaken, CheckSettlesIsTaken, ReplaySettlesIsTaken, SettlesIsRefused, AssumedIsRefused, OtherModeIsNoJob, OtherFormIsNoJob, ResetIsNoJob, CyclesAreNoJob}
+use Rattle.command_line.specs.Known.{CheckIsTaken, GraphIsTaken, SimIsTaken, ReplayIsTaken, SettleIsTaken, GenIsTaken, LratIsTaken, CertIsTaken, InductIsTaken, ResetIsTaken, CyclesAreTaken, AfterIsTaken, AssumedIsTaken, CheckSettlesIsTaken, ReplaySettlesIsTaken, SettlesIsRefused, AssumedIsRefused, OtherModeIsNoJob, OtherFormIsNoJob, ResetIsNoJob, CyclesAreNoJob, AfterIsNoJob, SignalsAreTaken}
 
 pub check_is_taken : CheckIsTaken
 unfolding clap_on_literals
@@ -39,6 +39,10 @@ pub induct_is_taken : InductIsTaken
 unfolding clap_on_literals
 induct_is_taken = (refl, refl)
 
+pub signals_are_taken : SignalsAreTaken
+unfolding clap_on_literals
+signals_are_taken = ((refl, refl), refl, (refl, refl), refl)
+
 pub check_settles_is_taken : CheckSettlesIsTaken
 unfolding clap_on_literals
 check_settles_is_taken = ((refl, refl), refl)
@@ -50,6 +54,10 @@ reset_is_taken = ((refl, refl), refl)
 pub cycles_are_taken : CyclesAreTaken
 unfolding clap_on_literals
 cycles_are_taken = ((refl, refl), refl)
+
+pub after_is_taken : AfterIsTaken
+unfolding clap_on_literals
+after_is_taken = ((refl, refl), refl)
 
 pub assumed_is_taken : AssumedIsTaken
 unfolding clap_on_literals
@@ -82,3 +90,7 @@ reset_is_no_job = ((refl, refl), (refl, refl), (refl, refl), (refl, refl))
 pub cycles_are_no_job : CyclesAreNoJob
 unfolding clap_on_literals
 cycles_are_no_job = ((refl, refl), (refl, refl), (refl, refl), refl)
+
+pub after_is_no_job : AfterIsNoJob
+unfolding clap_on_literals
+after_is_no_job = ((refl, refl), (refl, refl), (refl, refl), (refl, refl))

@@ -62,9 +62,21 @@ abbrev pub checked_in : Bool → Text → Text → Settings → Option Text → 
 checked_in settles a b settings assumed None = Some (compared_in settles a b settings assumed)
 checked_in settles a b settings assumed (Some word) = search_in a b settings assumed word
 
+-- the search behind the rows of a stimulus, up to the cycle that the word spells; it stands only beside `--reset` and `--cycles`, and
+-- without an assumption
+abbrev pub after_in : Text → Text → Text → Settings → Option Text → Option Text → Option Task
+after_in a b s settings assumed None = None
+after_in a b s settings (Some assumed) (Some word) = None
+after_in a b s settings None (Some word) = if settings.reset then option_map (λ cycles. task.After a b s cycles settings.conflicts) (number_of most_cycles word) else None
+
+-- the same where a stimulus is named
+abbrev pub begun_in : Bool → Text → Text → Settings → Option Text → Option Text → Option Text → Option Task
+begun_in settles a b settings assumed cycles None = checked_in settles a b settings assumed cycles
+begun_in settles a b settings assumed cycles (Some s) = after_in a b s settings assumed cycles
+
 abbrev pub check_in : List Row → Option Task
 check_in rows =
-    with_word (codes "a") rows (λ a. with_word (codes "b") rows (λ b. option_and_then (λ settings. checked_in (is_set (codes "settles") rows) a b settings (first_of (codes "assume") rows) (first_of (codes "cycles") rows)) (settings_in rows)))
+    with_word (codes "a") rows (λ a. with_word (codes "b") rows (λ b. option_and_then (λ settings. begun_in (is_set (codes "settles") rows) a b settings (first_of (codes "assume") rows) (first_of (codes "cycles") rows) (first_of (codes "after") rows)) (settings_in rows)))
 
 abbrev pub graph_in : List Row → Option Task
 graph_in rows = with_word (codes "a") rows (λ a. option_map (λ mode. task.Graph a mode) (mode_in rows))
@@ -100,8 +112,20 @@ cert_in rows =
     with_word (codes "a") rows (λ a. with_word (codes "b") rows (λ b. with_word (codes "pair") rows (λ pair.
     option_and_then (λ lrat. option_map (λ conflicts. task.Cert a b pair lrat conflicts) (conflicts_in rows)) (form_in rows))))
 
+-- the induction over both circuits, by ties of signals with `--signals`, and else by blocks of latches
+abbrev pub inducted_in : Bool → Text → Text → ℕ → Task
+inducted_in false a b conflicts = task.Induct a b conflicts
+inducted_in true a b conflicts = task.InductSignals a b conflicts
+
+-- the same where a stimulus is named, behind whose rows both are compared; that stands only beside `--signals`
+abbrev pub tied_in : Bool → Text → Text → ℕ → Option Text → Option Task
+tied_in signals a b conflicts None = Some (inducted_in signals a b conflicts)
+tied_in false a b conflicts (Some s) = None
+tied_in true a b conflicts (Some s) = Some (task.InductAfter a b s conflicts)
+
 abbrev pub induct_in : List Row → Option Task
-induct_in rows = with_word (codes "a") rows (λ a. with_word (codes "b") rows (λ b. option_map (λ conflicts. task.Induct a b conflicts) (conflicts_in rows)))
+induct_in rows =
+    with_word (codes "a") rows (λ a. with_word (codes "b") rows (λ b. option_and_then (λ conflicts. tied_in (is_set (codes "signals") rows) a b conflicts (first_of (codes "after") rows)) (conflicts_in rows)))
 
 -- the task of a subcommand's matches
 abbrev pub task_in : Text → List Row → Option Task

@@ -15,11 +15,19 @@ cycles_given rows (Some word) = is_set (codes "reset") rows && not (is_some (fir
 abbrev pub cycles_fit : List Row → Bool
 cycles_fit rows = cycles_given rows (first_of (codes "cycles") rows)
 
+-- `--after` isn't given, or stands beside `--cycles`
+abbrev pub after_fits : List Row → Bool
+after_fits rows = not (is_some (first_of (codes "after") rows)) || is_some (first_of (codes "cycles") rows)
+
+-- `--after` isn't given, or stands beside `--signals`
+abbrev pub tied_fits : List Row → Bool
+tied_fits rows = not (is_some (first_of (codes "after") rows)) || is_set (codes "signals") rows
+
 -- The mode among the subcommand's matches is one of the two, and `--reset` may stand beside it; `gen`, `lrat` and `induct` have none, and
--- `cert` has a form in its place. Nothing refuses the cycles of `check`.
+-- `cert` has a form in its place. Nothing refuses the cycles of `check`, nor its stimulus, nor that of `induct`.
 abbrev pub mode_fits : Text → List Row → Bool
 mode_fits name rows =
-    bytes_eq name (codes "gen") || (bytes_eq name (codes "lrat") || (bytes_eq name (codes "induct") || (if bytes_eq name (codes "cert") then is_some (form_in rows) else if bytes_eq name (codes "check") then is_some (mode_in rows) && cycles_fit rows else is_some (mode_in rows))))
+    bytes_eq name (codes "gen") || (bytes_eq name (codes "lrat") || (if bytes_eq name (codes "induct") then tied_fits rows else if bytes_eq name (codes "cert") then is_some (form_in rows) else if bytes_eq name (codes "check") then is_some (mode_in rows) && (cycles_fit rows && after_fits rows) else is_some (mode_in rows)))
 
 -- the mode of the subcommand that the words name is one of the two, and nothing refuses `--reset`
 abbrev pub HasFitMode : List Text → Type 0
@@ -60,6 +68,14 @@ CertIsTaken = AreTaken (codes "cert" ∷ codes "a" ∷ codes "b" ∷ codes "y" �
 
 abbrev pub InductIsTaken : Type 0
 InductIsTaken = AreTaken (codes "induct" ∷ codes "a" ∷ codes "b" ∷ codes "--conflicts" ∷ codes "7" ∷ [])
+
+-- words with `--signals`, and what they ask for
+abbrev pub SignalsAreTaken : Type 0
+SignalsAreTaken =
+    AreTaken (codes "induct" ∷ codes "a" ∷ codes "b" ∷ codes "--signals" ∷ [])
+    × (job_of (codes "induct" ∷ codes "--signals" ∷ codes "a" ∷ codes "b" ∷ codes "--conflicts" ∷ codes "7" ∷ []) ≡ Some (task.InductSignals (codes "a") (codes "b") 7))
+    × AreTaken (codes "induct" ∷ codes "a" ∷ codes "b" ∷ codes "--signals" ∷ codes "--after" ∷ codes "s" ∷ [])
+    × (job_of (codes "induct" ∷ codes "a" ∷ codes "b" ∷ codes "--signals" ∷ codes "--after" ∷ codes "s" ∷ []) ≡ Some (task.InductAfter (codes "a") (codes "b") (codes "s") 20000))
 
 -- words with `--reset`, and what they ask for
 abbrev pub ResetIsTaken : Type 0
@@ -130,3 +146,17 @@ CyclesAreNoJob =
     × AreNoJob (codes "check" ∷ codes "a" ∷ codes "b" ∷ codes "--reset" ∷ codes "--cycles" ∷ codes "20" ∷ codes "--assume" ∷ codes "c" ∷ [])
     × AreNoJob (codes "check" ∷ codes "a" ∷ codes "b" ∷ codes "--reset" ∷ codes "--expose" ∷ codes "--cycles" ∷ codes "20" ∷ [])
     × (job_of (codes "check" ∷ codes "a" ∷ codes "b" ∷ codes "--reset" ∷ codes "--cycles" ∷ codes "1001" ∷ []) ≡ None)
+
+-- words with `--after`, and what they ask for
+abbrev pub AfterIsTaken : Type 0
+AfterIsTaken =
+    AreTaken (codes "check" ∷ codes "a" ∷ codes "b" ∷ codes "--reset" ∷ codes "--cycles" ∷ codes "20" ∷ codes "--after" ∷ codes "s" ∷ [])
+    × (job_of (codes "check" ∷ codes "a" ∷ codes "b" ∷ codes "--reset" ∷ codes "--cycles" ∷ codes "20" ∷ codes "--after" ∷ codes "s" ∷ []) ≡ Some (task.After (codes "a") (codes "b") (codes "s") 20 20000))
+
+-- since `--after` stands without `--cycles`, without `--reset`, or with `--assume`; behind `induct` without `--signals`
+abbrev pub AfterIsNoJob : Type 0
+AfterIsNoJob =
+    AreNoJob (codes "check" ∷ codes "a" ∷ codes "b" ∷ codes "--reset" ∷ codes "--after" ∷ codes "s" ∷ [])
+    × AreNoJob (codes "check" ∷ codes "a" ∷ codes "b" ∷ codes "--cycles" ∷ codes "20" ∷ codes "--after" ∷ codes "s" ∷ [])
+    × AreNoJob (codes "check" ∷ codes "a" ∷ codes "b" ∷ codes "--reset" ∷ codes "--cycles" ∷ codes "20" ∷ codes "--after" ∷ codes "s" ∷ codes "--assume" ∷ codes "c" ∷ [])
+    × AreNoJob (codes "induct" ∷ codes "a" ∷ codes "b" ∷ codes "--after" ∷ codes "s" ∷ [])

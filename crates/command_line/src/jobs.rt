@@ -6,7 +6,7 @@ ghost use Rattle.clap.specs.Words.{fault_of, first_of, found_of, rows_of, subcom
 ghost use Rattle.clap.specs.ValueTests.{accepts};
 ghost use Rattle.clap.specs.declared.builder.value_parser.ValueParser.TheVariants as parser;
 ghost use Rattle.command_line.specs.command_words.Command.{sec_app};
-ghost use Rattle.command_line.specs.Jobs.{job_of, task_in, check_in, compared_in, graph_in, sim_in, replay_in, settle_in, gen_in, lrat_in, cert_in, induct_in, form_in, mode_of, mode_in, refuses_reset, is_set, number_of, conflicts_in, settings_in, checked_in, search_in};
+ghost use Rattle.command_line.specs.Jobs.{job_of, task_in, check_in, compared_in, graph_in, sim_in, replay_in, settle_in, gen_in, lrat_in, cert_in, induct_in, form_in, mode_of, mode_in, refuses_reset, is_set, number_of, conflicts_in, settings_in, checked_in, search_in, after_in, inducted_in, tied_in};
 
 use crate::command_words::sec_command;
 use crate::task::Task;
@@ -20,7 +20,8 @@ use std::alloc::{AllocError, Global};
 #[derive(Clone, Copy)]
 pub enum WordsError {
     /// `clap`'s definition for the command doesn't take the words, the mode is neither `plain` nor `event`, `--reset` stands with
-    /// `event`, with `--expose` or with `--settles`, `--cycles` stands without `--reset` or with `--assume`, or the form of a certificate is
+    /// `event`, with `--expose` or with `--settles`, `--cycles` stands without `--reset` or with
+    /// `--assume`, `--after` without `--cycles` or `--signals`, or the form of a certificate is
     /// neither `cnf` nor `lrat`.
     Refused,
     /// Memory was wanted and couldn't be had.
@@ -171,13 +172,50 @@ fn check_in(alloc: Global, matches: &ArgMatches<'_>) -> Result<Option<Task>, NoM
     let Some(settings) = settings_in(matches) else {
         return Ok(None);
     };
-    match word(matches, "cycles") {
-        Some(cycles) => search_in(alloc, a, b, settings, word(matches, "assume"), cycles),
-        None => {
-            let assumed = word(matches, "assume");
-            checked_in(alloc, a, b, settings, assumed, is_set(matches, "settles"))
+    let assumed = word(matches, "assume");
+    match word(matches, "after") {
+        Some(stimulus) => {
+            let cycles = word(matches, "cycles");
+            after_in(alloc, a, b, stimulus, settings, assumed, cycles)
         }
+        None => match word(matches, "cycles") {
+            Some(cycles) => search_in(alloc, a, b, settings, assumed, cycles),
+            None => checked_in(alloc, a, b, settings, assumed, is_set(matches, "settles")),
+        },
     }
+}
+
+/// The search behind the rows of the stimulus, up to the cycle that the word spells. It stands only beside `--reset` and `--cycles`, and
+/// without an assumption.
+fn after_in(
+    alloc: Global,
+    a: &str,
+    b: &str,
+    stimulus: &str,
+    settings: Settings,
+    assumed: Option<&str>,
+    cycles: Option<&str>,
+) -> Result<Option<Task>, NoMemory>
+    ensures { IfOk result (λ task. task ≡ after_in a.now b.now stimulus.now settings (option_map (λ w. w.now) assumed.entry) (option_map (λ w. w.now) cycles.entry)) }
+{
+    if !settings.reset || assumed.is_some() {
+        return Ok(None);
+    }
+    let Some(cycles) = cycles else {
+        return Ok(None);
+    };
+    let Some(cycles) = number_of(0, 1_000, cycles) else {
+        return Ok(None);
+    };
+    let s = FilePath::from_str(alloc, stimulus)?;
+    let (a, b) = paths_of(alloc, a, b)?;
+    Ok(Some(Task::After {
+        a,
+        b,
+        s,
+        cycles: cycles as u32,
+        conflicts: settings.conflicts,
+    }))
 }
 
 /// The check of two circuits, with `--settles` where that stands.
@@ -421,8 +459,43 @@ fn induct_in(alloc: Global, matches: &ArgMatches<'_>) -> Result<Option<Task>, No
     let Some(conflicts) = conflicts_in(matches) else {
         return Ok(None);
     };
+    let signals = is_set(matches, "signals");
+    match word(matches, "after") {
+        Some(stimulus) => tied_in(alloc, signals, a, b, stimulus, conflicts),
+        None => {
+            let (a, b) = paths_of(alloc, a, b)?;
+            Ok(Some(inducted_in(signals, a, b, conflicts)))
+        }
+    }
+}
+
+/// The comparison by ties of signals behind the rows of the stimulus. It stands only beside `--signals`.
+fn tied_in(
+    alloc: Global,
+    signals: bool,
+    a: &str,
+    b: &str,
+    stimulus: &str,
+    conflicts: u32,
+) -> Result<Option<Task>, NoMemory>
+    ensures { IfOk result (λ task. task ≡ tied_in signals a.now b.now conflicts (Some stimulus.now)) }
+{
+    if !signals {
+        return Ok(None);
+    }
+    let s = FilePath::from_str(alloc, stimulus)?;
     let (a, b) = paths_of(alloc, a, b)?;
-    Ok(Some(Task::Induct { a, b, conflicts }))
+    Ok(Some(Task::InductAfter { a, b, s, conflicts }))
+}
+
+/// The induction over these files, by ties of signals where `--signals` stands.
+fn inducted_in(signals: bool, a: FilePath, b: FilePath, conflicts: u32) -> Task
+    ensures { result ≡ inducted_in signals a b conflicts }
+{
+    if signals {
+        return Task::InductSignals { a, b, conflicts };
+    }
+    Task::Induct { a, b, conflicts }
 }
 
 /// The task of a subcommand's matches.

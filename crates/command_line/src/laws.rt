@@ -1,7 +1,7 @@
 //! What follows for the words. The functions do nothing: each contract is a law.
 
 ghost use Rattle.command_line.specs.Allowed.{JobsAreAllowed};
-ghost use Rattle.command_line.specs.Known.{TakenWordsAreJob, CheckIsTaken, GraphIsTaken, SimIsTaken, ReplayIsTaken, SettleIsTaken, GenIsTaken, LratIsTaken, CertIsTaken, InductIsTaken, ResetIsTaken, CyclesAreTaken, AssumedIsTaken, CheckSettlesIsTaken, ReplaySettlesIsTaken, SettlesIsRefused, AssumedIsRefused, OtherModeIsNoJob, OtherFormIsNoJob, ResetIsNoJob, CyclesAreNoJob};
+ghost use Rattle.command_line.specs.Known.{TakenWordsAreJob, CheckIsTaken, GraphIsTaken, SimIsTaken, ReplayIsTaken, SettleIsTaken, GenIsTaken, LratIsTaken, CertIsTaken, InductIsTaken, ResetIsTaken, CyclesAreTaken, AfterIsTaken, AssumedIsTaken, CheckSettlesIsTaken, ReplaySettlesIsTaken, SettlesIsRefused, AssumedIsRefused, OtherModeIsNoJob, OtherFormIsNoJob, ResetIsNoJob, CyclesAreNoJob, AfterIsNoJob, SignalsAreTaken};
 
 /// Words that `clap`'s definition for the command takes are a job wherever their mode is `plain` or `event` and `--reset` stands
 /// neither with `event` nor with `--expose` or `--settles`, and `--cycles` only with `--reset` and without `--assume`, or they name the subcommand `gen`, `lrat` or `induct`, which have no mode, or `cert` with
@@ -29,12 +29,15 @@ pub fn words_are_taken()
     ensures of_assumed { AssumedIsTaken }
 {}
 
-/// The same of `settle`, of `check` and `replay` with `--settles`, and of `check` with `--cycles`.
+/// The same of `settle`, of `check` and `replay` with `--settles`, of `check` with `--cycles` and with `--after`, and of
+/// `induct` with `--signals`.
 pub fn further_words_are_taken()
     ensures of_settle { SettleIsTaken }
     ensures of_check { CheckSettlesIsTaken }
     ensures of_replay { ReplaySettlesIsTaken }
     ensures of_cycles { CyclesAreTaken }
+    ensures of_after { AfterIsTaken }
+    ensures of_signals { SignalsAreTaken }
 {}
 
 /// Words that `clap`'s definition doesn't take: `--assume` without a path behind it, or twice; `--settles` behind `settle`.
@@ -43,11 +46,12 @@ pub fn refused_words_are_no_job()
     ensures of_settles { SettlesIsRefused }
 {}
 
-/// Words that are taken and are no job: they have another mode or another form, or `--reset` or `--cycles` beside what refuses
-/// it.
+/// Words that are taken and are no job: they have another mode or another form, or `--reset`, `--cycles` or `--after` beside what
+/// refuses it.
 pub fn taken_words_are_no_job()
     ensures of_mode { OtherModeIsNoJob }
     ensures of_form { OtherFormIsNoJob }
     ensures of_clash { ResetIsNoJob }
     ensures of_cycles { CyclesAreNoJob }
+    ensures of_after { AfterIsNoJob }
 {}

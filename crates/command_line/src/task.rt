@@ -75,10 +75,31 @@ pub enum Task {
         cycles: u32,
         conflicts: u32,
     },
+    /// Search them for a difference behind the rows of a stimulus, whatever they power up with, in the cycles from 0 to a last one there.
+    After {
+        a: FilePath,
+        b: FilePath,
+        s: FilePath,
+        cycles: u32,
+        conflicts: u32,
+    },
     /// Compare the circuits of two files from their initial values, by blocks of latches that are equal in every cycle.
     Induct {
         a: FilePath,
         b: FilePath,
+        conflicts: u32,
+    },
+    /// Compare them so by ties of signals, which are equal or complements in every cycle.
+    InductSignals {
+        a: FilePath,
+        b: FilePath,
+        conflicts: u32,
+    },
+    /// Compare them by ties of signals behind the rows of a stimulus, whatever they power up with.
+    InductAfter {
+        a: FilePath,
+        b: FilePath,
+        s: FilePath,
         conflicts: u32,
     },
 }
@@ -139,9 +160,27 @@ impl Drop for Task {
                 cycles: _,
                 conflicts: _,
             } => {}
+            Task::After {
+                a: _,
+                b: _,
+                s: _,
+                cycles: _,
+                conflicts: _,
+            } => {}
             Task::Induct {
                 a: _,
                 b: _,
+                conflicts: _,
+            } => {}
+            Task::InductSignals {
+                a: _,
+                b: _,
+                conflicts: _,
+            } => {}
+            Task::InductAfter {
+                a: _,
+                b: _,
+                s: _,
                 conflicts: _,
             } => {}
         }

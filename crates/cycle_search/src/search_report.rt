@@ -3,4 +3,5 @@
 mod text;
 mod whole;
 
-pub use whole::report;
+pub use text::{put_count_line, put_name, put_values, put_verdict};
+pub use whole::{put_front, report};

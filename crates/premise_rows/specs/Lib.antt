@@ -13,3 +13,5 @@ pub mod event_apart_premises
 pub mod event_limit_premises
 pub mod event_class_premises
 pub mod one_text_runs
+pub mod certificate_premises
+pub mod search_premises

@@ -2,6 +2,7 @@
 #![tactic(auto)]
 
 pub mod block_premises;
+pub mod certificate_premises;
 pub mod event_apart_premises;
 pub mod event_assume_rows;
 pub mod event_class_premises;
@@ -12,6 +13,7 @@ pub mod event_pair_premises;
 pub mod event_premises;
 pub mod job_rows;
 pub mod one_text_runs;
+pub mod search_premises;
 
 ghost use Rattle.premise_rows.specs.AndFile.{FileIsComparable};
 ghost use Rattle.premise_rows.specs.Premises.{AndsAreComparable, RetimedAreComparable, HierarchyIsComparable, CyclicAreComparable, TextsAreAccepted};

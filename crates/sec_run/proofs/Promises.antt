@@ -19,6 +19,10 @@ use Rattle.job_circuit.proofs.job_replay.CompleteReplays.{replay_complete}
 use Rattle.job_check.proofs.check_meaning.Complete.{check_complete}
 use Rattle.job_check.proofs.check_meaning.Means.{check_means}
 use Rattle.job_settles.proofs.Means.{settles_means, settles_complete}
+use Rattle.job_signals.proofs.Means.{signals_means}
+use Rattle.job_tied.proofs.Means.{tied_means}
+use Rattle.job_signals.proofs.Complete.{signals_complete}
+use Rattle.job_tied.proofs.Complete.{tied_complete}
 use Rattle.sec_jobs.proofs.job_gen.gen_meaning.Means.{gen_means, gen_complete}
 use Rattle.sec_jobs.proofs.job_cert.job_lrat.Means.{lrat_means, lrat_complete}
 use Rattle.sec_jobs.proofs.job_cert.Means.{cert_means}
@@ -27,6 +31,8 @@ use Rattle.sec_jobs.proofs.job_induct.induct_meaning.Means.{induct_means}
 use Rattle.sec_jobs.proofs.job_induct.induct_meaning.Complete.{induct_complete}
 use Rattle.sec_jobs.proofs.job_search.search_meaning.Means.{search_means}
 use Rattle.sec_jobs.proofs.job_search.search_meaning.Complete.{search_complete}
+use Rattle.job_after.proofs.Means.{after_means}
+use Rattle.job_after.proofs.Complete.{after_complete}
 use Rattle.sec_run.specs.Answer.{IsFinding}
 use Rattle.sec_run.specs.Promises.{Means, IsComplete}
 
@@ -44,7 +50,10 @@ means held (Some (task.Gen seed regroup conflicts)) before now f proofs name fou
 means held (Some (task.Lrat f l)) before now found proofs name is w = lrat_means (held f) (held l) before now found proofs name is w
 means held (Some (task.Cert a b pair lrat conflicts)) before now f proofs name found w = cert_means (record { pair = pair; refuted = lrat; conflicts = conflicts }) (held a) (held b) before now f proofs name found w
 means held (Some (task.Search a b cycles conflicts)) before now f proofs name found w = search_means cycles conflicts (held a) (held b) before now f proofs name found w
+means held (Some (task.After a b s cycles conflicts)) before now f proofs name found w = after_means cycles conflicts (held a) (held b) (held s) before now f proofs name found w
 means held (Some (task.Induct a b conflicts)) before now f proofs name found w = induct_means conflicts (held a) (held b) before now f proofs name found w
+means held (Some (task.InductSignals a b conflicts)) before now f proofs name found w = signals_means (held a) (held b) before now f proofs name found w
+means held (Some (task.InductAfter a b s conflicts)) before now f proofs name found w = tied_means (held a) (held b) (held s) before now f proofs name found w
 
 -- a run that ends before it has found anything says nothing
 pub memory_means : (held : Held) (job : Option Task) (before now : Option (List ℕ)) (proofs : List Proof) → Means held job before now proofs status.NoMemory
@@ -59,7 +68,10 @@ memory_means held (Some (task.Gen seed regroup conflicts)) before now proofs = t
 memory_means held (Some (task.Lrat f l)) before now proofs = tt
 memory_means held (Some (task.Cert a b pair lrat conflicts)) before now proofs = tt
 memory_means held (Some (task.Search a b cycles conflicts)) before now proofs = tt
+memory_means held (Some (task.After a b s cycles conflicts)) before now proofs = tt
 memory_means held (Some (task.Induct a b conflicts)) before now proofs = tt
+memory_means held (Some (task.InductSignals a b conflicts)) before now proofs = tt
+memory_means held (Some (task.InductAfter a b s conflicts)) before now proofs = tt
 
 pub fault_means : (held : Held) (job : Option Task) (before now : Option (List ℕ)) (proofs : List Proof) → Means held job before now proofs status.ReadFault
 fault_means held None before now proofs = tt
@@ -73,7 +85,10 @@ fault_means held (Some (task.Gen seed regroup conflicts)) before now proofs = tt
 fault_means held (Some (task.Lrat f l)) before now proofs = tt
 fault_means held (Some (task.Cert a b pair lrat conflicts)) before now proofs = tt
 fault_means held (Some (task.Search a b cycles conflicts)) before now proofs = tt
+fault_means held (Some (task.After a b s cycles conflicts)) before now proofs = tt
 fault_means held (Some (task.Induct a b conflicts)) before now proofs = tt
+fault_means held (Some (task.InductSignals a b conflicts)) before now proofs = tt
+fault_means held (Some (task.InductAfter a b s conflicts)) before now proofs = tt
 
 -- a job that can be done is done, by what is found of it
 is_complete : (held : Held) (job : Option Task) (f : Finding) → IsFinding held job f → IsComplete held job (status_of f)
@@ -88,7 +103,10 @@ is_complete held (Some (task.Gen seed regroup conflicts)) f found = gen_complete
 is_complete held (Some (task.Lrat f l)) found is = lrat_complete (held f) (held l) found is
 is_complete held (Some (task.Cert a b pair lrat conflicts)) f found = cert_complete (record { pair = pair; refuted = lrat; conflicts = conflicts }) (held a) (held b) f found
 is_complete held (Some (task.Search a b cycles conflicts)) f found = search_complete cycles conflicts (held a) (held b) f found
+is_complete held (Some (task.After a b s cycles conflicts)) f found = after_complete cycles conflicts (held a) (held b) (held s) f found
 is_complete held (Some (task.Induct a b conflicts)) f found = induct_complete conflicts (held a) (held b) f found
+is_complete held (Some (task.InductSignals a b conflicts)) f found = signals_complete (held a) (held b) f found
+is_complete held (Some (task.InductAfter a b s conflicts)) f found = tied_complete (held a) (held b) (held s) f found
 
 -- so is one that ends at want of memory
 pub memory_is_complete : (held : Held) (job : Option Task) → IsComplete held job status.NoMemory
@@ -103,7 +121,10 @@ memory_is_complete held (Some (task.Gen seed regroup conflicts)) = tt
 memory_is_complete held (Some (task.Lrat f l)) = λ can. inr refl
 memory_is_complete held (Some (task.Cert a b pair lrat conflicts)) = memory_cert (record { pair = pair; refuted = lrat; conflicts = conflicts }) (held a) (held b)
 memory_is_complete held (Some (task.Search a b cycles conflicts)) = λ can. tt
+memory_is_complete held (Some (task.After a b s cycles conflicts)) = λ can. tt
 memory_is_complete held (Some (task.Induct a b conflicts)) = λ can. tt
+memory_is_complete held (Some (task.InductSignals a b conflicts)) = λ can. tt
+memory_is_complete held (Some (task.InductAfter a b s conflicts)) = λ can. tt
 
 -- so a run is complete that ends with a finding, or at want of memory
 pub written_is_complete : (held : Held) (job : Option Task) (before now : Option (List ℕ)) (f : Finding) (proofs : List Proof) (name : StatusName) →

@@ -18,9 +18,12 @@ use Rattle.job_circuit.specs.declared.job_replay.replays.ReplayReport.TheVariant
 use Rattle.job_circuit.specs.job_replay.Told.{report_with}
 use Rattle.job_check.specs.check_meaning.check_found.Found.{IsFoundOf}
 use Rattle.job_settles.specs.Found.{IsSettlesFound}
+use Rattle.job_signals.specs.Found.{IsSignalsFound}
+use Rattle.job_tied.specs.Found.{IsTiedFound}
 use Rattle.sec_jobs.specs.job_gen.gen_meaning.Found.{IsGenFound}
 use Rattle.sec_jobs.specs.job_cert.job_lrat.Found.{IsLratFound}
 use Rattle.sec_jobs.specs.job_cert.Found.{IsCertFound}
+use Rattle.job_after.specs.Answer.{IsAfterFound}
 use Rattle.sec_jobs.specs.job_induct.induct_meaning.Found.{IsInductFound}
 use Rattle.sec_jobs.specs.job_search.search_meaning.Found.{IsSearchFound}
 
@@ -36,7 +39,10 @@ IsFoundOfJob held (task.Gen seed regroup conflicts) f = IsGenFound (record { see
 IsFoundOfJob held (task.Lrat f l) found = IsLratFound (held f) (held l) found
 IsFoundOfJob held (task.Cert a b pair lrat conflicts) f = IsCertFound (record { pair = pair; refuted = lrat; conflicts = conflicts }) (held a) (held b) f
 IsFoundOfJob held (task.Search a b cycles conflicts) f = IsSearchFound cycles conflicts (held a) (held b) f
+IsFoundOfJob held (task.After a b s cycles conflicts) f = IsAfterFound cycles conflicts (held a) (held b) (held s) f
 IsFoundOfJob held (task.Induct a b conflicts) f = IsInductFound conflicts (held a) (held b) f
+IsFoundOfJob held (task.InductSignals a b conflicts) f = IsSignalsFound (held a) (held b) f
+IsFoundOfJob held (task.InductAfter a b s conflicts) f = IsTiedFound (held a) (held b) (held s) f
 
 -- what is found: that the words are no job, or what is true of the job
 abbrev pub IsFinding : Held → Option Task → Finding → Type 0

@@ -22,7 +22,10 @@ paths_of (task.Gen seed regroup conflicts) = []
 paths_of (task.Lrat f l) = lrat_paths f l
 paths_of (task.Cert a b pair lrat conflicts) = cert_paths a b
 paths_of (task.Search a b cycles conflicts) = induct_paths a b
+paths_of (task.After a b s cycles conflicts) = replay_paths a b s
 paths_of (task.Induct a b conflicts) = induct_paths a b
+paths_of (task.InductSignals a b conflicts) = induct_paths a b
+paths_of (task.InductAfter a b s conflicts) = replay_paths a b s
 
 -- none where the words are no job
 abbrev pub paths_in : Option Task → List (List ℕ)
@@ -41,7 +44,10 @@ GoesOn (task.Gen seed regroup conflicts) = IsLoaded
 GoesOn (task.Lrat f l) = AreSpelled
 GoesOn (task.Cert a b pair lrat conflicts) = IsLoaded
 GoesOn (task.Search a b cycles conflicts) = IsLoaded
+GoesOn (task.After a b s cycles conflicts) = IsLoaded
 GoesOn (task.Induct a b conflicts) = IsLoaded
+GoesOn (task.InductSignals a b conflicts) = IsLoaded
+GoesOn (task.InductAfter a b s conflicts) = IsLoaded
 
 -- words that are no job read nothing
 abbrev pub GoesOnIn : Option Task → Option (List ℕ) → Type 0

@@ -13,9 +13,12 @@ use Rattle.job_circuit.specs.declared.job_replay.replays.ReplayReport.TheVariant
 use Rattle.job_circuit.specs.job_replay.Told.{report_with}
 use Rattle.job_check.specs.check_meaning.Answer.{CheckMeans, IsCheckComplete}
 use Rattle.job_settles.specs.Answer.{SettlesMeans}
+use Rattle.job_signals.specs.Answer.{SignalsMeans}
+use Rattle.job_tied.specs.Answer.{TiedMeans, IsTiedComplete}
 use Rattle.sec_jobs.specs.job_gen.gen_meaning.Answer.{GenMeans, IsGenAnswer}
 use Rattle.sec_jobs.specs.job_cert.job_lrat.Answer.{LratMeans, IsLratComplete}
 use Rattle.sec_jobs.specs.job_cert.Answer.{CertMeans, IsCertComplete}
+use Rattle.job_after.specs.Answer.{AfterMeans, IsAfterComplete}
 use Rattle.sec_jobs.specs.job_induct.induct_meaning.Answer.{InductMeans, IsInductComplete}
 use Rattle.sec_jobs.specs.job_search.search_meaning.Answer.{SearchMeans, IsSearchComplete}
 
@@ -32,7 +35,10 @@ Means held (Some (task.Gen seed regroup conflicts)) before now proofs name = Gen
 Means held (Some (task.Lrat f l)) before now proofs name = LratMeans (held f) (held l) before now name
 Means held (Some (task.Cert a b pair lrat conflicts)) before now proofs name = CertMeans (record { pair = pair; refuted = lrat; conflicts = conflicts }) (held a) (held b) before now proofs name
 Means held (Some (task.Search a b cycles conflicts)) before now proofs name = SearchMeans cycles conflicts (held a) (held b) before now proofs name
+Means held (Some (task.After a b s cycles conflicts)) before now proofs name = AfterMeans cycles conflicts (held a) (held b) (held s) before now proofs name
 Means held (Some (task.Induct a b conflicts)) before now proofs name = InductMeans conflicts (held a) (held b) before now proofs name
+Means held (Some (task.InductSignals a b conflicts)) before now proofs name = SignalsMeans (held a) (held b) before now proofs name
+Means held (Some (task.InductAfter a b s conflicts)) before now proofs name = TiedMeans (held a) (held b) (held s) before now proofs name
 
 -- Where the job can be done, it ends so, if no read and no write fails; words that are no job are told.
 abbrev pub IsComplete : Held → Option Task → StatusName → Type 0
@@ -47,4 +53,7 @@ IsComplete held (Some (task.Gen seed regroup conflicts)) name = IsGenAnswer name
 IsComplete held (Some (task.Lrat f l)) name = IsLratComplete (held f) (held l) name
 IsComplete held (Some (task.Cert a b pair lrat conflicts)) name = IsCertComplete (record { pair = pair; refuted = lrat; conflicts = conflicts }) (held a) (held b) name
 IsComplete held (Some (task.Search a b cycles conflicts)) name = IsSearchComplete (held a) (held b) name
+IsComplete held (Some (task.After a b s cycles conflicts)) name = IsAfterComplete (held a) (held b) (held s) name
 IsComplete held (Some (task.Induct a b conflicts)) name = IsInductComplete (held a) (held b) name
+IsComplete held (Some (task.InductSignals a b conflicts)) name = IsInductComplete (held a) (held b) name
+IsComplete held (Some (task.InductAfter a b s conflicts)) name = IsTiedComplete (held a) (held b) (held s) name

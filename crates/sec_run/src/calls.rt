@@ -13,11 +13,14 @@ ghost use Rattle.sec_run.specs.Ends.{Found};
 ghost use Rattle.sec_run.specs.Promises.{Means, IsComplete};
 
 use command_line::{Task, WordsError, job};
+use job_after::{AfterComparison, compare_after};
 use job_base::{Finding, Status, StatusName, Stop, finish};
 use job_check::{Comparison, check};
 use job_circuit::job_replay::{Replay, ReplayReport, replay_files};
 use job_circuit::{Simulation, simulate, tell_graph};
 use job_settles::check_settles;
+use job_signals::{SignalComparison, compare_by_signals};
+use job_tied::{TiedComparison, compare_tied};
 use sec_base::{FilePath, Shelf, Sink, Word};
 use sec_jobs::job_cert::job_lrat::{Refutation, check_refutation};
 use sec_jobs::job_cert::{Certification, Wanted, certify};
@@ -160,6 +163,22 @@ fn find<S: Shelf>(alloc: Global, task: &Task, shelf: &mut S) -> Result<Finding, 
             };
             compare_in_cycles(alloc, &comparison, shelf)
         }
+        Task::After {
+            a,
+            b,
+            s,
+            cycles,
+            conflicts,
+        } => {
+            let comparison = AfterComparison {
+                left: a.as_str(),
+                right: b.as_str(),
+                stimulus: s.as_str(),
+                cycles: *cycles,
+                conflicts: *conflicts,
+            };
+            compare_after(alloc, &comparison, shelf)
+        }
         Task::Induct { a, b, conflicts } => {
             let comparison = BlockComparison {
                 left: a.as_str(),
@@ -167,6 +186,23 @@ fn find<S: Shelf>(alloc: Global, task: &Task, shelf: &mut S) -> Result<Finding, 
                 conflicts: *conflicts,
             };
             compare_by_blocks(alloc, &comparison, shelf)
+        }
+        Task::InductSignals { a, b, conflicts } => {
+            let comparison = SignalComparison {
+                left: a.as_str(),
+                right: b.as_str(),
+                conflicts: *conflicts,
+            };
+            compare_by_signals(alloc, &comparison, shelf)
+        }
+        Task::InductAfter { a, b, s, conflicts } => {
+            let comparison = TiedComparison {
+                left: a.as_str(),
+                right: b.as_str(),
+                stimulus: s.as_str(),
+                conflicts: *conflicts,
+            };
+            compare_tied(alloc, &comparison, shelf)
         }
     }
 }

@@ -3,6 +3,7 @@
 
 mod apart;
 mod choice;
+mod constants;
 pub mod node_agreement;
 mod queries;
 mod query;

@@ -12,6 +12,7 @@ mod table;
 pub use aig::lane_eval::root_classes::{SignatureTable, leads_of, signatures, variables};
 pub use budget::{Budget, Effort};
 pub use pair_decide::{Decision, Query, SameBy, decide};
+pub(crate) use proof::prove_wholly;
 pub use proof::{Proved, prove};
 pub use signs::{signed, zero};
-pub use sweep_candidates::Hints;
+pub use sweep_candidates::{Hints, Model};

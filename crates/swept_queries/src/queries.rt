@@ -10,6 +10,7 @@ ghost use Rattle.swept_queries.specs.Lanes.{DiffersAt};
 ghost use Rattle.swept_queries.specs.InStead.{MayBeWithin, AreKnownWithin, IsMovedTo, AreSwept, IsKnown, IsTrueOf, StandFor, DecidesInStead, sides_of};
 
 use crate::choice::{chosen, is_any_open};
+use crate::constants::tried_words;
 use crate::query::query_in_stead;
 use crate::roots::{known_after, roots_of};
 use crate::sides::{Known, Sides};
@@ -18,7 +19,7 @@ use crate::sweep::{
     sweep_across,
 };
 use crate::targets::{is_any_left, lits_of};
-use crate::words::{bits_at, seeded_words};
+use crate::words::bits_at;
 use aig::MAX_TABLE_VARIABLES;
 use std::alloc::Global;
 
@@ -41,7 +42,7 @@ impl Drop for SweptQueries {
     }
 }
 
-/// Tries 512 assignments on the given queries, and sweeps the graph, with at most so many conflicts, for those that aren't told apart
+/// Tries 512 assignments on the given queries, of which 64 may be near one that gives a node its rare value, and sweeps the graph, with at most so many conflicts, for those that aren't told apart
 /// and whose sides are different literals. Where there is none, nothing is swept.
 pub fn sweep_queries(
     alloc: Global,
@@ -59,7 +60,7 @@ pub fn sweep_queries(
             words: Vec::new(alloc),
         });
     }
-    let words = seeded_words(alloc, aig.vars())?;
+    let words = tried_words(alloc, aig, given, conflicts)?;
     let asked = chosen(alloc, aig, given, words.as_slice())?;
     let swept = sweep_twice(alloc, aig, asked.as_slice(), conflicts, words.as_slice())?;
     Ok(SweptQueries {

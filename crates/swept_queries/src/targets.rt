@@ -19,6 +19,16 @@ pub(crate) fn is_any_left(known: &[Known]) -> bool {
     false
 }
 
+/// Whether there is a query that an assignment tells apart.
+pub(crate) fn is_any_told(known: &[Known]) -> bool {
+    for i in 0..known.len() {
+        if matches!(known[i], Known::Apart(_)) {
+            return true;
+        }
+    }
+    false
+}
+
 /// The left sides of these queries, or all their literals.
 pub(crate) fn lits_of(alloc: Global, known: &[Known], all: bool) -> Result<Vec<Lit>, NoMemory>
     ensures { IfOk result (λ lits. (g : List Node) → All (AreKnownWithin g) known.now → All (λ l. l.0 < 2 * length g) lits.items) }

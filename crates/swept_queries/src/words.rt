@@ -5,6 +5,7 @@ ghost use Rattle.swept_queries.specs.sweep.lane_eval.Signatures.{word_lane};
 ghost use Rattle.swept_queries.specs.Lanes.{lane_bits};
 ghost use Rattle.swept_queries.specs.Words.{words_for};
 
+use crate::node_agreement::Model;
 use crate::sweep::{Bits, NoMemory};
 use rand_core::SeedableRng;
 use rand_core::utils::NextWord;
@@ -53,4 +54,19 @@ fn word_at(words: &[u64], place: usize) -> u64
     ensures { result ≡ slice_index words.now place }
 {
     if place < words.len() { words[place] } else { 0 }
+}
+
+/// Gives each variable of the model as its last word 64 times the model's bit, of which one is turned, or some where there are more than
+/// 63 variables. The first isn't.
+pub(crate) fn put_model(words: &mut [u64], model: &Model)
+    ensures { length words.new ≡ length words.old }
+{
+    let count = model.vars.len().min(model.bits.len());
+    for i in 0..count {
+        let place = 8 * (model.vars[i] as usize) + 7;
+        if place < words.len() {
+            let word = if model.bits[i] { u64::MAX } else { 0 };
+            words[place] = word ^ (2u64 << ((i % 63) as u32));
+        }
+    }
 }

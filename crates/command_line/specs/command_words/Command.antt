@@ -47,7 +47,7 @@ abbrev pub mode : Rule
 mode = option_with (codes "mode") (codes "plain")
 
 abbrev pub check_app : App
-check_app = fold with_rule (new_app (codes "check")) (place (codes "a") ∷ place (codes "b") ∷ mode ∷ flag (codes "expose") ∷ conflicts ∷ flag (codes "reset") ∷ option (codes "assume") ∷ flag (codes "settles") ∷ cycles ∷ [])
+check_app = fold with_rule (new_app (codes "check")) (place (codes "a") ∷ place (codes "b") ∷ mode ∷ flag (codes "expose") ∷ conflicts ∷ flag (codes "reset") ∷ option (codes "assume") ∷ flag (codes "settles") ∷ cycles ∷ option (codes "after") ∷ [])
 
 abbrev pub graph_app : App
 graph_app = fold with_rule (new_app (codes "graph")) (place (codes "a") ∷ mode ∷ [])
@@ -71,7 +71,7 @@ abbrev pub cert_app : App
 cert_app = fold with_rule (new_app (codes "cert")) (place (codes "a") ∷ place (codes "b") ∷ place (codes "pair") ∷ place (codes "form") ∷ conflicts ∷ [])
 
 abbrev pub induct_app : App
-induct_app = fold with_rule (new_app (codes "induct")) (place (codes "a") ∷ place (codes "b") ∷ conflicts ∷ [])
+induct_app = fold with_rule (new_app (codes "induct")) (place (codes "a") ∷ place (codes "b") ∷ conflicts ∷ flag (codes "signals") ∷ option (codes "after") ∷ [])
 
 -- `sec` with one of its subcommands
 abbrev pub top_app : App

@@ -41,7 +41,7 @@ enum Subcommand {
     Lrat,
     /// Two circuits, the name of outputs, and the form of their certificate.
     Cert,
-    /// Two circuits that are compared from their initial values by blocks of latches.
+    /// Two circuits that are compared from their initial values by blocks of latches, or by ties of signals.
     Induct,
 }
 
@@ -76,6 +76,7 @@ fn words_of<'a>(which: Subcommand) -> (&'a str, &'a [Word<'a>])
                 Word::Option("assume"),
                 Word::Flag("settles"),
                 Word::Cycles,
+                Word::Option("after"),
             ],
         ),
         Subcommand::Graph => ("graph", &[Word::Place("a"), MODE]),
@@ -120,7 +121,13 @@ fn words_of<'a>(which: Subcommand) -> (&'a str, &'a [Word<'a>])
         ),
         Subcommand::Induct => (
             "induct",
-            &[Word::Place("a"), Word::Place("b"), Word::Conflicts],
+            &[
+                Word::Place("a"),
+                Word::Place("b"),
+                Word::Conflicts,
+                Word::Flag("signals"),
+                Word::Option("after"),
+            ],
         ),
     }
 }

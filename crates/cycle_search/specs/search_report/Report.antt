@@ -53,7 +53,10 @@ verdict_text conflicts last (verdict.NoDifference stopped) = stop_line last stop
 verdict_text conflicts last (verdict.Different w) = different_text w
 verdict_text conflicts last (verdict.Limit name) = codes "verdict limit " ++ pair_text name ++ (codes " conflicts " ++ decimal conflicts ++ 10 ∷ [])
 
+-- what stands before the verdict
+abbrev pub front_text : NetView → NetView → ℕ → Searched → List ℕ
+front_text a b cycles s = counts_text (length (shared_inputs (ports_of a) (ports_of b))) (length a.latches) (length b.latches) ++ cycles_text cycles ++ flat_map pair_line s.pairs
+
 -- the whole report
 abbrev pub search_text : NetView → NetView → ℕ → ℕ → Searched → List ℕ
-search_text a b cycles conflicts s =
-    counts_text (length (shared_inputs (ports_of a) (ports_of b))) (length a.latches) (length b.latches) ++ cycles_text cycles ++ flat_map pair_line s.pairs ++ verdict_text conflicts s.last s.verdict
+search_text a b cycles conflicts s = front_text a b cycles s ++ verdict_text conflicts s.last s.verdict

@@ -22,7 +22,7 @@ fn put_count(alloc: Global, text: &mut Vec<u8>, front: &[u8], number: u64) -> Re
 }
 
 /// Puts the number behind what stands before it, and ends the line.
-fn put_count_line(
+pub fn put_count_line(
     alloc: Global,
     text: &mut Vec<u8>,
     front: &[u8],
@@ -35,7 +35,7 @@ fn put_count_line(
 }
 
 /// Puts the name of a pair behind what stands before it: an output's, or `next` and a latch's.
-fn put_name(text: &mut Vec<u8>, front: &[u8], name: &PairName) -> Result<(), NoMemory>
+pub fn put_name(text: &mut Vec<u8>, front: &[u8], name: &PairName) -> Result<(), NoMemory>
     ensures { OnOk result (text.new.items ≡ text.old.items ++ (front.now ++ pair_text name.now)) }
 {
     put(text, front)?;
@@ -102,7 +102,7 @@ fn put_stop(
 
 /// Puts the cycle of a difference and the values of both sides.
 #[tactic(auto, unfolding(crate::specs::search_report::Report::values_text))]
-fn put_values(alloc: Global, text: &mut Vec<u8>, witness: &Witness) -> Result<(), NoMemory>
+pub fn put_values(alloc: Global, text: &mut Vec<u8>, witness: &Witness) -> Result<(), NoMemory>
     ensures { OnOk result (text.new.items ≡ text.old.items ++ values_text witness.now) }
 {
     put_count(alloc, text, b" cycle ", u64::from(witness.cycle))?;
@@ -146,7 +146,7 @@ fn put_powers(text: &mut Vec<u8>, shown: &ResetWitness) -> Result<(), NoMemory>
 }
 
 /// Puts the verdict, with what shows it.
-pub(crate) fn put_verdict(
+pub fn put_verdict(
     alloc: Global,
     text: &mut Vec<u8>,
     conflicts: u32,

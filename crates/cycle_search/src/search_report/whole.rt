@@ -1,7 +1,7 @@
 //! The whole report.
 
 ghost use Rattle.std.specs.Prelude.{◌≡◌, ◌++◌, length, codes, IfOk, OnOk};
-ghost use Rattle.cycle_search.specs.search_report.Report.{counts_text, cycles_text, search_text};
+ghost use Rattle.cycle_search.specs.search_report.Report.{counts_text, cycles_text, front_text, search_text};
 
 use crate::found::Searched;
 use crate::search_report::text::{put_pairs, put_verdict};
@@ -25,13 +25,27 @@ pub fn report(
 ) -> Result<Text, NoMemory>
     ensures { IfOk result (λ text. text ≡ search_text a.now b.now cycles conflicts searched.now) }
 {
-    let inputs = inputs_beside(alloc, a, b)?;
     let mut text = Vec::new(alloc);
-    put_counts(alloc, &mut text, &inputs, a, b)?;
-    put_cycles(alloc, &mut text, cycles)?;
-    put_pairs(alloc, &mut text, searched.pairs.as_slice())?;
+    put_front(alloc, &mut text, a, b, cycles, searched)?;
     put_verdict(alloc, &mut text, conflicts, searched)?;
     Ok(Seq::from_vec(text))
+}
+
+/// Puts what stands before the verdict.
+pub fn put_front(
+    alloc: Global,
+    text: &mut Vec<u8>,
+    a: &Net,
+    b: &Net,
+    cycles: u32,
+    searched: &Searched,
+) -> Result<(), NoMemory>
+    ensures { OnOk result (text.new.items ≡ text.old.items ++ front_text a.now b.now cycles searched.now) }
+{
+    let inputs = inputs_beside(alloc, a, b)?;
+    put_counts(alloc, text, &inputs, a, b)?;
+    put_cycles(alloc, text, cycles)?;
+    put_pairs(alloc, text, searched.pairs.as_slice())
 }
 
 /// Puts how many inputs are shared and how many latches A and B have.

@@ -39,7 +39,7 @@ use Rattle.job_check.proofs.check_meaning.check_texts.Uncut.{uncut_is}
 use Rattle.job_check.proofs.check_meaning.design_rows.SpelledTexts.{late_spells, early_spells}
 use Rattle.premise_rows.proofs.block_premises.ResetBounds.{times, SeenBelow, cycles_weigh, depth_low}
 
-abbrev outputs_in : Circuit ℕ → List ℕ
+abbrev pub outputs_in : Circuit ℕ → List ℕ
 outputs_in c = map (λ (o : Named ℕ). o.place) c.outputs
 
 -- nothing is in the list of none
@@ -47,7 +47,7 @@ nothing : {X : Type 0} (x : X) → Contains [] x → ⊥
 nothing x h = omega (arith, h.1)
 
 module _ (s t : Small) (a b : NetView) (left : IsSmall s a) (right : IsSmall t b) (none_left : s.removed ≡ []) (none_right : t.removed ≡ []) where
-  left_light : (cap : ℕ) → IsOver (circuit_of a) (outputs_in (circuit_of a)) cap → cap < s.weight
+  pub left_light : (cap : ℕ) → IsOver (circuit_of a) (outputs_in (circuit_of a)) cap → cap < s.weight
   left_light cap over =
       left.light cap (subst (λ (names : List (List ℕ)). IsOver (cut names (circuit_of a)) (outputs_in (cut names (circuit_of a))) cap) (sym none_left)
       (subst (λ (c : Circuit ℕ). IsOver c (outputs_in c) cap) (sym (uncut_is (circuit_of a))) over))

@@ -43,10 +43,10 @@ module _ (literals c : List Literal) (ordered : EachPair (λ (l m : Literal). l.
   pub clause_of : IsClauseOf literals c
   clause_of = (clause_is, same_literals, λ t. one_sign c clause_is (t.0, (same_literals t.0).1 t.1, (same_literals (negation t.0)).1 t.2))
 
-unit : (x : Literal) → IsClauseOf (x ∷ []) (x ∷ [])
+pub unit : (x : Literal) → IsClauseOf (x ∷ []) (x ∷ [])
 unit x = clause_of (x ∷ []) (x ∷ []) (tt, tt) ((0, omega arith, refl), tt) ((0, omega arith, refl), tt)
 
-swapped : (x y : Literal) → x.variable < y.variable → IsClauseOf (y ∷ x ∷ []) (x ∷ y ∷ [])
+pub swapped : (x y : Literal) → x.variable < y.variable → IsClauseOf (y ∷ x ∷ []) (x ∷ y ∷ [])
 swapped x y l = clause_of (y ∷ x ∷ []) (x ∷ y ∷ []) ((l, tt), (tt, tt)) ((1, omega arith, refl), ((0, omega arith, refl), tt)) ((1, omega arith, refl), ((0, omega arith, refl), tt))
 
 turned : (x y z : Literal) → x.variable < y.variable → y.variable < z.variable → IsClauseOf (z ∷ x ∷ y ∷ []) (x ∷ y ∷ z ∷ [])
@@ -55,7 +55,7 @@ turned x y z l m =
     ((1, omega arith, refl), ((2, omega arith, refl), ((0, omega arith, refl), tt)))
     ((2, omega arith, refl), ((0, omega arith, refl), ((1, omega arith, refl), tt)))
 
-each_clause : (literals clauses : List (List Literal)) → AllZip IsClauseOf literals clauses → AreClausesOf literals clauses
+pub each_clause : (literals clauses : List (List Literal)) → AllZip IsClauseOf literals clauses → AreClausesOf literals clauses
 each_clause [] [] all = refl
 each_clause [] (c ∷ clauses) all = absurd all
 each_clause (ls ∷ literals) [] all = absurd all

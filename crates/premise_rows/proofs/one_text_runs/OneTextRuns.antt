@@ -27,7 +27,10 @@ job_equal held (Some (task.Gen seed regroup conflicts)) f can found is = absurd 
 job_equal held (Some (task.Lrat a b)) f can found is = absurd can
 job_equal held (Some (task.Cert a b pair form conflicts)) f can found is = absurd can
 job_equal held (Some (task.Search a b cycles conflicts)) f can found is = absurd can
+job_equal held (Some (task.After a b s cycles conflicts)) f can found is = absurd can
 job_equal held (Some (task.Induct a b conflicts)) f can found is = absurd can
+job_equal held (Some (task.InductSignals a b conflicts)) f can found is = absurd can
+job_equal held (Some (task.InductAfter a b s conflicts)) f can found is = absurd can
 
 pub is_answered : (held : Held) (job : Option Task) (name : StatusName) → OfCheck job (CanMeetItself held) → IsComplete held job name → IsAnswer name
 is_answered held None name can complete = absurd can
@@ -42,7 +45,10 @@ is_answered held (Some (task.Gen seed regroup conflicts)) name can complete = ab
 is_answered held (Some (task.Lrat a b)) name can complete = absurd can
 is_answered held (Some (task.Cert a b pair form conflicts)) name can complete = absurd can
 is_answered held (Some (task.Search a b cycles conflicts)) name can complete = absurd can
+is_answered held (Some (task.After a b s cycles conflicts)) name can complete = absurd can
 is_answered held (Some (task.Induct a b conflicts)) name can complete = absurd can
+is_answered held (Some (task.InductSignals a b conflicts)) name can complete = absurd can
+is_answered held (Some (task.InductAfter a b s conflicts)) name can complete = absurd can
 
 -- the run ends equal, or at want of memory
 pub ends_equal : (held : Held) (before now : Option (List ℕ)) (job : Option Task) (proofs : List Proof) (name : StatusName) → EndsAs before now held job proofs name → OfCheck job (CanMeetItself held) → IsAnswer name → IsEqualAnswer name

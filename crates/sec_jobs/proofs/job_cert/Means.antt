@@ -1,5 +1,6 @@
 -- What the status of a certificate means.
-use Rattle.std.proofs.Common.{◌≡◌, ℕ, Bool, true, false, List, refl, sym, subst, Option}
+use Rattle.std.specs.Prelude.{IfSome}
+use Rattle.std.proofs.Common.{◌≡◌, ℕ, Bool, true, false, List, refl, sym, ap₂, subst, Option}
 use Rattle.sec_base.specs.base_shelves.Outside.{Takes}
 use Rattle.flat_net.specs.View.{NetView}
 use Rattle.proof_check.specs.Clauses.{Unsatisfiable}
@@ -8,6 +9,12 @@ use Rattle.sat_search.specs.Found.{IsFruitless}
 use Rattle.pair_decide.specs.declared.query.Proof.{Proof}
 use Rattle.lrat_core.proofs.lrat_text.Texts.{accepted_sound}
 use Rattle.lrat_core.specs.certificate_writer.Texts.{formula_for}
+use Rattle.lrat_core.specs.dimacs_text.Formulas.{Formula}
+use Rattle.lrat_core.specs.lrat_text.Verdicts.{IsTextVerdict}
+use Rattle.lrat_core.specs.Sequences.{Accepted}
+use Rattle.proof_check.specs.Literals.{Literal}
+use Rattle.job_base.specs.sec_files.Loading.{Loads}
+use Rattle.job_base.proofs.sec_files.job_files.Reading.{if_told}
 use Rattle.sec_jobs.specs.job_cert.pair_clauses.Clauses.{CanBeMet, ArePairClauses}
 use Rattle.job_base.specs.declared.finding.Finding.{Finding}
 use Rattle.job_base.specs.declared.finding.Finding.TheVariants as finding
@@ -18,7 +25,8 @@ use Rattle.job_base.specs.Lines.{finding_text, unsettled_text}
 use Rattle.job_base.specs.Written.{status_of, IsWrittenAs}
 use Rattle.sec_jobs.specs.job_cert.Made.{Request, Refutes, IsMadeBy, IsCertificate}
 use Rattle.sec_jobs.specs.job_cert.Found.{OfNets, IsCertFound}
-use Rattle.sec_jobs.specs.job_cert.Answer.{TellsText, CertMeans}
+use Rattle.sec_jobs.specs.job_cert.Answer.{TellsText, FitsPrinted, CertMeans}
+use Rattle.sec_jobs.proofs.job_cert.pair_clauses.OneText.{text_one_encoding}
 
 -- a text that refutes the clauses shows that none meets them
 refuted : (conflicts : ℕ) (cnf : Cnf) (text : List ℕ) → Refutes conflicts cnf text → Unsatisfiable cnf.clauses
@@ -33,6 +41,22 @@ module _ (a b : NetView) (request : Request) where
       go true m = record { cnf = h.cnf; clauses = h.clauses; refutes = m; equal = h.clauses.tell.equal (refuted request.conflicts h.cnf text m) }
       go false m = record { cnf = h.cnf; clauses = h.clauses; spells = m }
 
+  -- a refutation is accepted over what is printed of the same texts
+  fits_printed : (left right : Option (List ℕ)) (text : List ℕ) → IfSome left (λ x. Loads x a) → IfSome right (λ y. Loads y b) → IsCertificate a b request (finding.Done text) → FitsPrinted request.refuted left right request.pair text
+  fits_printed left right text l r h = go request.refuted h.made
+    where
+      go : (t : Bool) → IsMadeBy t request.conflicts h.cnf (finding.Done text) → FitsPrinted t left right request.pair text
+      go true m = λ x y c d printed is also lc ld tells.
+          (let same = text_one_encoding x y request.pair a b c d h.cnf tells.cnf (if_told left (λ t. Loads t a) x is l) (if_told right (λ t. Loads t b) y also r) lc ld h.clauses tells.clauses in
+          let one : formula_for h.cnf ≡ formula_for tells.cnf = ap₂ (λ (n : ℕ) (cs : List (List Literal)). record { variables = n; clauses = cs }) same.variables same.clauses in
+          record {
+            formula = formula_for tells.cnf;
+            spells = tells.spells.1;
+            line = m.accepted.0;
+            accepted = subst (λ (f : Formula). IsTextVerdict f text (Accepted m.accepted.0)) one m.accepted.1;
+          })
+      go false m = tt
+
   told_met : (cnf : Cnf) (t : Bool) → request.refuted ≡ t → IsMadeBy t request.conflicts cnf (finding.Unrefuted unrefuted.Satisfiable) → (request.refuted ≡ true) × CanBeMet cnf.clauses
   told_met cnf true e m = (e, m)
   told_met cnf false e m = absurd m
@@ -44,13 +68,18 @@ module _ (a b : NetView) (request : Request) where
 
 module _ (request : Request) (left right before now : Option (List ℕ)) where
   done_taken : (f : Finding) → IsCertFound request left right f → status_of f ≡ status.Done → Takes before now (finding_text f) →
-      (text : List ℕ) × Takes before now text × OfNets left right (λ a b. TellsText request request.refuted a b text)
+      (text : List ℕ) × Takes before now text × OfNets left right (λ a b. TellsText request request.refuted a b text) × FitsPrinted request.refuted left right request.pair text
   done_taken finding.Words h e taken = absurd h
   done_taken (finding.Refused r) h e taken = absurd (cc)
   done_taken (finding.Cyclic side names) h e taken = absurd (cc)
   done_taken (finding.Unpaired side names) h e taken = absurd h
   done_taken (finding.Checked o s) h e taken = absurd h
-  done_taken (finding.Done text) h e taken = (text, taken, record { a = h.a; b = h.b; left_loads = h.left_loads; right_loads = h.right_loads; said = tells_text h.a h.b request text h.said })
+  done_taken (finding.Done text) h e taken = (
+    text,
+    taken,
+    record { a = h.a; b = h.b; left_loads = h.left_loads; right_loads = h.right_loads; said = tells_text h.a h.b request text h.said },
+    fits_printed h.a h.b request left right text h.left_loads h.right_loads h.said,
+  )
   done_taken (finding.Generated o report) h e taken = absurd h
   done_taken (finding.Replayed differences) h e taken = absurd h
   done_taken (finding.Undecided side name proof) h e taken = absurd h

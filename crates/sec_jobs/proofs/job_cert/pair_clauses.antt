@@ -6,3 +6,4 @@ pub mod Few
 pub mod Given
 pub mod Anew
 pub mod OneEncoding
+pub mod OneText

@@ -1,5 +1,5 @@
 -- What the status says of a certificate, and when there is one.
-use Rattle.std.specs.Prelude.{◌≡◌, ℕ, Bool, true, false, List, [], ◌∷◌, Option, IsSomeAnd}
+use Rattle.std.specs.Prelude.{◌≡◌, ℕ, Bool, true, false, List, [], ◌∷◌, Option, Some, Ok, IsSomeAnd}
 use Rattle.circuit_theory.specs.declared.Side.{Side}
 use Rattle.circuit_theory.specs.Asked.{HaveEqualFunctions}
 use Rattle.sec_base.specs.base_shelves.Outside.{Takes}
@@ -13,6 +13,10 @@ use Rattle.sec_setup.specs.Cycles.{AreBroken}
 use Rattle.plain_check.specs.under_base.compare_base.Compared.{AreTooLarge}
 use Rattle.job_base.specs.sec_files.Loading.{IsAccepted, Loads}
 use Rattle.lrat_core.specs.certificate_writer.Texts.{SpellsClauses}
+use Rattle.lrat_core.specs.dimacs_text.Dimacs.{formula_of}
+use Rattle.lrat_core.specs.dimacs_text.Formulas.{Formula}
+use Rattle.lrat_core.specs.lrat_text.Verdicts.{IsTextVerdict}
+use Rattle.lrat_core.specs.Sequences.{Accepted}
 use Rattle.sec_jobs.specs.job_cert.pair_clauses.Clauses.{ArePairClauses, IsOutput}
 use Rattle.job_base.specs.declared.status.StatusName.{StatusName}
 use Rattle.job_base.specs.declared.status.StatusName.TheVariants as status
@@ -53,11 +57,26 @@ abbrev pub TellsText : Request → Bool → NetView → NetView → List ℕ →
 TellsText request true a b text = TellsEqual a b request.pair request.conflicts text
 TellsText request false a b text = TellsClauses a b request.pair text
 
+-- the printed text spells clauses, and the text is accepted as their refutation
+pub record AcceptsOver (printed text : List ℕ) : Type 0 where
+  pub formula : Formula
+  pub spells : formula_of printed ≡ Ok formula
+  pub line : ℕ
+  pub accepted : IsTextVerdict formula text (Accepted line)
+
+-- A refutation fits what is printed: where both texts are told it is accepted over every text of the pair's clauses, whichever nets of
+-- the texts these are of.
+abbrev pub FitsPrinted : Bool → Option (List ℕ) → Option (List ℕ) → List ℕ → List ℕ → Type 0
+FitsPrinted true left right pair text =
+    (x y : List ℕ) (a b : NetView) (printed : List ℕ) → left ≡ Some x → right ≡ Some y → Loads x a → Loads y b → TellsClauses a b pair printed → AcceptsOver printed text
+FitsPrinted false left right pair text = Unit {0}
+
 -- What the status says of the nets that the two texts load as, with the proofs and what was written before and is now.
 abbrev pub CertMeans : Request → Option (List ℕ) → Option (List ℕ) → Option (List ℕ) → Option (List ℕ) → List Proof → StatusName → Type 0
 CertMeans request left right before now proofs status.Equal = ⊥
 CertMeans request left right before now proofs status.NotShown = ⊥
-CertMeans request left right before now proofs status.Done = (text : List ℕ) × Takes before now text × OfNets left right (λ a b. TellsText request request.refuted a b text)
+CertMeans request left right before now proofs status.Done =
+    (text : List ℕ) × Takes before now text × OfNets left right (λ a b. TellsText request request.refuted a b text) × FitsPrinted request.refuted left right request.pair text
 CertMeans request left right before now proofs status.Different = (request.refuted ≡ true) × Takes before now satisfiable_text × OfNets left right (λ a b. PairDiffers a b request.pair)
 CertMeans request left right before now proofs status.Limit =
     (request.refuted ≡ true) × Takes before now (unsettled_text request.conflicts) × OfNets left right (λ a b. KeepsLimit a b request.pair request.conflicts proofs)

@@ -145,7 +145,7 @@ fn prove_in_window(
 }
 
 /// Tries it over the whole cones. Where no conflicts are allowed these are looked at only if they are small.
-fn prove_wholly(
+pub(crate) fn prove_wholly(
     alloc: Global,
     graph: &Aig,
     x: Lit,
@@ -163,7 +163,7 @@ fn prove_wholly(
         };
     }
     let cone = graph.cone(alloc, &[x, k])?;
-    budget.charge(cone.len());
+    budget.note_cone(cone.len(), graph.size());
     prove_in(alloc, graph, cone.as_slice(), x, k, budget)
 }
 

@@ -13,7 +13,7 @@ use aig::lane_eval::root_classes::{
 use std::alloc::Global;
 
 /// The most variables of a table.
-const WIDE: usize = 24;
+pub(crate) const WIDE: usize = 24;
 
 /// Whether a table over so many nodes and variables, too many for a query without a search, takes no longer than so many conflicts, roughly.
 pub(crate) fn is_light(nodes: u32, vars: usize, conflicts: u32) -> bool {

@@ -82,7 +82,7 @@ fn begun(alloc: Global, old: &Aig, effort: Effort, words: &[u64]) -> Result<Grow
         map,
         chosen: Vec::new(alloc),
         hints: Hints::new(alloc),
-        budget: Budget::new(effort),
+        budget: Budget::new(effort, old.size()),
     };
     growth.note(alloc, 0, words, Role::Kept)?;
     Ok(growth)

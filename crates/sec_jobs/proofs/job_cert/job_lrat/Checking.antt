@@ -15,7 +15,7 @@ use Rattle.lrat_core.specs.lrat_text.Verdicts.{IsChecked}
 use Rattle.job_base.specs.declared.finding.File.TheVariants as file
 use Rattle.job_base.specs.Ends.{EndsBy}
 use Rattle.job_base.proofs.Reading.{first_read_failed, second_read_failed}
-use Rattle.sec_jobs.specs.job_cert.job_lrat.Texts.{IsLong, Spells, HasClausesFault, Refutes, HasProofFault, ClausesFail, ProofFails}
+use Rattle.sec_jobs.specs.job_cert.job_lrat.Texts.{IsLong, Spells, Refutes, HasProofFault, ClausesFail, ProofFails}
 use Rattle.sec_jobs.specs.job_cert.job_lrat.Found.{AreSpelled, IsLratFound, verified_text}
 use Rattle.sec_jobs.specs.job_cert.job_lrat.Ends.{LratFound, text_end, verified_end}
 use Rattle.sec_jobs.specs.declared.job_cert.job_lrat.loading.TextLoadError.{TextLoadError}

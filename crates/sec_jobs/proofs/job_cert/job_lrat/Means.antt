@@ -1,6 +1,6 @@
 -- What the status of the check of a refutation means.
 use Rattle.std.specs.Prelude.{IsSomeAnd, IfSome}
-use Rattle.std.proofs.Common.{◌≡◌, ℕ, ◌<◌, ◌≤◌, List, refl, sym, ◌∙◌, ap, subst, inl, inr, ◌⊎◌, Option, Some, None, Result, Ok, Err, arith}
+use Rattle.std.proofs.Common.{◌≡◌, ℕ, List, refl, sym, ◌∙◌, subst, inl, inr, ◌⊎◌, Option, Some, None, Result, Ok, Err, arith}
 use Rattle.sec_base.specs.base_shelves.Outside.{Takes}
 use Rattle.pair_decide.specs.declared.query.Proof.{Proof}
 use Rattle.sec_base.specs.declared.text_numbers.kinds.TextError.{TextError}
@@ -23,7 +23,7 @@ use Rattle.job_base.specs.Lines.{finding_text}
 use Rattle.job_base.specs.Written.{status_of, IsWrittenAs}
 use Rattle.job_base.specs.Meaning.{EndsWith}
 use Rattle.job_base.proofs.Meaning.{report_means}
-use Rattle.sec_jobs.specs.job_cert.job_lrat.Texts.{IsLong, Spells, HasClausesFault, Refutes, HasProofFault}
+use Rattle.sec_jobs.specs.job_cert.job_lrat.Texts.{IsLong, Spells, HasClausesFault, HasProofFault}
 use Rattle.sec_jobs.specs.job_cert.job_lrat.Found.{IsLratRefusal, IsLratFound}
 use Rattle.sec_jobs.specs.job_cert.job_lrat.Answer.{TellsVerified, LratMeans, IsRefuted, IsLratComplete}
 

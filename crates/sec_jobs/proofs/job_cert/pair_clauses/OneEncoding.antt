@@ -1,5 +1,5 @@
 -- Two literals of a graph have one list of clauses.
-use Rattle.std.proofs.Common.{◌≡◌, ℕ, suc, ◌+◌, ◌/◌, ◌%◌, ◌<◌, inl, inr, List, [], ◌∷◌, ◌++◌, length, slice_get, Some, refl, sym, ap, subst, ◌∙◌, arith}
+use Rattle.std.proofs.Common.{◌≡◌, ℕ, suc, ◌/◌, ◌%◌, ◌<◌, inl, inr, List, [], ◌∷◌, ◌++◌, length, slice_get, Some, refl, sym, ap, subst, ◌∙◌, arith}
 use Rattle.std.specs.List.{Contains}
 use Rattle.std.specs.List.Sorted.{IsStrictlyIncreasing}
 use Rattle.std.proofs.lemmas.List.Kept.{AllPairs-from_increasing}
@@ -19,11 +19,12 @@ use Rattle.pair_decide.specs.cnf_encode.Encoding.{IsEncoding, AreClausesOf, part
 use Rattle.tree_graph.proofs.Ordered.{ordered_one}
 use Rattle.tree_graph.proofs.OneGraph.{have_one_graph}
 use Rattle.tree_graph.specs.Numbering.{IsGraphOf}
+use Rattle.circuit_theory.specs.Circuit.{Circuit}
 use Rattle.circuit_theory.specs.Tree.{Tree}
 use Rattle.circuit_theory.proofs.Numbers.{one_number}
 use Rattle.circuit_laws.proofs.OneTree.{one_tree}
 use Rattle.flat_net.specs.View.{circuit_of}
-use Rattle.sec_jobs.specs.job_cert.pair_clauses.Clauses.{HaveOneEncoding}
+use Rattle.sec_jobs.specs.job_cert.pair_clauses.Clauses.{AreEncoded, HaveOneEncoding}
 use Rattle.sec_jobs.proofs.job_cert.pair_clauses.Few.{cone_within}
 
 lower_first : (m n : ℕ) → m < n → n < m → ⊥
@@ -106,15 +107,24 @@ encoding_one g left right care c d within a b =
       clauses = clauses_one (part_clauses 0 a.part ++ query_clauses a.left_at a.right_at a.care_at) c.clauses d.clauses a.clauses_are (subst (λ ls. AreClausesOf ls d.clauses) (sym all) b.clauses_are);
     }
 
+-- two encodings of the same two trees are one
+module _ {a b m k : Circuit ℕ} {left right more others : List ℕ} {p q s t : ℕ} (c d : Cnf) (x : AreEncoded a b left right p q c) (y : AreEncoded m k more others s t d) (l : x.left_tree ≡ y.left_tree)
+    (r : x.right_tree ≡ y.right_tree) where
+  numbered_too : IsGraphOf x.left_tree x.right_tree y.places y.graph y.left_lit y.right_lit
+  numbered_too =
+      subst (λ (t : Tree ℕ). IsGraphOf t x.right_tree y.places y.graph y.left_lit y.right_lit) (sym l) (subst (λ (t : Tree ℕ). IsGraphOf y.left_tree t y.places y.graph y.left_lit y.right_lit) (sym r) y.numbered)
+
+  pub trees_one_encoding : AreOneCnf c d
+  trees_one_encoding =
+      let one = have_one_graph x.left_tree x.right_tree x.places y.places x.graph y.graph x.left_lit x.right_lit y.left_lit y.right_lit x.numbered numbered_too in
+      let clauses : IsEncoding x.graph x.left_lit x.right_lit 1 d =
+      subst (λ (g : List Node). IsEncoding g x.left_lit x.right_lit 1 d) (sym one.1) (subst (λ (z : ℕ). IsEncoding y.graph z x.right_lit 1 d) (sym one.2) (subst (λ (z : ℕ). IsEncoding y.graph y.left_lit z 1 d) (sym one.3) y.clauses)) in
+      encoding_one x.graph x.left_lit x.right_lit 1 c d (cone_within x.graph x.left_lit x.right_lit c x.is_graph x.left_within x.right_within x.clauses) x.clauses clauses
+
 -- two places have one list of clauses
 pub have_one_encoding : HaveOneEncoding
 have_one_encoding a b left right p q c d net_a net_b x y =
     let l : x.left_tree ≡ y.left_tree = (one_tree (circuit_of a) left net_a.single (λ s i j u v. one_number (circuit_of a).inputs left net_a.inputs s i j u v) x.left_unfolds y.left_unfolds).0 in
     let r : x.right_tree ≡ y.right_tree = (one_tree (circuit_of b) right net_b.single (λ s i j u v. one_number (circuit_of b).inputs right net_b.inputs s i j u v) x.right_unfolds y.right_unfolds).0 in
-    let other : IsGraphOf x.left_tree x.right_tree y.places y.graph y.left_lit y.right_lit =
-    subst (λ (t : Tree ℕ). IsGraphOf t x.right_tree y.places y.graph y.left_lit y.right_lit) (sym l) (subst (λ (t : Tree ℕ). IsGraphOf y.left_tree t y.places y.graph y.left_lit y.right_lit) (sym r) y.numbered) in
-    let one = have_one_graph x.left_tree x.right_tree x.places y.places x.graph y.graph x.left_lit x.right_lit y.left_lit y.right_lit x.numbered other in
-    let clauses : IsEncoding x.graph x.left_lit x.right_lit 1 d =
-    subst (λ (g : List Node). IsEncoding g x.left_lit x.right_lit 1 d) (sym one.1) (subst (λ (z : ℕ). IsEncoding y.graph z x.right_lit 1 d) (sym one.2) (subst (λ (z : ℕ). IsEncoding y.graph y.left_lit z 1 d) (sym one.3) y.clauses)) in
-    let same = encoding_one x.graph x.left_lit x.right_lit 1 c d (cone_within x.graph x.left_lit x.right_lit c x.is_graph x.left_within x.right_within x.clauses) x.clauses clauses in
+    let same = trees_one_encoding c d x y l r in
     (same.variables, same.clauses)

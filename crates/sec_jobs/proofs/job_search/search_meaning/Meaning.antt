@@ -100,6 +100,14 @@ module _ (a b : NetView) (cycles conflicts : ℕ) (s : Searched) (is : AreSearch
       equal_up_to_agree (circuit_of a) (circuit_of b) is.numbers.left is.numbers.right is.numbers.left_base is.numbers.right_base s.last numbered is.are_numbers.based
       (λ p q t pair le. each_equal (verdict_as (verdict.NoDifference stopped) e).0 p q t pair le)
 
+  -- before the last cycle they agree, whatever the verdict is
+  pub agree_before : (k : ℕ) → k < s.last → AgreeUpTo k (circuit_of a) (circuit_of b)
+  agree_before k low =
+      equal_up_to_agree (circuit_of a) (circuit_of b) is.numbers.left is.numbers.right is.numbers.left_base is.numbers.right_base k numbered is.are_numbers.based
+      (λ p q t pair le.
+      let x = listed_pair p q pair in
+      equal_at p q t (subst (λ m. AgreeAt is.numbers p m t) x.3 (subst (λ m. AgreeAt is.numbers m x.0.right t) x.2 (is.found.before x.0 x.1 t (omega (arith, low, le))))))
+
   -- equal says that they agree in every cycle
   pub agree : s.verdict ≡ verdict.Equal → AgreeFromReset (circuit_of a) (circuit_of b)
   agree e =

@@ -29,6 +29,7 @@ use Rattle.plain_check.specs.under_base.compare_base.Compared.{Compared}
 use Rattle.plain_check.specs.declared.under_base.compare_base.error.CompareError.{CompareError}
 use Rattle.plain_check.specs.declared.under_base.compare_base.error.CompareError.TheVariants as refused
 use Rattle.witness_report.specs.declared.witness.PairName.TheVariants.{Output}
+use Rattle.job_base.specs.sec_files.Loading.{Loads}
 use Rattle.sec_jobs.specs.declared.job_cert.pair_clauses.error.CertError.{CertError}
 use Rattle.sec_jobs.specs.declared.job_cert.pair_clauses.error.CertError.TheVariants.{Compare, Pair}
 
@@ -102,6 +103,12 @@ pub record ArePairClauses (a b : NetView) (name : List ℕ) (cnf : Cnf) : Type 0
 -- no output of either circuit has the name
 abbrev pub IsNoOutput : NetView → List ℕ → Type 0
 IsNoOutput n name = (p : ℕ) → IsOutput (circuit_of n) name p → ⊥
+
+-- two texts have one number of variables and one list of clauses of a name, whichever nets they are loaded as
+abbrev pub TextsHaveOneEncoding : Type 0
+TextsHaveOneEncoding =
+    (x y name : List ℕ) (a b m k : NetView) (c d : Cnf) → Loads x a → Loads y b → Loads x m → Loads y k → ArePairClauses a b name c → ArePairClauses m k name d →
+    (c.variables ≡ d.variables) × (c.clauses ≡ d.clauses)
 
 -- a comparison in the plain form without latches that are cut open; a refusal doesn't depend on the number of conflicts
 abbrev pub plainly : Settings

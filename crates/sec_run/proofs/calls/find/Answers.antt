@@ -29,6 +29,9 @@ check-requires-clause-conflicts g c = (subst IsAllowed c.in-Check.is c.requires)
 pub compare_in_cycles-requires : goal.compare_in_cycles-requires
 compare_in_cycles-requires g c = (subst IsAllowed c.in-Search.is c.requires).0
 
+pub compare_after-requires : goal.compare_after-requires
+compare_after-requires g c = (subst IsAllowed c.in-After.is c.requires).0
+
 pub returns-in-Gen-clause-found : goal.returns-in-Gen-clause-found
 returns-in-Gen-clause-found g c =
     let held = g.S.Shelf.held c.args.shelf.now in

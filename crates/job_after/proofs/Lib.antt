@@ -1,0 +1,8 @@
+pub mod Starts
+pub mod Unread
+pub mod Finds
+pub mod Searched
+pub mod Lifted
+pub mod Means
+pub mod Complete
+pub mod Zeros

@@ -1,0 +1,65 @@
+-- What is judged of two nets behind the rows of a stimulus.
+use Rattle.std.specs.Prelude.{◌≡◌, ℕ, Bool, List, length, Option, Some, None}
+use Rattle.std.specs.List.{filter_map}
+use Rattle.circuit_theory.specs.declared.Side.{Side}
+use Rattle.flat_net.specs.View.{NetView, circuit_of}
+use Rattle.pair_decide.specs.declared.query.Proof.{Proof}
+use Rattle.witness_report.specs.declared.witness.Witness.{Witness}
+use Rattle.obligations.specs.declared.outcome.verdict.PairResult.{PairResult}
+use Rattle.job_base.specs.declared.finding.Judgement.{Judgement}
+use Rattle.job_base.specs.declared.finding.Judgement.TheVariants as judgement
+use Rattle.cycle_search.specs.declared.found.Searched.{Searched}
+use Rattle.cycle_search.specs.declared.found.SearchVerdict.{SearchVerdict}
+use Rattle.cycle_search.specs.declared.found.SearchVerdict.TheVariants as verdict
+use Rattle.cycle_search.specs.Searches.{AreSearched}
+use Rattle.restart.specs.Behind.{begun, AreKnownBehind}
+use Rattle.restart.specs.Agreement.{AgreeBehind, Each, UpTo, Before}
+use Rattle.job_after.specs.Report.{after_text}
+use Rattle.restart.specs.Sequence.{IsShownBehind}
+
+-- m is the net with what is known of its latches behind the rows as their initial values
+pub record IsBegun (n : NetView) (names : List (List ℕ)) (rows : List (List Bool)) (known : List (Option Bool)) (m : NetView) : Type 0 where
+  pub each : length known ≡ length n.latches
+  pub are_known : AreKnownBehind n names rows known
+  pub is : m ≡ begun n known
+
+-- the judgement: a difference that isn't shown is none
+abbrev pub judgement_of : SearchVerdict → Option Witness → Judgement
+judgement_of v (Some w) = judgement.Different
+judgement_of verdict.Equal None = judgement.Equal
+judgement_of (verdict.NoDifference stopped) None = judgement.NotShown
+judgement_of (verdict.Different w) None = judgement.NotShown
+judgement_of (verdict.Limit name) None = judgement.Limit
+
+-- the proofs of the pairs that met the limit, in their order
+abbrev pub proofs_of : List PairResult → List Proof
+proofs_of pairs = filter_map (λ (p : PairResult). p.proof) pairs
+
+-- both nets as they begin behind the rows, what is known of their latches there, what was found of them, and the difference that is shown
+pub record Behind : Type 0 where
+  pub left_known : List (Option Bool)
+  pub right_known : List (Option Bool)
+  pub left : NetView
+  pub right : NetView
+  pub made : Searched
+  pub shown : Option Witness
+
+-- this is so behind these rows
+pub record IsBehind (a b : NetView) (names : List (List ℕ)) (rows : List (List Bool)) (cycles conflicts : ℕ) (h : Behind) : Type 0 where
+  pub left_begun : IsBegun a names rows h.left_known h.left
+  pub right_begun : IsBegun b names rows h.right_known h.right
+  pub searched : AreSearched h.left h.right cycles conflicts h.made
+
+-- What is judged and written. Where no difference is shown: equal says that the outputs agree in every cycle behind the rows; no
+-- difference, that they do in each cycle up to the last; one that isn't shown, that they do in each cycle before it. One that is shown
+-- makes the named outputs differ in all runs that read its sequence, which begins with the rows.
+pub record IsJudged (a b : NetView) (names : List (List ℕ)) (rows : List (List Bool)) (cycles conflicts : ℕ) (j : Judgement) (proofs : List Proof) (text : List ℕ) : Type 0 where
+  pub of : Behind
+  pub is : IsBehind a b names rows cycles conflicts of
+  pub agree : of.made.verdict ≡ verdict.Equal → AgreeBehind names rows Each (circuit_of a) (circuit_of b)
+  pub agree_up_to : (stopped : Option Side) → of.made.verdict ≡ verdict.NoDifference stopped → AgreeBehind names rows (UpTo of.made.last) (circuit_of a) (circuit_of b)
+  pub agree_before : AgreeBehind names rows (Before of.made.last) (circuit_of a) (circuit_of b)
+  pub differ : (w : Witness) → of.shown ≡ Some w → IsShownBehind a b names rows w
+  pub judgement_is : j ≡ judgement_of of.made.verdict of.shown
+  pub proofs_are : proofs ≡ proofs_of of.made.pairs
+  pub text_is : text ≡ after_text of.left of.right cycles conflicts (length rows) of.left_known of.right_known of.shown of.made

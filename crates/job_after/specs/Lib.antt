@@ -1,0 +1,5 @@
+pub mod Report
+pub mod Judged
+pub mod Ends
+pub mod Answer
+pub mod Read

@@ -1,0 +1,17 @@
+//! The job that searches two circuits for a difference behind the rows of a stimulus, whatever both power up with.
+#![tactic(auto)]
+
+mod after_report;
+mod comparison;
+mod fault;
+mod judging;
+mod known;
+mod reading;
+mod shown;
+
+pub use after_report::put_begun;
+pub use comparison::{AfterComparison, compare_after};
+pub use fault::AfterFault;
+pub use judging::{Judged, after_end, match_header};
+pub use known::begin;
+pub use reading::{AfterPaths, ReadFiles, read_files};

@@ -1,0 +1,140 @@
+//! The difference that is shown behind the rows of a stimulus.
+
+ghost use Rattle.std.specs.Prelude.{◌≡◌, ◌≤◌, length, IfOk, IfSome};
+ghost use Rattle.flat_net.specs.Comparable.{IsComparable};
+ghost use Rattle.restart.specs.Behind.{begun};
+ghost use Rattle.restart.specs.Sequence.{IsShownBehind};
+
+use base_tables::NameTable;
+use cycle_search::{SearchError, SearchVerdict, Searched, search_cycles};
+use flat_net::Net;
+use obligations::outcome::{PairName, Witness};
+use restart::{restart, shown_behind};
+use sec_base::{MAX_CONFLICTS, NoMemory};
+use std::alloc::Global;
+use witness_report::Stimulus;
+
+/// Where a search begins, and how far it goes: the stimulus, with the table of its names, and what is known of both circuits' latches
+/// behind its rows.
+#[derive(Clone, Copy)]
+pub(crate) struct Start<'a> {
+    pub(crate) header: &'a NameTable,
+    pub(crate) stimulus: &'a Stimulus,
+    pub(crate) left: &'a [Option<bool>],
+    pub(crate) right: &'a [Option<bool>],
+    pub(crate) cycles: u32,
+    pub(crate) conflicts: u32,
+}
+
+/// The difference that is shown where this was found, if one is. Where the sequence that was found shows none, since a latch that isn't known
+/// has a part in it, another one is looked for, where each such latch begins with 0. Afterwards both nets are as before.
+pub(crate) fn shown_of(
+    alloc: Global,
+    a: &mut Net,
+    b: &mut Net,
+    start: &Start<'_>,
+    searched: &Searched,
+) -> Result<Option<Witness>, NoMemory>
+    requires left { IsComparable a.old }
+    requires right { IsComparable b.old }
+    requires conflicts { start.now.conflicts ≤ MAX_CONFLICTS }
+    requires header { start.now.header.now ≡ start.now.stimulus.now.names }
+    requires left_known { length start.now.left.now ≡ length a.old.latches }
+    requires right_known { length start.now.right.now ≡ length b.old.latches }
+    requires left_begun { begun a.old start.now.left.now ≡ a.old }
+    requires right_begun { begun b.old start.now.right.now ≡ b.old }
+    ensures shown { IfOk result (λ shown. IfSome shown (IsShownBehind a.old b.old start.now.stimulus.now.names start.now.stimulus.now.rows)) }
+    ensures same { IfOk result (λ shown. (a.new ≡ a.old) × (b.new ≡ b.old)) }
+{
+    let SearchVerdict::Different(_) = &searched.verdict else {
+        return Ok(None);
+    };
+    let shown = shown_by(alloc, a, b, start, searched)?;
+    if shown.is_some() {
+        return Ok(shown);
+    }
+    shown_from_zeros(alloc, a, b, start)
+}
+
+/// The difference that the sequence which was found shows, if it shows one.
+fn shown_by(
+    alloc: Global,
+    a: &Net,
+    b: &Net,
+    start: &Start<'_>,
+    searched: &Searched,
+) -> Result<Option<Witness>, NoMemory>
+    requires { start.now.header.now ≡ start.now.stimulus.now.names }
+    ensures { IfOk result (λ shown. IfSome shown (IsShownBehind a.now b.now start.now.stimulus.now.names start.now.stimulus.now.rows)) }
+{
+    match &searched.verdict {
+        SearchVerdict::Different(found) => match &found.witness.pair {
+            PairName::Output(name) => {
+                let rows = start.stimulus.rows.as_slice();
+                let sequence = &found.witness.stimulus;
+                shown_behind(alloc, a, b, start.header, rows, name, sequence)
+            }
+            PairName::Next(_) => Ok(None),
+        },
+        _ => Ok(None),
+    }
+}
+
+/// The difference that is shown where one is looked for from these initial values, if one is.
+fn shown_anew(
+    alloc: Global,
+    a: &Net,
+    b: &Net,
+    start: &Start<'_>,
+) -> Result<Option<Witness>, NoMemory>
+    requires left { IsComparable a.now }
+    requires right { IsComparable b.now }
+    requires conflicts { start.now.conflicts ≤ MAX_CONFLICTS }
+    requires header { start.now.header.now ≡ start.now.stimulus.now.names }
+    ensures { IfOk result (λ shown. IfSome shown (IsShownBehind a.now b.now start.now.stimulus.now.names start.now.stimulus.now.rows)) }
+{
+    match search_cycles(alloc, a, b, start.cycles, start.conflicts) {
+        Ok(searched) => shown_by(alloc, a, b, start, &searched),
+        Err(SearchError::NoMemory) => Err(NoMemory),
+        Err(_) => Ok(None),
+    }
+}
+
+/// The same where each latch that isn't known begins with 0. Afterwards both nets are as before.
+fn shown_from_zeros(
+    alloc: Global,
+    a: &mut Net,
+    b: &mut Net,
+    start: &Start<'_>,
+) -> Result<Option<Witness>, NoMemory>
+    requires left { IsComparable a.old }
+    requires right { IsComparable b.old }
+    requires conflicts { start.now.conflicts ≤ MAX_CONFLICTS }
+    requires header { start.now.header.now ≡ start.now.stimulus.now.names }
+    requires left_known { length start.now.left.now ≡ length a.old.latches }
+    requires right_known { length start.now.right.now ≡ length b.old.latches }
+    requires left_begun { begun a.old start.now.left.now ≡ a.old }
+    requires right_begun { begun b.old start.now.right.now ≡ b.old }
+    ensures shown { IfOk result (λ shown. IfSome shown (IsShownBehind a.old b.old start.now.stimulus.now.names start.now.stimulus.now.rows)) }
+    ensures same { IfOk result (λ shown. (a.new ≡ a.old) × (b.new ≡ b.old)) }
+{
+    let left = or_zero(alloc, start.left)?;
+    let right = or_zero(alloc, start.right)?;
+    restart(a, &left);
+    restart(b, &right);
+    let shown = shown_anew(alloc, a, b, start)?;
+    restart(a, start.left);
+    restart(b, start.right);
+    Ok(shown)
+}
+
+/// What is known, and 0 of what isn't.
+fn or_zero(alloc: Global, known: &[Option<bool>]) -> Result<Vec<Option<bool>>, NoMemory>
+    ensures { IfOk result (λ filled. length filled.items ≡ length known.now) }
+{
+    let mut filled = Vec::new(alloc);
+    for value in known {
+        filled.push(Some(value.unwrap_or(false)))?;
+    }
+    Ok(filled)
+}

@@ -1,0 +1,4 @@
+pub mod Complete
+pub mod Finds
+pub mod Judgements
+pub mod Means

@@ -1,0 +1,8 @@
+//! The job that compares two circuits from their initial values by ties of their signals.
+#![tactic(auto)]
+
+mod comparison;
+mod judging;
+
+pub use comparison::{SignalComparison, compare_by_signals};
+pub use judging::{JudgeError, Judged, judge_nets};

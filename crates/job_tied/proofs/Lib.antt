@@ -1,0 +1,4 @@
+pub mod Judgements
+pub mod Finds
+pub mod Means
+pub mod Complete

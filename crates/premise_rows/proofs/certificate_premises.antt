@@ -1,0 +1,4 @@
+pub mod OneGraph
+pub mod OneTree
+pub mod Clauses
+pub mod Fitting

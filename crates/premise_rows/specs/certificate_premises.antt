@@ -1,0 +1,3 @@
+pub mod OneGraph
+pub mod OneTree
+pub mod Fitting

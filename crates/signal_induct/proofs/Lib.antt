@@ -1,0 +1,4 @@
+pub mod Agreeing
+pub mod Counting
+pub mod Empty
+pub mod Firsts

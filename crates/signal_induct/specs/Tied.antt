@@ -1,0 +1,61 @@
+-- Two circuits compared by ties of their signals.
+use Rattle.std.specs.Prelude.{◌≡◌, ℕ, suc, ◌+◌, ◌==◌, ◌&&◌, ◌||◌, not, Bool, true, false, if◌then◌else◌, List, [], ◌∷◌, ◌++◌, length, map, slice_get, find, unwrap_or, Option, option_map}
+use Rattle.std.specs.List.{AllZip}
+use Rattle.circuit_theory.specs.Interface.{AreOrders}
+use Rattle.sec_base.specs.declared.basics.Orders.{Orders}
+use Rattle.flat_net.specs.View.{NetView, circuit_of, ports_of}
+use Rattle.witness_report.specs.declared.witness.PairName.{PairName}
+use Rattle.witness_report.specs.declared.witness.PairName.TheVariants as pair_name
+use Rattle.sec_setup.specs.declared.ports.pairs.SignalPair.{SignalPair}
+use Rattle.sec_setup.specs.ports.Pairing.{IsOutputPair}
+use Rattle.signal_laws.specs.declared.anchor.Anchor.{Anchor}
+use Rattle.signal_laws.specs.declared.anchor.Anchor.TheVariants as anchor
+use Rattle.signal_laws.specs.Laws.{AreInductive}
+use Rattle.signal_refine.specs.Asking.{same_bit}
+use Rattle.signal_induct.specs.declared.outputs.TiedPair.{TiedPair}
+use Rattle.signal_induct.specs.declared.induction.SignalInduction.{SignalInduction}
+
+-- what the signal at a place is tied to; itself, where it is tied to nothing
+abbrev pub anchor_at : List Anchor → ℕ → Anchor
+anchor_at anchors p = unwrap_or (slice_get anchors p) (anchor.Place p false)
+
+-- both are one bit, or one signal under one sign
+abbrev pub same_anchor : Anchor → Anchor → Bool
+same_anchor (anchor.Bit x) (anchor.Bit y) = same_bit x y
+same_anchor (anchor.Bit x) (anchor.Place q turned) = false
+same_anchor (anchor.Place p flipped) (anchor.Bit y) = false
+same_anchor (anchor.Place p flipped) (anchor.Place q turned) = (p == q) && same_bit flipped turned
+
+-- the signal at the place is tied to a bit, to another signal, or to a complement
+abbrev pub is_tied : ℕ → Anchor → Bool
+is_tied p (anchor.Bit bit) = true
+is_tied p (anchor.Place q flipped) = flipped || not (q == p)
+
+-- how many signals from a place on are tied
+abbrev pub ties_from : ℕ → List Anchor → ℕ
+ties_from p [] = 0
+ties_from p (k ∷ anchors) = (if is_tied p k then 1 else 0) + ties_from (suc p) anchors
+
+-- the name of the outputs
+abbrev pub name_of : PairName → List ℕ
+name_of (pair_name.Output name) = name
+name_of (pair_name.Next name) = name
+
+-- Two outputs of one name, where so many signals of A stand before those of B: equal where both are tied to one bit or one signal, under
+-- one sign.
+abbrev pub tied_pair : ℕ → List Anchor → SignalPair → TiedPair
+tied_pair size anchors p = record { name = name_of p.name; equal = same_anchor (anchor_at anchors p.left.0) (anchor_at anchors (size + p.right.0)) }
+
+-- the name of the first output that isn't shown equal
+abbrev pub first_apart : List TiedPair → Option (List ℕ)
+first_apart pairs = option_map (λ (p : TiedPair). p.name) (find (λ (p : TiedPair). not p.equal) pairs)
+
+-- By some numbers of the interface the ties are an inductive invariant of both circuits, and each output of A is compared with B's of its
+-- name by them.
+pub record IsSignalInduction (a b : NetView) (made : SignalInduction) : Type 0 where
+  pub own : Orders
+  pub are_own : AreOrders (ports_of a) (ports_of b) own.left own.right
+  pub inductive : AreInductive (circuit_of a) (circuit_of b) (own.left ++ own.right) (length a.drivers) made.ties.anchors.items
+  pub outputs : List SignalPair
+  pub are_outputs : AllZip (IsOutputPair b) a.outputs outputs
+  pub pairs_are : made.pairs ≡ map (tied_pair (length a.drivers) made.ties.anchors.items) outputs

@@ -1,0 +1,4 @@
+pub mod Invariants
+pub mod Laws
+pub mod Ties
+pub mod Toggles

@@ -1,0 +1,9 @@
+pub mod Bits
+pub mod Caring
+pub mod Equals
+pub mod Framing
+pub mod Parts
+pub mod Results
+pub mod Settling
+pub mod Showing
+pub mod Sources

@@ -1,0 +1,4 @@
+pub mod Asking
+pub mod Frames
+pub mod Places
+pub mod Showing

@@ -1,0 +1,209 @@
+//! Candidates: classes of signals that have equal or complementary values in seeded runs from the initial values. They are guesses, of
+//! which nothing is promised.
+
+ghost use Rattle.std.specs.Prelude.{◌≡◌, ◌*◌, ◌<◌, length, All, IfOk};
+ghost use Rattle.signal_refine.specs.Showing.{AreReady, AreBelow};
+ghost use Rattle.signal_refine.specs.Places.{places_of};
+
+use crate::classes::Classes;
+use crate::frame::frame_of;
+use crate::leaves::{Cycle, Latches};
+use crate::nets::SignalNets;
+use aig::lane_eval::{SignatureTable, signatures};
+use aig::{Aig, Lit};
+use flat_net::Driver;
+use rand_core::{Rng, SeedableRng};
+use rand_xoshiro::Xoshiro256PlusPlus;
+use sec_base::{Init, NoMemory};
+use std::alloc::Global;
+
+/// For how many cycles 512 runs are made.
+const CYCLES: usize = 32;
+
+/// By what a word is spread in a hash.
+const SPREAD: u64 = 0x9E37_79B9_7F4A_7C15;
+
+/// Classes of signals that have equal or complementary values in all of the runs.
+pub(crate) fn candidates(
+    alloc: Global,
+    nets: &SignalNets<'_>,
+    first: u32,
+) -> Result<Classes, NoMemory>
+    requires ready { AreReady nets.now }
+    requires first { AreBelow nets.now first }
+{
+    nets.left.keeps();
+    nets.right.keeps();
+    let mut aig = Aig::new(alloc)?;
+    let cycle = Cycle {
+        nets: *nets,
+        inputs: 0,
+        first,
+        latches: Latches::Free,
+    };
+    let made = frame_of(alloc, &mut aig, &cycle, &[])?;
+    let mut generator = Xoshiro256PlusPlus::seed_from_u64(1);
+    let mut held = started(alloc, nets, &mut generator)?;
+    let mut classes = Classes::new(alloc, &[])?;
+    for n in 0..CYCLES {
+        let words = words_of(alloc, aig.vars(), first, &held, &mut generator)?;
+        let table = signatures(alloc, &aig, &words)?;
+        if n == 0 {
+            classes = phased(alloc, &table, &made.own)?;
+        }
+        split(alloc, &mut classes, &table, &made.own)?;
+        held = carried(alloc, nets, &table, &made.own)?;
+    }
+    Ok(classes)
+}
+
+/// Eight words for each of so many variables: what the latches have, from the first one on, and seeded ones for inputs.
+fn words_of(
+    alloc: Global,
+    count: u32,
+    first: u32,
+    held: &[u64],
+    generator: &mut Xoshiro256PlusPlus,
+) -> Result<Vec<u64>, NoMemory>
+    ensures { IfOk result (λ words. length words.items ≡ 8 * count) }
+{
+    let from = 8 * (first as usize);
+    let mut words = Vec::new(alloc);
+    for n in 0..8 * (count as usize) {
+        let seeded = generator.next_u64();
+        let word = if n < from {
+            seeded
+        } else {
+            held.get(n - from).copied().unwrap_or(seeded)
+        };
+        words.push(word)?;
+    }
+    Ok(words)
+}
+
+/// What latches begin with, eight words for each signal: its initial value where it has one, and else seeded words.
+fn started(
+    alloc: Global,
+    nets: &SignalNets<'_>,
+    generator: &mut Xoshiro256PlusPlus,
+) -> Result<Vec<u64>, NoMemory> {
+    let mut held = Vec::new(alloc);
+    for place in 0..nets.places() {
+        for _n in 0..8 {
+            let seeded = generator.next_u64();
+            held.push(start_word(nets, place, seeded))?;
+        }
+    }
+    Ok(held)
+}
+
+fn start_word(nets: &SignalNets<'_>, place: usize, seeded: u64) -> u64
+    requires { place < places_of nets.now }
+{
+    nets.left.keeps();
+    nets.right.keeps();
+    let spot = nets.spot(place);
+    let Driver::Latch(j) = spot.net.driver(spot.signal) else {
+        return 0;
+    };
+    match spot.net.latches().get(j as usize) {
+        Some(latch) => match latch.init {
+            Init::Zero => 0,
+            Init::One => u64::MAX,
+            _ => seeded,
+        },
+        None => 0,
+    }
+}
+
+/// What latches have in the next cycle, eight words for each signal.
+fn carried(
+    alloc: Global,
+    nets: &SignalNets<'_>,
+    table: &SignatureTable,
+    lits: &[Lit],
+) -> Result<Vec<u64>, NoMemory>
+    requires { All (λ x. x.0 < 2 * length table.now) lits.now }
+{
+    let mut held = Vec::new(alloc);
+    for place in 0..nets.places() {
+        let words = next_words(nets, table, lits, place);
+        for n in 0..8 {
+            held.push(words[n])?;
+        }
+    }
+    Ok(held)
+}
+
+/// The words of what the latch at the place takes over; 0 for other signals.
+fn next_words(nets: &SignalNets<'_>, table: &SignatureTable, lits: &[Lit], place: usize) -> [u64; 8]
+    requires place { place < places_of nets.now }
+    requires lits { All (λ x. x.0 < 2 * length table.now) lits.now }
+{
+    nets.left.keeps();
+    nets.right.keeps();
+    let spot = nets.spot(place);
+    let Driver::Latch(j) = spot.net.driver(spot.signal) else {
+        return [0; 8];
+    };
+    let latches = spot.net.latches();
+    if j as usize >= latches.len() {
+        return [0; 8];
+    }
+    let next = spot.offset + latches[j as usize].next.0 as usize;
+    if next >= lits.len() {
+        return [0; 8];
+    }
+    lit_words(table, lits[next])
+}
+
+/// The literal's words.
+fn lit_words(table: &SignatureTable, l: Lit) -> [u64; 8]
+    requires { l.0 < 2 * length table.now }
+{
+    let mask = if l.is_complement() { u64::MAX } else { 0 };
+    let block = table.block(l.node());
+    let mut words = [0; 8];
+    for i in 0..8 {
+        words[i] = block[i] ^ mask;
+    }
+    words
+}
+
+/// One class, in which a signal is complemented where its first value is 1.
+fn phased(alloc: Global, table: &SignatureTable, lits: &[Lit]) -> Result<Classes, NoMemory>
+    requires { All (λ x. x.0 < 2 * length table.now) lits.now }
+{
+    let mut bits = Vec::new(alloc);
+    for i in 0..lits.len() {
+        bits.push(lit_words(table, lits[i])[0] % 2 == 1)?;
+    }
+    Classes::new(alloc, &bits)
+}
+
+/// Splits the classes by the values of 512 runs in one cycle.
+fn split(
+    alloc: Global,
+    classes: &mut Classes,
+    table: &SignatureTable,
+    lits: &[Lit],
+) -> Result<(), NoMemory>
+    requires { All (λ x. x.0 < 2 * length table.now) lits.now }
+{
+    let mut keys = Vec::new(alloc);
+    keys.push(hash_of(&[0; 8], false))?;
+    for i in 0..lits.len() {
+        keys.push(hash_of(&lit_words(table, lits[i]), classes.phase(i + 1)))?;
+    }
+    classes.split_by(alloc, &keys)
+}
+
+/// A hash of the words, or of their complements.
+fn hash_of(words: &[u64; 8], phase: bool) -> u32 {
+    let mask = if phase { u64::MAX } else { 0 };
+    let mut hash = SPREAD;
+    for i in 0..8 {
+        hash = (hash ^ words[i] ^ mask).wrapping_mul(SPREAD);
+    }
+    (hash >> 32) as u32
+}
