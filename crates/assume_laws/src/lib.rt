@@ -3,3 +3,4 @@
 
 pub mod assume_shape;
 pub mod laws;
+pub mod settle_laws;

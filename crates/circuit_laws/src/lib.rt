@@ -2,7 +2,10 @@
 //! values, with their lemmas.
 #![tactic(auto)]
 
+pub mod cycle_laws;
 pub mod event_laws;
 pub mod finite_laws;
 pub mod laws;
 pub mod reset_laws;
+pub mod signal_laws;
+pub mod start_laws;

@@ -4,7 +4,7 @@ use Rattle.std.proofs.Common.{◌≡◌, ℕ, Bool, List, length, map, sym, subs
 use Rattle.std.specs.List.{All}
 use Rattle.circuit_theory.specs.declared.Side.{Side}
 use Rattle.circuit_laws.specs.reset_laws.Reset.{AgreeFromReset}
-use Rattle.cycle_laws.specs.Bounded.{AgreeUpTo}
+use Rattle.circuit_laws.specs.cycle_laws.Bounded.{AgreeUpTo}
 use Rattle.base_tables.specs.Table.{AreDistinct}
 use Rattle.flat_net.specs.declared.parts.Port.{Port}
 use Rattle.flat_net.specs.View.{NetView, circuit_of}

@@ -29,8 +29,8 @@ use Rattle.event_form.proofs.event_agreement.event_pairs.Parts.{cone_up, care_tr
 use Rattle.event_nodes.specs.View.{EventCircuitView}
 use Rattle.event_setup.specs.event_meaning.event_names.event_fits.Circuits.{AreEventCircuits}
 use Rattle.assume_laws.specs.Assume.{Assumption, ReadsInputs, HasCareUnder, HasVariableAtNode}
-use Rattle.settle_laws.specs.Settles.{AreNeverSettled, AreNeverSettledUnder}
-use Rattle.settle_laws.proofs.Never.{without_care_never_settled_exposed, without_care_never_settled_under}
+use Rattle.assume_laws.specs.settle_laws.Settles.{AreNeverSettled, AreNeverSettledUnder}
+use Rattle.assume_laws.proofs.settle_laws.Never.{without_care_never_settled_exposed, without_care_never_settled_under}
 
 -- circuits with the same inputs and equations have the same cares
 module _ (d e : Circuit (Either ℕ ℕ)) (same : AreSame d e) (some_values : Either ℕ ℕ → Bool) (meets_some : Meets e some_values) (order : List ℕ) (class : Either ℕ ℕ → ℕ) where

@@ -7,7 +7,7 @@ use Rattle.assume_laws.specs.Assume.{Assumption}
 use Rattle.obligations.specs.declared.outcome.verdict.Outcome.{Outcome}
 use Rattle.event_setup.specs.event_meaning.event_meaning_under.Taken.{assumed_by}
 use Rattle.event_setup.specs.event_meaning.event_meaning_under.Met.{IsMet}
-use Rattle.settle_laws.specs.Settles.{AreNeverSettled, AreNeverSettledUnder}
+use Rattle.assume_laws.specs.settle_laws.Settles.{AreNeverSettled, AreNeverSettledUnder}
 use Rattle.event_settles.specs.declared.cares.Care.TheVariants as care
 use Rattle.event_settles.specs.declared.cares.IdleLatch.{IdleLatch}
 use Rattle.event_settles.specs.declared.cares.PairCare.{PairCare}

@@ -5,7 +5,7 @@ use Rattle.flat_net.specs.Comparable.{IsComparable}
 use Rattle.flat_net.specs.View.{NetView, circuit_of}
 use Rattle.witness_report.specs.declared.witness.Witness.{Witness}
 use Rattle.witness_report.specs.Shown.{MakesDiffer}
-use Rattle.start_laws.specs.Known.{restarted}
+use Rattle.circuit_laws.specs.start_laws.Known.{restarted}
 use Rattle.restart.specs.Behind.{begun}
 use Rattle.restart.specs.Sequence.{IsShownBehind}
 use Rattle.restart.proofs.Begun.{begun_starts, begun_circuit}

@@ -8,12 +8,12 @@ use Rattle.circuit_theory.specs.Circuit.{Circuit, Equation, Started}
 use Rattle.circuit_theory.specs.Tree.{StandsBeside}
 use Rattle.circuit_theory.proofs.Lists.{Contains-cases, Contains-map, of_at}
 use Rattle.circuit_laws.specs.reset_laws.Reset.{AgreeFromReset}
-use Rattle.cycle_laws.specs.Bounded.{AgreeUpTo}
+use Rattle.circuit_laws.specs.cycle_laws.Bounded.{AgreeUpTo}
 use Rattle.flat_net.specs.declared.parts.Port.{Port}
 use Rattle.flat_net.specs.declared.parts.LatchAt.{LatchAt}
 use Rattle.flat_net.specs.View.{NetView, circuit_of, named, equation_of_gate, equation_of_latch, start_of}
-use Rattle.start_laws.specs.Known.{IsKnown, BeginsWith, restarted, AreStartsAfter}
-use Rattle.start_laws.proofs.Knowing.{agree_from_starts, agree_up_to_from_starts, bit_within}
+use Rattle.circuit_laws.specs.start_laws.Known.{IsKnown, BeginsWith, restarted, AreStartsAfter}
+use Rattle.circuit_laws.proofs.start_laws.Knowing.{agree_from_starts, agree_up_to_from_starts, bit_within}
 use Rattle.restart.specs.Behind.{IsColumnOf, AreColumnsOf, AreKnownLatches, AreKnownBehind, begun, begun_latches}
 use Rattle.restart.specs.Agreement.{BeginsBy, AgreeBehind, Each, UpTo, Before}
 

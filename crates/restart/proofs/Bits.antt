@@ -12,8 +12,8 @@ use Rattle.flat_net.specs.declared.signals.Signal.{Signal}
 use Rattle.flat_net.specs.declared.parts.Gate.{Gate}
 use Rattle.flat_net.specs.declared.parts.LatchAt.{LatchAt}
 use Rattle.flat_net.specs.View.{NetView, circuit_of, cover_of, named}
-use Rattle.start_laws.specs.Known.{IsKnown, AreKnown, cover_three}
-use Rattle.start_laws.proofs.Covers.{cover_forces}
+use Rattle.circuit_laws.specs.start_laws.Known.{IsKnown, AreKnown, cover_three}
+use Rattle.circuit_laws.proofs.start_laws.Covers.{cover_forces}
 use Rattle.restart.specs.Behind.{AreKnownBits, AreKnownLatches}
 
 -- a value that is read with None elsewhere stands there

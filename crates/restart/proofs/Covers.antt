@@ -1,6 +1,6 @@
 -- And, or of bits that may be unknown, taken from the left.
 use Rattle.std.proofs.Common.{◌≡◌, true, false, Bool, refl, Option, Some, None}
-use Rattle.start_laws.specs.Known.{three_and, three_or}
+use Rattle.circuit_laws.specs.start_laws.Known.{three_and, three_or}
 
 pub and_assoc : (x y z : Option Bool) → three_and (three_and x y) z ≡ three_and x (three_and y z)
 and_assoc (Some true) y z = refl

@@ -5,8 +5,8 @@ use Rattle.std.specs.List.{All, Contains}
 use Rattle.circuit_theory.specs.Circuit.{Circuit}
 use Rattle.circuit_theory.specs.Run.{IsRun}
 use Rattle.flat_net.specs.View.{NetView, circuit_of}
-use Rattle.start_laws.specs.Known.{IsKnown}
-use Rattle.start_laws.proofs.Knowing.{known_after_rows}
+use Rattle.circuit_laws.specs.start_laws.Known.{IsKnown}
+use Rattle.circuit_laws.proofs.start_laws.Knowing.{known_after_rows}
 use Rattle.restart.specs.Behind.{KnowsOutput}
 use Rattle.restart.proofs.Begun.{begins_with}
 

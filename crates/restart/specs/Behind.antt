@@ -6,7 +6,7 @@ use Rattle.sec_base.specs.declared.basics.Init.TheVariants as init
 use Rattle.flat_net.specs.declared.parts.Port.{Port}
 use Rattle.flat_net.specs.declared.parts.LatchAt.{LatchAt}
 use Rattle.flat_net.specs.View.{NetView, circuit_of}
-use Rattle.start_laws.specs.Known.{IsKnown}
+use Rattle.circuit_laws.specs.start_laws.Known.{IsKnown}
 
 -- the column of the name, or one behind all where there is none
 abbrev pub IsColumnOf : List (List ℕ) → List ℕ → ℕ → Type 0

@@ -2,7 +2,7 @@
 
 ghost use Rattle.std.specs.Prelude.{◌≡◌, ◌<◌, None, length, map, slice_index_or, All};
 ghost use Rattle.sec_base.specs.Cover.{IsCoverSound};
-ghost use Rattle.start_laws.specs.Known.{three_not, three_and, three_or, place_three, row_three, rows_three, cover_three};
+ghost use Rattle.circuit_laws.specs.start_laws.Known.{three_not, three_and, three_or, place_three, row_three, rows_three, cover_three};
 
 use flat_net::{Cover, Signal, Word};
 

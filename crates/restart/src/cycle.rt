@@ -3,7 +3,7 @@
 ghost use Rattle.std.specs.Prelude.{◌≡◌, ◌<◌, ℕ, suc, Bool, List, None, length, map, slice_get, slice_index_or, IfSome};
 ghost use Rattle.restart.specs.Behind.{HasRow, AreKnownLatches, AreKnownBits};
 ghost use Rattle.flat_net.specs.View.{cover_of};
-ghost use Rattle.start_laws.specs.Known.{cover_three};
+ghost use Rattle.circuit_laws.specs.start_laws.Known.{cover_three};
 
 use crate::cover::cover_three;
 use flat_net::{Net, gate_of};

@@ -3,7 +3,7 @@
 ghost use Rattle.std.specs.Prelude.{◌≡◌, ◌-◌, ℕ, Bool, None, Some, length, slice_get, slice_index_or, IfOk};
 ghost use Rattle.std.specs.List.{Contains};
 ghost use Rattle.flat_net.specs.View.{circuit_of};
-ghost use Rattle.start_laws.specs.Known.{IsKnown};
+ghost use Rattle.circuit_laws.specs.start_laws.Known.{IsKnown};
 ghost use Rattle.restart.specs.Behind.{IsColumnOf, AreColumnsOf, AreKnownLatches, AreKnownBits, AreKnownBehind, KnowsOutput};
 
 use crate::cycle::{compute, take_over};

@@ -22,11 +22,11 @@ use Rattle.sec_setup.specs.declared.ports.pairs.SignalPair.{SignalPair}
 use Rattle.sec_setup.specs.ports.Pairing.{IsOutputPair}
 use Rattle.sec_setup.proofs.ports.Paired.{names_of, place_named-at}
 use Rattle.sec_setup.proofs.ports.Shared.{some_is}
-use Rattle.signal_laws.specs.declared.anchor.Anchor.{Anchor}
-use Rattle.signal_laws.specs.declared.anchor.Anchor.TheVariants as anchor
-use Rattle.signal_laws.specs.Ties.{side_at, anchor_value, AreTied}
-use Rattle.signal_laws.specs.Laws.{GiveOutputs}
-use Rattle.signal_laws.proofs.Holding.{tied_outputs_agree}
+use Rattle.circuit_laws.specs.declared.signal_laws.anchor.Anchor.{Anchor}
+use Rattle.circuit_laws.specs.declared.signal_laws.anchor.Anchor.TheVariants as anchor
+use Rattle.circuit_laws.specs.signal_laws.Ties.{side_at, anchor_value, AreTied}
+use Rattle.circuit_laws.specs.signal_laws.Laws.{GiveOutputs}
+use Rattle.circuit_laws.proofs.signal_laws.Holding.{tied_outputs_agree}
 use Rattle.signal_refine.specs.Asking.{same_bit}
 use Rattle.signal_induct.specs.declared.outputs.TiedPair.{TiedPair}
 use Rattle.signal_induct.specs.declared.induction.SignalInduction.{SignalInduction}

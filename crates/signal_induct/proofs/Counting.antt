@@ -1,7 +1,7 @@
 -- Ties, counted one after the other.
 use Rattle.std.proofs.Common.{◌≡◌, ◌∙◌, ◌+◌, ◌<◌, ◌≤◌, ℕ, cond, List, [], ◌∷◌, length, drop, get_or, suc, sym, ap, arith, add-one}
 use Rattle.std.proofs.lemmas.List.{drop_all, drop_more}
-use Rattle.signal_laws.specs.declared.anchor.Anchor.{Anchor}
+use Rattle.circuit_laws.specs.declared.signal_laws.anchor.Anchor.{Anchor}
 use Rattle.signal_induct.specs.Tied.{is_tied, ties_from}
 
 pub one_more : (anchors : List Anchor) (i count all : ℕ) (k d : Anchor) → i < length anchors → k ≡ get_or anchors i d → count + ties_from i (drop i anchors) ≡ all → cond (is_tied i k) 1 0 + count + ties_from (i + 1) (drop (i + 1) anchors) ≡ all

@@ -8,9 +8,9 @@ use Rattle.witness_report.specs.declared.witness.PairName.{PairName}
 use Rattle.witness_report.specs.declared.witness.PairName.TheVariants as pair_name
 use Rattle.sec_setup.specs.declared.ports.pairs.SignalPair.{SignalPair}
 use Rattle.sec_setup.specs.ports.Pairing.{IsOutputPair}
-use Rattle.signal_laws.specs.declared.anchor.Anchor.{Anchor}
-use Rattle.signal_laws.specs.declared.anchor.Anchor.TheVariants as anchor
-use Rattle.signal_laws.specs.Laws.{AreInductive}
+use Rattle.circuit_laws.specs.declared.signal_laws.anchor.Anchor.{Anchor}
+use Rattle.circuit_laws.specs.declared.signal_laws.anchor.Anchor.TheVariants as anchor
+use Rattle.circuit_laws.specs.signal_laws.Laws.{AreInductive}
 use Rattle.signal_refine.specs.Asking.{same_bit}
 use Rattle.signal_induct.specs.declared.outputs.TiedPair.{TiedPair}
 use Rattle.signal_induct.specs.declared.induction.SignalInduction.{SignalInduction}

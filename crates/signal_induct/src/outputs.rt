@@ -9,10 +9,10 @@ ghost use Rattle.sec_setup.specs.ports.Pairing.{IsOutputPair};
 ghost use Rattle.signal_induct.specs.Tied.{name_of, tied_pair};
 
 use crate::ties::{anchor_at, same_anchor};
+use circuit_laws::signal_laws::Anchor;
 use flat_net::Net;
 use sec_base::{Ids, NoMemory, Seq, Word, Words};
 use sec_setup::ports::{SignalPair, SignalPairs, pairs_of};
-use signal_laws::Anchor;
 use std::alloc::Global;
 use witness_report::PairName;
 

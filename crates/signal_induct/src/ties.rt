@@ -4,7 +4,7 @@ ghost use Rattle.std.specs.Prelude.{◌≡◌, ◌+◌, ◌<◌, ◌^◌, if◌t
 ghost use Rattle.signal_refine.specs.Asking;
 ghost use Rattle.signal_induct.specs.Tied.{anchor_at, same_anchor, is_tied, ties_from};
 
-use signal_laws::Anchor;
+use circuit_laws::signal_laws::Anchor;
 
 /// What the signal at the place is tied to; of itself, where it is tied to nothing.
 pub(crate) fn anchor_at(anchors: &[Anchor], place: usize) -> Anchor

@@ -8,8 +8,8 @@ use Rattle.circuit_theory.specs.Joined.{Either}
 use Rattle.circuit_theory.proofs.Lists.{Contains-head, Contains-tail}
 use Rattle.circuit_laws.proofs.Agreement.{value_of_number, first_value, value_found}
 use Rattle.circuit_laws.proofs.reset_laws.ResetAgreement.{lt_true, lt_false}
-use Rattle.signal_laws.specs.Ties.{side_at}
-use Rattle.signal_laws.specs.Invariants.{IsCycle}
+use Rattle.circuit_laws.specs.signal_laws.Ties.{side_at}
+use Rattle.circuit_laws.specs.signal_laws.Invariants.{IsCycle}
 use Rattle.signal_refine.specs.declared.nets.SignalNets.{SignalNets}
 use Rattle.signal_refine.specs.Places.{size_of, places_of, whole, order_of}
 use Rattle.signal_refine.specs.Showing.{AreBelow}

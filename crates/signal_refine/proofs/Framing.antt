@@ -14,8 +14,8 @@ use Rattle.aig.specs.Values.{value}
 use Rattle.aig.proofs.Insert.{graph-some}
 use Rattle.aig.proofs.Growth.{Grows-refl, Grows-trans, Grows-length}
 use Rattle.aig.proofs.Meaning.{value-grows}
-use Rattle.signal_laws.specs.declared.anchor.Anchor.{Anchor}
-use Rattle.signal_laws.specs.Ties.{side_at, AreTied}
+use Rattle.circuit_laws.specs.declared.signal_laws.anchor.Anchor.{Anchor}
+use Rattle.circuit_laws.specs.signal_laws.Ties.{side_at, AreTied}
 use Rattle.signal_refine.specs.declared.nets.SignalNets.{SignalNets}
 use Rattle.signal_refine.specs.declared.leaves.Latches.{Latches}
 use Rattle.signal_refine.specs.declared.leaves.Latches.TheVariants as latches

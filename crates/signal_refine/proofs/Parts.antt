@@ -14,7 +14,7 @@ use Rattle.flat_net.specs.View.{NetView, circuit_of}
 use Rattle.flat_net.specs.Sound.{IsSound}
 use Rattle.aig.specs.declared.node.Node.{Node}
 use Rattle.block_refine.proofs.latch_blocks.Joining.{left_number, right_number}
-use Rattle.signal_laws.specs.Ties.{side_at}
+use Rattle.circuit_laws.specs.signal_laws.Ties.{side_at}
 use Rattle.signal_refine.specs.declared.nets.SignalNets.{SignalNets}
 use Rattle.signal_refine.specs.declared.nets.Spot.{Spot}
 use Rattle.signal_refine.specs.declared.leaves.Cycle.{Cycle}

@@ -8,8 +8,8 @@ use Rattle.aig.specs.declared.node.Node.{Node}
 use Rattle.aig.specs.Graph.{Grows}
 use Rattle.aig.specs.Values.{value}
 use Rattle.aig.proofs.Meaning.{value-grows}
-use Rattle.signal_laws.specs.declared.anchor.Anchor.{Anchor}
-use Rattle.signal_laws.specs.declared.anchor.Anchor.TheVariants as anchor
+use Rattle.circuit_laws.specs.declared.signal_laws.anchor.Anchor.{Anchor}
+use Rattle.circuit_laws.specs.declared.signal_laws.anchor.Anchor.TheVariants as anchor
 use Rattle.signal_refine.specs.Asking.{AnchorHas, IsShownAt}
 
 module _ (g h : List Node) (grows : Grows g h) (lits : List Lit) (care : Lit) (within : All (λ x. x.0 < 2 * length g) lits) (care_within : care.0 < 2 * length g) where

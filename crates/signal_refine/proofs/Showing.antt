@@ -9,10 +9,10 @@ use Rattle.aig.specs.declared.node.Node.{Node}
 use Rattle.aig.specs.Graph.{Grows}
 use Rattle.aig.specs.Values.{value}
 use Rattle.aig.proofs.Growth.{Grows-trans}
-use Rattle.signal_laws.specs.declared.anchor.Anchor.{Anchor}
-use Rattle.signal_laws.specs.declared.anchor.Anchor.TheVariants as anchor
-use Rattle.signal_laws.specs.Ties.{side_at, anchor_value, AreTied}
-use Rattle.signal_laws.specs.Invariants.{IsFirstCycle, AreSuccessive}
+use Rattle.circuit_laws.specs.declared.signal_laws.anchor.Anchor.{Anchor}
+use Rattle.circuit_laws.specs.declared.signal_laws.anchor.Anchor.TheVariants as anchor
+use Rattle.circuit_laws.specs.signal_laws.Ties.{side_at, anchor_value, AreTied}
+use Rattle.circuit_laws.specs.signal_laws.Invariants.{IsFirstCycle, AreSuccessive}
 use Rattle.signal_refine.specs.declared.nets.SignalNets.{SignalNets}
 use Rattle.signal_refine.specs.declared.leaves.Latches.{Latches}
 use Rattle.signal_refine.specs.declared.leaves.Latches.TheVariants as latches

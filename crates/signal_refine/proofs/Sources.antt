@@ -18,7 +18,7 @@ use Rattle.aig.specs.declared.node.Node.{Node}
 use Rattle.aig.specs.Values.{value}
 use Rattle.block_refine.specs.latch_blocks.Signals.{lit_at, IsGateLit}
 use Rattle.block_refine.proofs.block_graph.Numbered.{at_drop}
-use Rattle.signal_laws.specs.Ties.{side_at}
+use Rattle.circuit_laws.specs.signal_laws.Ties.{side_at}
 use Rattle.signal_refine.specs.declared.nets.Spot.{Spot}
 use Rattle.signal_refine.specs.declared.leaves.Cycle.{Cycle}
 use Rattle.signal_refine.specs.Places.{size_of, places_of, whole, order_of}

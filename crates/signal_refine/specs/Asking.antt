@@ -3,8 +3,8 @@ use Rattle.std.specs.Prelude.{◌≡◌, ℕ, Bool, true, false, not, if◌then�
 use Rattle.aig.specs.declared.node.Lit.{Lit}
 use Rattle.aig.specs.declared.node.Node.{Node}
 use Rattle.aig.specs.Values.{value}
-use Rattle.signal_laws.specs.declared.anchor.Anchor.{Anchor}
-use Rattle.signal_laws.specs.declared.anchor.Anchor.TheVariants as anchor
+use Rattle.circuit_laws.specs.declared.signal_laws.anchor.Anchor.{Anchor}
+use Rattle.circuit_laws.specs.declared.signal_laws.anchor.Anchor.TheVariants as anchor
 
 -- the anchor has this value, by the literals of signals
 abbrev pub AnchorHas : List Node → (ℕ → Bool) → List Lit → Anchor → Bool → Type 0

@@ -2,9 +2,9 @@
 use Rattle.std.specs.Prelude.{◌≡◌, ℕ, ◌+◌, ◌^◌, ◌<◌, ◌≤◌, Bool, List, length}
 use Rattle.std.specs.List.{All}
 use Rattle.circuit_theory.specs.Joined.{Either}
-use Rattle.signal_laws.specs.declared.anchor.Anchor.{Anchor}
-use Rattle.signal_laws.specs.Ties.{AreTied}
-use Rattle.signal_laws.specs.Invariants.{IsFirstCycle, AreSuccessive, IsInductiveInvariant}
+use Rattle.circuit_laws.specs.declared.signal_laws.anchor.Anchor.{Anchor}
+use Rattle.circuit_laws.specs.signal_laws.Ties.{AreTied}
+use Rattle.circuit_laws.specs.signal_laws.Invariants.{IsFirstCycle, AreSuccessive, IsInductiveInvariant}
 use Rattle.signal_refine.specs.declared.nets.SignalNets.{SignalNets}
 use Rattle.signal_refine.specs.Places.{size_of, places_of, whole, order_of}
 

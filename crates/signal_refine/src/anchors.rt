@@ -8,7 +8,7 @@ ghost use Rattle.aig.specs.Values.{value};
 ghost use Rattle.signal_refine.specs.Asking.{AnchorHas};
 
 use aig::{Aig, Lit};
-use signal_laws::Anchor;
+use circuit_laws::signal_laws::Anchor;
 
 /// The literal of the anchor, where signals have these literals, if there is one.
 pub(crate) fn anchor_literal(lits: &[Lit], anchor: Anchor) -> Option<Lit>

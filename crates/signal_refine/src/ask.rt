@@ -12,8 +12,8 @@ use crate::anchors::anchor_literal;
 use crate::classes::Classes;
 use crate::leaves::is_full;
 use aig::{Aig, Lit};
+use circuit_laws::signal_laws::Anchor;
 use sec_base::NoMemory;
-use signal_laws::Anchor;
 use std::alloc::Global;
 use swept_queries::node_agreement::{Budget, Effort, Proved, prove, zero};
 

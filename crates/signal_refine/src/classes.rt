@@ -2,8 +2,8 @@
 
 use aig::{Aig, Lit, node_bits};
 use base_tables::PlaceTable;
+use circuit_laws::signal_laws::Anchor;
 use sec_base::{Ids, NoMemory};
-use signal_laws::Anchor;
 use std::alloc::Global;
 use sweep_candidates::Model;
 use swept_queries::node_agreement::Proved;

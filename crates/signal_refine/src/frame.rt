@@ -6,7 +6,7 @@ ghost use Rattle.flat_net.specs.declared.parts.Driver.TheVariants as driver;
 ghost use Rattle.aig.specs.Graph.{Grows};
 ghost use Rattle.aig.specs.Values.{value};
 ghost use Rattle.block_refine.specs.latch_blocks.Signals.{IsGateLit};
-ghost use Rattle.signal_laws.specs.Ties.{side_at};
+ghost use Rattle.circuit_laws.specs.signal_laws.Ties.{side_at};
 ghost use Rattle.signal_refine.specs.Places.{size_of, places_of, IsSpot};
 ghost use Rattle.signal_refine.specs.Frames.{AreFit, HaveValues, IsReadBy, IsFrame, IsPut, IsReadAs};
 
@@ -15,9 +15,9 @@ use crate::leaves::{Cycle, input_literal, latch_literal};
 use crate::nets::Spot;
 use aig::{Aig, Lit};
 use block_refine::latch_blocks::gate_literal;
+use circuit_laws::signal_laws::Anchor;
 use flat_net::{Driver, weigh};
 use sec_base::NoMemory;
-use signal_laws::Anchor;
 use std::alloc::Global;
 
 /// The literals of all signals, by their places.

@@ -5,7 +5,7 @@ ghost use Rattle.circuit_theory.specs.Joined.{Either};
 ghost use Rattle.flat_net.specs.declared.parts.Driver.TheVariants as driver;
 ghost use Rattle.aig.specs.Graph.{Grows};
 ghost use Rattle.aig.specs.Values.{value};
-ghost use Rattle.signal_laws.specs.Ties.{side_at};
+ghost use Rattle.circuit_laws.specs.signal_laws.Ties.{side_at};
 ghost use Rattle.signal_refine.specs.Places.{size_of, places_of, IsSpot};
 ghost use Rattle.signal_refine.specs.Frames.{AreFit, IsReadBy};
 

@@ -11,8 +11,8 @@ use crate::leaves::{Cycle, Latches};
 use crate::nets::SignalNets;
 use crate::runs::candidates;
 use aig::{Aig, Lit};
+use circuit_laws::signal_laws::Anchor;
 use sec_base::{NoMemory, Orders};
-use signal_laws::Anchor;
 use std::alloc::Global;
 
 /// Ties that are an inductive invariant.

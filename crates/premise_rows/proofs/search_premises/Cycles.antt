@@ -7,8 +7,8 @@ use Rattle.circuit_theory.specs.Tree.{Tree, Fixed, Branch, Cons, Nil, tree_value
 use Rattle.circuit_theory.proofs.Lists.{only}
 use Rattle.circuit_laws.specs.reset_laws.Reset.{ResetUnfolds, ResetUnfoldsAll, HasStarts, HaveEqualResets}
 use Rattle.circuit_laws.proofs.reset_laws.ResetExist.{reset_trees_are_one}
-use Rattle.cycle_laws.specs.Samples.{turned, toggle}
-use Rattle.cycle_laws.proofs.Cycles.{equal_up_to_agree, cycles_are_decided}
+use Rattle.circuit_laws.specs.cycle_laws.Samples.{turned, toggle}
+use Rattle.circuit_laws.proofs.cycle_laws.Cycles.{equal_up_to_agree, cycles_are_decided}
 use Rattle.call_rows.proofs.circuit_samples.NetTest.{net_test-sound, numbers_distinct-sound}
 use Rattle.premise_rows.specs.search_premises.Cycles.{always, rises, AreEqualInCycles, AgreeInTwoCycles}
 

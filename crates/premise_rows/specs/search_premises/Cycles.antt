@@ -8,8 +8,8 @@ use Rattle.circuit_theory.specs.Cover.{Cover}
 use Rattle.circuit_theory.specs.Net.{IsNet}
 use Rattle.circuit_theory.specs.Tree.{Tree, AreNumbered, tree_value}
 use Rattle.circuit_laws.specs.reset_laws.Reset.{ResetUnfolds, HasStarts, AreBased, HaveEqualResets}
-use Rattle.cycle_laws.specs.Bounded.{AgreeUpTo}
-use Rattle.cycle_laws.specs.Samples.{toggle}
+use Rattle.circuit_laws.specs.cycle_laws.Bounded.{AgreeUpTo}
+use Rattle.circuit_laws.specs.cycle_laws.Samples.{toggle}
 
 -- the constant 1
 abbrev pub always : Cover

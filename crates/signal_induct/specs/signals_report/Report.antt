@@ -5,8 +5,8 @@ use Rattle.std.specs.List.{flat_map}
 use Rattle.sec_base.specs.Texts.{digit_of}
 use Rattle.flat_net.specs.declared.parts.LatchAt.{LatchAt}
 use Rattle.flat_net.specs.View.{NetView}
-use Rattle.signal_laws.specs.declared.anchor.Anchor.{Anchor}
-use Rattle.signal_laws.specs.declared.anchor.Anchor.TheVariants as anchor
+use Rattle.circuit_laws.specs.declared.signal_laws.anchor.Anchor.{Anchor}
+use Rattle.circuit_laws.specs.declared.signal_laws.anchor.Anchor.TheVariants as anchor
 use Rattle.signal_induct.specs.declared.outputs.TiedPair.{TiedPair}
 use Rattle.signal_induct.specs.declared.induction.SignalInduction.{SignalInduction}
 use Rattle.signal_induct.specs.Tied.{anchor_at, is_tied, ties_from, first_apart}

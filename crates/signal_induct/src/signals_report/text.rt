@@ -7,9 +7,9 @@ ghost use Rattle.signal_induct.specs.signals_report.Report.{name_at, signal_text
 
 use crate::outputs::TiedPair;
 use crate::ties::{anchor_at, is_tied, tie_count};
+use circuit_laws::signal_laws::Anchor;
 use flat_net::{LatchAt, Net, Signal};
 use sec_base::{NoMemory, digit_of, put, put_number};
-use signal_laws::Anchor;
 use std::alloc::Global;
 
 /// Puts a line of a number behind its word.

@@ -8,9 +8,9 @@ ghost use Rattle.signal_induct.specs.signals_report.Report.{latch_line, latches_
 use crate::induction::SignalInduction;
 use crate::outputs::{TiedPair, first_apart};
 use crate::signals_report::text::{put_count, put_counts, put_latch, put_pair};
+use circuit_laws::signal_laws::Anchor;
 use flat_net::{LatchAt, Net};
 use sec_base::{NoMemory, Seq, Text, put};
-use signal_laws::Anchor;
 use std::alloc::Global;
 
 /// The report: how many signals both circuits have, how many of them are tied to no other, and how many are; a line for each latch that

@@ -21,7 +21,7 @@ use Rattle.circuit_theory.proofs.Numbers.{one_place}
 use Rattle.circuit_laws.proofs.JoinedParts.{joined_single, joined_number_once}
 use Rattle.circuit_laws.proofs.event_laws.EventTrees.{one_enable}
 use Rattle.assume_laws.specs.Assume.{ReadsInputs}
-use Rattle.settle_laws.specs.Settles.{HaveNoCare, HaveNoCareUnder}
+use Rattle.assume_laws.specs.settle_laws.Settles.{HaveNoCare, HaveNoCareUnder}
 use Rattle.call_rows.proofs.circuit_samples.NetTest.{net_test-sound, numbers_distinct-sound}
 use Rattle.call_rows.proofs.circuit_samples.Each.{each_latch, each_split}
 use Rattle.call_rows.specs.circuit_samples.event_samples.Always.{nothing, nothing_cover, one_always}

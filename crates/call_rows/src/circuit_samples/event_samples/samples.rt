@@ -11,7 +11,7 @@ ghost use Rattle.circuit_theory.specs.Agree.{cut, Agree, AgreeOnward};
 ghost use Rattle.circuit_theory.specs.Joined.{Left, Right, joined};
 ghost use Rattle.circuit_theory.specs.EventFrames.{AreNodeVariables, IsPairTree, HaveDifferentEvents, IsEventDifference, IsSeparation, IsSeparationFromAlways};
 ghost use Rattle.circuit_theory.specs.EventFits.{ReachesAlways};
-ghost use Rattle.settle_laws.specs.Settles.{HaveNoCare, HaveNoCareUnder};
+ghost use Rattle.assume_laws.specs.settle_laws.Settles.{HaveNoCare, HaveNoCareUnder};
 ghost use Rattle.circuit_theory.specs.EventQueries.{IsEventPairQuery};
 ghost use Rattle.circuit_theory.specs.Net.{IsNet};
 ghost use Rattle.assume_laws.specs.Assume.{IsAssumption, ReadsInputs, PlaceUnfolds, AgreeUnder, AgreeOnwardUnder};

@@ -1,5 +1,5 @@
 use Rattle.std.proofs.Common.{◌≡◌, map, drop, slice_index_or, None}
-use Rattle.start_laws.specs.Known.{three_and, row_three}
+use Rattle.circuit_laws.specs.start_laws.Known.{three_and, row_three}
 use Rattle.restart.proofs.cover.row_three.Given as goal
 
 abbrev pub invariant-loop-i : goal.invariant-loop-i

@@ -1,5 +1,5 @@
 use Rattle.std.proofs.Common.{◌≡◌, map, drop, slice_index_or, None}
-use Rattle.start_laws.specs.Known.{three_or, rows_three}
+use Rattle.circuit_laws.specs.start_laws.Known.{three_or, rows_three}
 use Rattle.restart.proofs.cover.rows_three.Given as goal
 
 abbrev pub invariant-loop-row : goal.invariant-loop-row

@@ -5,7 +5,7 @@ use Rattle.sec_base.specs.Cover.{IsCoverSound}
 use Rattle.flat_net.specs.declared.signals.Signal.{Signal}
 use Rattle.flat_net.specs.View.{cover_of}
 use Rattle.flat_net.proofs.Places.{All-at, cover_of-is, cover_within, cover_fits, fanins_within}
-use Rattle.start_laws.specs.Known.{cover_three}
+use Rattle.circuit_laws.specs.start_laws.Known.{cover_three}
 use Rattle.restart.proofs.cycle.gate_three.Goals as goal
 
 pub cover-cover-requires : goal.cover-cover-requires

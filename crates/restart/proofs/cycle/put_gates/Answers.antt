@@ -4,7 +4,7 @@ use Rattle.std.specs.Prelude.{IfSome}
 use Rattle.flat_net.specs.declared.signals.Signal.{Signal}
 use Rattle.flat_net.specs.declared.parts.Gate.{Gate}
 use Rattle.flat_net.specs.View.{cover_of}
-use Rattle.start_laws.specs.Known.{cover_three}
+use Rattle.circuit_laws.specs.start_laws.Known.{cover_three}
 use Rattle.cycle_sim.proofs.Lists.{item_at, gate_within}
 use Rattle.restart.proofs.Bits.{known_put, gate_known}
 use Rattle.restart.proofs.cycle.put_gates.Goals as goal

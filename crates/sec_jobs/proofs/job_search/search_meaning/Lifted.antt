@@ -3,7 +3,7 @@ use Rattle.std.proofs.Common.{◌≡◌, ◌∙◌, ℕ, ◌<◌, ◌≤◌, Boo
 use Rattle.circuit_theory.specs.Agree.{IsPair}
 use Rattle.circuit_theory.specs.Circuit.{Circuit}
 use Rattle.circuit_laws.specs.reset_laws.Reset.{AreAlikeFromReset}
-use Rattle.cycle_laws.specs.Bounded.{AgreeUpTo}
+use Rattle.circuit_laws.specs.cycle_laws.Bounded.{AgreeUpTo}
 use Rattle.obligations.specs.declared.outcome.verdict.ResetWitness.{ResetWitness}
 use Rattle.plain_check.specs.under_base.compare_base.Says.{MakesResetsDiffer}
 use Rattle.job_base.proofs.design_laws.FlatParts.{FlatDesign, output_down, output_up}

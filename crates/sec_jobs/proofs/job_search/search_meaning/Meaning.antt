@@ -16,8 +16,8 @@ use Rattle.circuit_laws.specs.reset_laws.Reset.{HasStarts, HaveEqualResets, IsRe
 use Rattle.circuit_laws.proofs.reset_laws.ResetAgreement.{equal_resets_agree, reset_same_at}
 use Rattle.circuit_laws.proofs.reset_laws.ResetWindows.{reset_witness_makes_differ}
 use Rattle.circuit_laws.proofs.reset_laws.reset_nets.Starts.{nets_have_starts}
-use Rattle.cycle_laws.specs.Bounded.{AgreeUpTo}
-use Rattle.cycle_laws.proofs.Cycles.{equal_up_to_agree}
+use Rattle.circuit_laws.specs.cycle_laws.Bounded.{AgreeUpTo}
+use Rattle.circuit_laws.proofs.cycle_laws.Cycles.{equal_up_to_agree}
 use Rattle.flat_net.specs.declared.parts.Port.{Port}
 use Rattle.flat_net.specs.View.{NetView, named, circuit_of}
 use Rattle.flat_net.proofs.Nets.{sound_is_net, sound_names}

@@ -4,7 +4,7 @@ use Rattle.circuit_theory.specs.Circuit.{Circuit}
 use Rattle.circuit_theory.specs.Interface.{first_mismatch}
 use Rattle.circuit_theory.specs.declared.Side.{Side}
 use Rattle.circuit_laws.specs.reset_laws.Reset.{AgreeFromReset}
-use Rattle.cycle_laws.specs.Bounded.{AgreeUpTo}
+use Rattle.circuit_laws.specs.cycle_laws.Bounded.{AgreeUpTo}
 use Rattle.sec_base.specs.base_shelves.Outside.{Takes}
 use Rattle.flat_net.specs.View.{NetView, circuit_of, ports_of}
 use Rattle.blif_read.specs.Design.{Place}

@@ -3,7 +3,7 @@ use Rattle.std.specs.Prelude.{◌≡◌, ℕ, List, Option, Some}
 use Rattle.std.specs.List.{filter_map}
 use Rattle.circuit_theory.specs.declared.Side.{Side}
 use Rattle.circuit_laws.specs.reset_laws.Reset.{AgreeFromReset}
-use Rattle.cycle_laws.specs.Bounded.{AgreeUpTo}
+use Rattle.circuit_laws.specs.cycle_laws.Bounded.{AgreeUpTo}
 use Rattle.flat_net.specs.View.{NetView, circuit_of}
 use Rattle.pair_decide.specs.declared.query.Proof.{Proof}
 use Rattle.obligations.specs.declared.outcome.verdict.PairResult.{PairResult}

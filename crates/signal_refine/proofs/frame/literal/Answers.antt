@@ -4,7 +4,7 @@ use Rattle.circuit_theory.specs.Joined.{Either}
 use Rattle.aig.specs.declared.node.Lit.{Lit}
 use Rattle.aig.specs.Values.{value}
 use Rattle.block_refine.specs.latch_blocks.Signals.{IsGateLit}
-use Rattle.signal_laws.specs.Ties.{side_at}
+use Rattle.circuit_laws.specs.signal_laws.Ties.{side_at}
 use Rattle.signal_refine.specs.Places.{size_of}
 use Rattle.signal_refine.specs.Frames.{HaveValues, IsReadBy}
 use Rattle.signal_refine.proofs.Parts.{spot_is_at}

@@ -6,7 +6,7 @@ use Rattle.circuit_theory.specs.Joined.{Either}
 use Rattle.flat_net.specs.declared.parts.Driver.TheVariants as driver
 use Rattle.aig.specs.declared.node.Lit.{Lit}
 use Rattle.aig.specs.Values.{value}
-use Rattle.signal_laws.specs.Ties.{side_at}
+use Rattle.circuit_laws.specs.signal_laws.Ties.{side_at}
 use Rattle.signal_refine.specs.Places.{size_of}
 use Rattle.signal_refine.specs.Frames.{IsReadBy}
 use Rattle.signal_refine.proofs.Parts.{IsAt, spot_is_at}

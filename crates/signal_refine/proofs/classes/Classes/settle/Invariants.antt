@@ -1,7 +1,7 @@
 use Rattle.std.proofs.Common.{◌≡◌, ◌<◌, ℕ, slice_get, Some}
 use Rattle.std.specs.Prelude.{IsTrue}
 use Rattle.aig.specs.Graph.{Grows}
-use Rattle.signal_laws.specs.declared.anchor.Anchor.{Anchor}
+use Rattle.circuit_laws.specs.declared.signal_laws.anchor.Anchor.{Anchor}
 use Rattle.signal_refine.specs.Asking.{IsShownAt}
 use Rattle.signal_refine.proofs.classes.Classes.settle.Given as goal
 

@@ -3,7 +3,7 @@ use Rattle.std.proofs.Common.{◌≡◌, ◌∙◌, ◌*◌, ◌<◌, ℕ, Bool,
 use Rattle.circuit_theory.specs.Joined.{Either}
 use Rattle.aig.specs.declared.node.Lit.{Lit}
 use Rattle.aig.specs.Values.{value}
-use Rattle.signal_laws.specs.Ties.{side_at}
+use Rattle.circuit_laws.specs.signal_laws.Ties.{side_at}
 use Rattle.signal_refine.specs.Places.{size_of}
 use Rattle.signal_refine.specs.Frames.{HaveValues, IsReadBy, IsReadAs}
 use Rattle.signal_refine.proofs.Framing.{put_from}

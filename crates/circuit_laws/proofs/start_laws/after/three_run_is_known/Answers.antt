@@ -1,0 +1,5 @@
+use Rattle.circuit_laws.proofs.start_laws.Three.{three_run_is_known}
+use Rattle.circuit_laws.proofs.start_laws.after.three_run_is_known.Goals as goal
+
+pub returns : goal.returns
+returns c = three_run_is_known

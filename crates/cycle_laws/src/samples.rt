@@ -1,8 +1,0 @@
-//! An example with latches that read themselves.
-
-ghost use Rattle.cycle_laws.specs.Samples.{ToggleDiffers};
-
-/// A toggle from 0 differs in cycle 1 from a latch that keeps 0.
-pub fn toggle_differs()
-    ensures { ToggleDiffers }
-{}

@@ -1,5 +1,0 @@
-use Rattle.settle_laws.proofs.Never.{without_care_never_settled_exposed}
-use Rattle.settle_laws.proofs.settles.without_care_never_settled_exposed.Goals as goal
-
-pub returns : goal.returns
-returns c = without_care_never_settled_exposed

@@ -1,5 +1,0 @@
-use Rattle.settle_laws.proofs.Never.{without_care_never_settled_under}
-use Rattle.settle_laws.proofs.settles.without_care_never_settled_under.Goals as goal
-
-pub returns : goal.returns
-returns c = without_care_never_settled_under

@@ -1,4 +1,0 @@
-//! When the two sides of a pair are settled together. None of these functions does anything: each contract is a law.
-#![tactic(auto)]
-
-pub mod settles;

@@ -1,8 +1,0 @@
-//! An example that meets the premises of the laws.
-
-ghost use Rattle.signal_laws.specs.Toggles.{TogglesAgree};
-
-/// Two toggling latches, one of which has the complement of the other: their signals are tied, so the circuits agree.
-pub fn toggles_agree()
-    ensures { TogglesAgree }
-{}
