@@ -6,9 +6,9 @@ use Rattle.circuit_theory.proofs.Lists.{Contains-head, Contains-map, Contains-ma
 use Rattle.blif_read.specs.declared.design.BlifModel.{BlifModel}
 use Rattle.flat_net.specs.declared.parts.Port.{Port}
 use Rattle.flat_net.specs.View.{NetView, named, circuit_of}
-use Rattle.sec_jobs.specs.job_cert.pair_clauses.Clauses.{IsOutput}
+use Rattle.job_cert.specs.pair_clauses.Clauses.{IsOutput}
 use Rattle.job_check.specs.check_meaning.check_texts.Texts.{AreComparable}
-use Rattle.sec_jobs.specs.job_cert.Answer.{AreCertifiable}
+use Rattle.job_cert.specs.Answer.{AreCertifiable}
 use Rattle.job_check.specs.check_meaning.design_rows.Designs as design
 use Rattle.job_check.specs.check_meaning.design_rows.Small.{Small, IsSmall, small_and, small_late}
 use Rattle.job_check.specs.check_meaning.design_rows.Texts.{on_and, off_and, late, early}

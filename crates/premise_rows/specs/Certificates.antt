@@ -1,6 +1,6 @@
 -- Two circuits that have a certificate.
 use Rattle.std.specs.Prelude.{codes}
-use Rattle.sec_jobs.specs.job_cert.Answer.{AreCertifiable}
+use Rattle.job_cert.specs.Answer.{AreCertifiable}
 use Rattle.job_check.specs.check_meaning.design_rows.Texts.{on_and, off_and, late, early}
 
 -- two ands, and a circuit with the same retimed

@@ -1,4 +1,2 @@
-pub mod job_gen
-pub mod job_cert
 pub mod job_induct
 pub mod job_search

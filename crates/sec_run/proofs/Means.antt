@@ -7,7 +7,7 @@ use Rattle.job_base.specs.declared.status.StatusName.{StatusName}
 use Rattle.job_base.specs.declared.status.StatusName.TheVariants as status
 use Rattle.job_base.specs.Written.{IsWrittenAs}
 use Rattle.job_base.specs.Lines.{finding_text}
-use Rattle.sec_jobs.specs.job_cert.sec_files.Reading.{Held}
+use Rattle.job_cert.specs.sec_files.Reading.{Held}
 use Rattle.sec_run.specs.Answer.{IsFinding, IsCutOff, EndsAs}
 
 pub written_ends : (held : Held) (job : Option Task) (before now : Option (List ℕ)) (f : Finding) (proofs : List Proof) (name : StatusName) →

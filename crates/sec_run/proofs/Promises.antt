@@ -9,7 +9,7 @@ use Rattle.job_base.specs.declared.status.StatusName.TheVariants as status
 use Rattle.job_base.specs.Written.{status_of, IsWrittenAs}
 use Rattle.job_base.specs.Meaning.{SaysNothing}
 use Rattle.job_base.proofs.Meaning.{says_nothing, by_finding}
-use Rattle.sec_jobs.specs.job_cert.sec_files.Reading.{Held}
+use Rattle.job_cert.specs.sec_files.Reading.{Held}
 use Rattle.job_circuit.specs.declared.job_replay.replays.ReplayReport.TheVariants as told
 use Rattle.job_circuit.specs.job_replay.Told.{report_with}
 use Rattle.job_circuit.proofs.Means.{graph_means, sim_means}
@@ -23,10 +23,10 @@ use Rattle.job_signals.proofs.Means.{signals_means}
 use Rattle.job_tied.proofs.Means.{tied_means}
 use Rattle.job_signals.proofs.Complete.{signals_complete}
 use Rattle.job_tied.proofs.Complete.{tied_complete}
-use Rattle.sec_jobs.proofs.job_gen.gen_meaning.Means.{gen_means, gen_complete}
-use Rattle.sec_jobs.proofs.job_cert.job_lrat.Means.{lrat_means, lrat_complete}
-use Rattle.sec_jobs.proofs.job_cert.Means.{cert_means}
-use Rattle.sec_jobs.proofs.job_cert.Complete.{cert_complete, memory_cert}
+use Rattle.job_gen.proofs.gen_meaning.Means.{gen_means, gen_complete}
+use Rattle.job_cert.proofs.job_lrat.Means.{lrat_means, lrat_complete}
+use Rattle.job_cert.proofs.Means.{cert_means}
+use Rattle.job_cert.proofs.Complete.{cert_complete, memory_cert}
 use Rattle.sec_jobs.proofs.job_induct.induct_meaning.Means.{induct_means}
 use Rattle.sec_jobs.proofs.job_induct.induct_meaning.Complete.{induct_complete}
 use Rattle.sec_jobs.proofs.job_search.search_meaning.Means.{search_means}

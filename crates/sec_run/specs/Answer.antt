@@ -11,7 +11,7 @@ use Rattle.job_base.specs.declared.status.Status.{Status}
 use Rattle.job_base.specs.declared.status.StatusName.{StatusName}
 use Rattle.job_base.specs.declared.status.StatusName.TheVariants as status
 use Rattle.job_base.specs.Lines.{finding_text}
-use Rattle.sec_jobs.specs.job_cert.sec_files.Reading.{Held}
+use Rattle.job_cert.specs.sec_files.Reading.{Held}
 use Rattle.job_circuit.specs.Reports.{IsGraphFound, IsSimFound}
 use Rattle.job_circuit.specs.job_replay.Replays.{IsReplayFound}
 use Rattle.job_circuit.specs.declared.job_replay.replays.ReplayReport.TheVariants as told
@@ -20,9 +20,9 @@ use Rattle.job_check.specs.check_meaning.check_found.Found.{IsFoundOf}
 use Rattle.job_settles.specs.Found.{IsSettlesFound}
 use Rattle.job_signals.specs.Found.{IsSignalsFound}
 use Rattle.job_tied.specs.Found.{IsTiedFound}
-use Rattle.sec_jobs.specs.job_gen.gen_meaning.Found.{IsGenFound}
-use Rattle.sec_jobs.specs.job_cert.job_lrat.Found.{IsLratFound}
-use Rattle.sec_jobs.specs.job_cert.Found.{IsCertFound}
+use Rattle.job_gen.specs.gen_meaning.Found.{IsGenFound}
+use Rattle.job_cert.specs.job_lrat.Found.{IsLratFound}
+use Rattle.job_cert.specs.Found.{IsCertFound}
 use Rattle.job_after.specs.Answer.{IsAfterFound}
 use Rattle.sec_jobs.specs.job_induct.induct_meaning.Found.{IsInductFound}
 use Rattle.sec_jobs.specs.job_search.search_meaning.Found.{IsSearchFound}

@@ -5,7 +5,7 @@ use Rattle.job_base.specs.Ends.{EndsBy}
 use Rattle.job_base.specs.Reading.{ReadFailedAfter}
 use Rattle.job_base.specs.declared.finding.Finding.{Finding}
 use Rattle.job_base.specs.declared.finding.Stop.{Stop}
-use Rattle.sec_jobs.specs.job_cert.sec_files.Reading.{Held}
+use Rattle.job_cert.specs.sec_files.Reading.{Held}
 use Rattle.sec_run.specs.Answer.{IsFoundOfJob}
 use Rattle.sec_run.specs.Job.{paths_of, GoesOn}
 

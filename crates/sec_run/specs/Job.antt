@@ -2,12 +2,12 @@
 use Rattle.std.specs.Prelude.{ℕ, List, [], Option, Some, None}
 use Rattle.command_line.specs.declared.task.Task.{Task}
 use Rattle.command_line.specs.declared.task.Task.TheVariants as task
-use Rattle.sec_jobs.specs.job_cert.sec_files.Reading.{IsLoaded}
+use Rattle.job_cert.specs.sec_files.Reading.{IsLoaded}
 use Rattle.job_circuit.specs.Reports.{graph_paths, sim_paths}
 use Rattle.job_circuit.specs.job_replay.Replays.{replay_paths}
 use Rattle.job_check.specs.check_meaning.check_found.Check.{check_paths}
-use Rattle.sec_jobs.specs.job_cert.job_lrat.Found.{lrat_paths, AreSpelled}
-use Rattle.sec_jobs.specs.job_cert.Found.{cert_paths}
+use Rattle.job_cert.specs.job_lrat.Found.{lrat_paths, AreSpelled}
+use Rattle.job_cert.specs.Found.{cert_paths}
 use Rattle.sec_jobs.specs.job_induct.induct_meaning.Found.{induct_paths}
 
 -- the paths that a job reads, in the order of their fetches; none where it makes its circuits itself

@@ -6,7 +6,7 @@ use Rattle.pair_decide.specs.declared.query.Proof.{Proof}
 use Rattle.job_base.specs.Meaning.{SaysNothing, EndsWith}
 use Rattle.job_base.specs.declared.status.StatusName.{StatusName}
 use Rattle.job_base.specs.declared.status.StatusName.TheVariants as status
-use Rattle.sec_jobs.specs.job_cert.sec_files.Reading.{Held}
+use Rattle.job_cert.specs.sec_files.Reading.{Held}
 use Rattle.job_circuit.specs.Reports.{GraphMeans, SimMeans, IsGraphComplete, IsSimComplete}
 use Rattle.job_circuit.specs.job_replay.Replays.{ReplayMeans, IsReplayComplete}
 use Rattle.job_circuit.specs.declared.job_replay.replays.ReplayReport.TheVariants as told
@@ -15,9 +15,9 @@ use Rattle.job_check.specs.check_meaning.Answer.{CheckMeans, IsCheckComplete}
 use Rattle.job_settles.specs.Answer.{SettlesMeans}
 use Rattle.job_signals.specs.Answer.{SignalsMeans}
 use Rattle.job_tied.specs.Answer.{TiedMeans, IsTiedComplete}
-use Rattle.sec_jobs.specs.job_gen.gen_meaning.Answer.{GenMeans, IsGenAnswer}
-use Rattle.sec_jobs.specs.job_cert.job_lrat.Answer.{LratMeans, IsLratComplete}
-use Rattle.sec_jobs.specs.job_cert.Answer.{CertMeans, IsCertComplete}
+use Rattle.job_gen.specs.gen_meaning.Answer.{GenMeans, IsGenAnswer}
+use Rattle.job_cert.specs.job_lrat.Answer.{LratMeans, IsLratComplete}
+use Rattle.job_cert.specs.Answer.{CertMeans, IsCertComplete}
 use Rattle.job_after.specs.Answer.{AfterMeans, IsAfterComplete}
 use Rattle.sec_jobs.specs.job_induct.induct_meaning.Answer.{InductMeans, IsInductComplete}
 use Rattle.sec_jobs.specs.job_search.search_meaning.Answer.{SearchMeans, IsSearchComplete}

@@ -10,7 +10,7 @@ use Rattle.event_nodes.specs.aig.Node.TheVariants.{Constant, Input, And}
 use Rattle.pair_decide.specs.aig.Cone.{IsConeOf, IsPartOf, IsPlacedNode, IsReached, Reads}
 use Rattle.pair_decide.specs.cnf_encode.Encoding.{IsEncoding, part_clauses, query_clauses}
 use Rattle.tree_graph.proofs.OneGraph.{left_built, right_built, places_once}
-use Rattle.sec_jobs.specs.job_cert.pair_clauses.Clauses.{AreEncoded}
+use Rattle.job_cert.specs.pair_clauses.Clauses.{AreEncoded}
 use Rattle.call_rows.proofs.circuit_samples.Each.{each_at}
 use Rattle.premise_rows.specs.event_limit_premises.AtLimit.{is, isnt}
 use Rattle.premise_rows.specs.event_pair_premises.Held.{and_of}

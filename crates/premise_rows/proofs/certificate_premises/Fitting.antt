@@ -1,6 +1,6 @@
 -- A refutation is accepted over the clauses that another call prints.
 use Rattle.std.proofs.Common.{refl}
-use Rattle.sec_jobs.specs.job_cert.Answer.{AcceptsOver}
+use Rattle.job_cert.specs.Answer.{AcceptsOver}
 use Rattle.premise_rows.specs.certificate_premises.Fitting.{CertificatesFit}
 
 pub certificates_fit : CertificatesFit

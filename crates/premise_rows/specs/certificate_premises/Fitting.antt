@@ -4,8 +4,8 @@ use Rattle.sec_base.specs.declared.limits.TheConstants.{MAX_FILE_BYTES}
 use Rattle.sec_base.specs.base_shelves.Outside.{Takes}
 use Rattle.pair_decide.specs.declared.query.Proof.{Proof}
 use Rattle.job_base.specs.declared.status.StatusName.TheVariants.{Done}
-use Rattle.sec_jobs.specs.job_cert.Answer.{AcceptsOver, CertMeans}
-use Rattle.sec_jobs.specs.job_cert.job_lrat.Answer.{IsRefuted}
+use Rattle.job_cert.specs.Answer.{AcceptsOver, CertMeans}
+use Rattle.job_cert.specs.job_lrat.Answer.{IsRefuted}
 
 -- Clauses were printed and a refutation was: this is accepted over those, and so it can be verified where both texts are short enough to be read.
 pub record Fit (before now earlier later : Option (List ℕ)) : Type 0 where

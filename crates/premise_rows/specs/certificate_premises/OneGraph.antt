@@ -11,7 +11,7 @@ use Rattle.pair_decide.specs.declared.cnf_encode.cnf.Cnf.{Cnf}
 use Rattle.tree_graph.specs.declared.graphs.Rooted.{Rooted}
 use Rattle.tree_graph.specs.Numbering.{IsGraphOf}
 use Rattle.tree_graph.specs.Rooted.{HasTree, IsTreeOf}
-use Rattle.sec_jobs.specs.job_cert.pair_clauses.Clauses.{AreEncoded}
+use Rattle.job_cert.specs.pair_clauses.Clauses.{AreEncoded}
 use Rattle.premise_rows.specs.event_limit_premises.AtLimit.{is, isnt}
 use Rattle.premise_rows.specs.event_pair_premises.Held.{and_of}
 

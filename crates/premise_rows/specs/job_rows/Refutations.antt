@@ -1,6 +1,6 @@
 -- Clauses as texts, and texts that refute them.
 use Rattle.std.specs.Prelude.{ℕ, List, Some, codes}
-use Rattle.sec_jobs.specs.job_cert.job_lrat.Answer.{IsRefuted, CanVerify}
+use Rattle.job_cert.specs.job_lrat.Answer.{IsRefuted, CanVerify}
 
 -- a variable and its negation, by the line that adds the empty clause
 abbrev pub UnitsAreRefuted : Type 0

@@ -3,9 +3,9 @@ use Rattle.std.specs.List.{All}
 use Rattle.command_line.specs.declared.task.Task.{Task}
 use Rattle.job_base.specs.Ends.{EndsBy}
 use Rattle.job_base.specs.Reading.{ReadFailedAfter}
-use Rattle.sec_jobs.specs.job_cert.sec_files.Reading.{ReadFailed}
+use Rattle.job_cert.specs.sec_files.Reading.{ReadFailed}
 use Rattle.job_check.specs.check_meaning.check_found.Check.{all_paths}
-use Rattle.sec_jobs.proofs.job_gen.gen_meaning.Means.{gen_ends}
+use Rattle.job_gen.proofs.gen_meaning.Means.{gen_ends}
 use Rattle.sec_run.specs.Answer.{IsFoundOfJob}
 use Rattle.command_line.specs.Allowed.{IsAllowed}
 use Rattle.sec_run.specs.Job.{paths_of, GoesOn}

@@ -1,5 +1,0 @@
-use Rattle.circuit_theory.specs.declared.Mode.TheVariants.{Plain}
-use Rattle.sec_jobs.proofs.job_cert.pair_clauses.clauses.clauses_of_matching.Given as goal
-
-abbrev pub ghost-choose : goal.ghost-choose
-ghost-choose a = Plain

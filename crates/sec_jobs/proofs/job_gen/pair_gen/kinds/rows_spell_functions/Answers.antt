@@ -1,5 +1,0 @@
-use Rattle.sec_jobs.proofs.job_gen.pair_gen.Rows.{rows_spell}
-use Rattle.sec_jobs.proofs.job_gen.pair_gen.kinds.rows_spell_functions.Goals as goal
-
-pub returns : goal.returns
-returns c = rows_spell

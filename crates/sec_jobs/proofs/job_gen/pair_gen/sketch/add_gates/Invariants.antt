@@ -1,5 +1,0 @@
-use Rattle.sec_jobs.specs.job_gen.pair_gen.Sketch.{IsSketch, covers_of}
-use Rattle.sec_jobs.proofs.job_gen.pair_gen.sketch.add_gates.Given as goal
-
-abbrev pub invariant-loop-place : goal.invariant-loop-place
-invariant-loop-place l = IsSketch l.plan.circuit l.plan.regroup l.plan.words.now (covers_of l.plan.circuit l.plan.regroup) l.maker 40 120 l.place

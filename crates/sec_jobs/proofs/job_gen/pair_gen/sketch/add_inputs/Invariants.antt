@@ -1,6 +1,0 @@
-use Rattle.std.proofs.Common.{[]}
-use Rattle.sec_jobs.specs.job_gen.pair_gen.Sketch.{IsSketch}
-use Rattle.sec_jobs.proofs.job_gen.pair_gen.sketch.add_inputs.Given as goal
-
-abbrev pub invariant-loop-column : goal.invariant-loop-column
-invariant-loop-column l = IsSketch l.plan.circuit l.plan.regroup l.plan.words.now [] l.maker l.column 0 0
