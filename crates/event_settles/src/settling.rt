@@ -17,7 +17,7 @@ use assume_queries::assume_sequences::Premise;
 use event_classes::Apart;
 use event_form::event_findings::EventPairs;
 use event_form::{Events, ask_pairs};
-use event_under_form::questions_of;
+use event_under::event_under_form::questions_of;
 use sec_base::{MAX_CONFLICTS, NoMemory};
 use std::alloc::Global;
 

@@ -4,4 +4,5 @@
 
 pub mod event_asked_under;
 pub mod event_shown_under;
+pub mod event_under_form;
 pub mod laws;

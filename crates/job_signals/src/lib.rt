@@ -2,6 +2,7 @@
 #![tactic(auto)]
 
 mod comparison;
+pub mod job_tied;
 mod judging;
 
 pub use comparison::{SignalComparison, compare_by_signals};

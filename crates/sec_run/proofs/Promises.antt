@@ -20,9 +20,9 @@ use Rattle.job_check.proofs.check_meaning.Complete.{check_complete}
 use Rattle.job_check.proofs.check_meaning.Means.{check_means}
 use Rattle.job_settles.proofs.Means.{settles_means, settles_complete}
 use Rattle.job_signals.proofs.Means.{signals_means}
-use Rattle.job_tied.proofs.Means.{tied_means}
+use Rattle.job_signals.proofs.job_tied.Means.{tied_means}
 use Rattle.job_signals.proofs.Complete.{signals_complete}
-use Rattle.job_tied.proofs.Complete.{tied_complete}
+use Rattle.job_signals.proofs.job_tied.Complete.{tied_complete}
 use Rattle.job_gen.proofs.gen_meaning.Means.{gen_means, gen_complete}
 use Rattle.job_cert.proofs.job_lrat.Means.{lrat_means, lrat_complete}
 use Rattle.job_cert.proofs.Means.{cert_means}

@@ -19,7 +19,7 @@ use Rattle.job_circuit.specs.job_replay.Told.{report_with}
 use Rattle.job_check.specs.check_meaning.check_found.Found.{IsFoundOf}
 use Rattle.job_settles.specs.Found.{IsSettlesFound}
 use Rattle.job_signals.specs.Found.{IsSignalsFound}
-use Rattle.job_tied.specs.Found.{IsTiedFound}
+use Rattle.job_signals.specs.job_tied.Found.{IsTiedFound}
 use Rattle.job_gen.specs.gen_meaning.Found.{IsGenFound}
 use Rattle.job_cert.specs.job_lrat.Found.{IsLratFound}
 use Rattle.job_cert.specs.Found.{IsCertFound}

@@ -14,7 +14,7 @@ use Rattle.job_circuit.specs.job_replay.Told.{report_with}
 use Rattle.job_check.specs.check_meaning.Answer.{CheckMeans, IsCheckComplete}
 use Rattle.job_settles.specs.Answer.{SettlesMeans}
 use Rattle.job_signals.specs.Answer.{SignalsMeans}
-use Rattle.job_tied.specs.Answer.{TiedMeans, IsTiedComplete}
+use Rattle.job_signals.specs.job_tied.Answer.{TiedMeans, IsTiedComplete}
 use Rattle.job_gen.specs.gen_meaning.Answer.{GenMeans, IsGenAnswer}
 use Rattle.job_cert.specs.job_lrat.Answer.{LratMeans, IsLratComplete}
 use Rattle.job_cert.specs.Answer.{CertMeans, IsCertComplete}

@@ -33,9 +33,9 @@ use Rattle.event_check.specs.declared.event_answers.reaching.Asked.{Asked}
 use Rattle.event_check.proofs.event_answers.Finding.{long, not_unfolded, unfolded}
 use Rattle.event_check.specs.event_check_under.event_answers_under.Pairs.{ArePairsFoundUnder, FindsPairsUnder}
 use Rattle.event_check.proofs.event_check_under.event_names_under.Naming.{verdict_named_under}
-use Rattle.event_under_form.specs.Formed.{ArePairsLight, ArePairsOver, AreRefusedUnder, FindingsFitAssumed}
-use Rattle.event_under_form.specs.declared.error.EventUnderError.{EventUnderError}
-use Rattle.event_under_form.specs.declared.error.EventUnderError.TheVariants as under_error
+use Rattle.event_under.specs.event_under_form.Formed.{ArePairsLight, ArePairsOver, AreRefusedUnder, FindingsFitAssumed}
+use Rattle.event_under.specs.declared.event_under_form.error.EventUnderError.{EventUnderError}
+use Rattle.event_under.specs.declared.event_under_form.error.EventUnderError.TheVariants as under_error
 use Rattle.event_check.specs.event_check_under.Refusals.{refusal_under}
 
 module _ (e : EventsView) (n : Names) (x : Asked) (askable : AreAskable e n x) (c : EventPairs) (asked : IsAskedBy n x c) (kept : AreKept e.left e.right e.events) (f : EventsView) (p : Premise) (premise : CanBeAssumed p (length n.columns)) (conflicts : ℕ)

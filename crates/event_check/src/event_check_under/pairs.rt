@@ -20,7 +20,7 @@ use assume_laws::assume_shape::ShapeFault;
 use event_form::Events;
 use event_form::event_findings::Apart;
 use event_settles::{PairCares, settle_pairs_under};
-use event_under_form::{EventUnderError, compare_events_under};
+use event_under::event_under_form::{EventUnderError, compare_events_under};
 use sec_base::{MAX_CONFLICTS, NoMemory};
 use std::alloc::Global;
 

@@ -8,7 +8,7 @@ use Rattle.assume_laws.specs.assume_shape.Shape.{assumption_of}
 use Rattle.event_form.specs.event_agreement.pair_events.View.{side_of_both}
 use Rattle.event_form.proofs.Asking.{side_same}
 use Rattle.event_form.proofs.event_findings.unshown_pairs.class_events.Telling.{separated_stay}
-use Rattle.event_under_form.specs.event_witness_under.Questions.{named_at}
+use Rattle.event_under.specs.event_asked_under.Questions.{named_at}
 use Rattle.event_settles.specs.Cares.{CareFitsUnder}
 use Rattle.event_settles.specs.Deciding.{HasOneQuery, IsCareDecided}
 use Rattle.event_settles.proofs.Caring.{all_told_under, if_ok, one_queries_under, pairs_fit_under}

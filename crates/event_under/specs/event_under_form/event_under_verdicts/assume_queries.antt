@@ -1,0 +1,1 @@
+pub use Rattle.assume_queries.specs.declared.map.UnderError

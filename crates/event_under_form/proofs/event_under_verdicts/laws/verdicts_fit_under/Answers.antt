@@ -1,6 +1,0 @@
--- The law of this name.
-use Rattle.event_under_form.proofs.event_under_verdicts.Firsts.{findings_fit}
-use Rattle.event_under_form.proofs.event_under_verdicts.laws.verdicts_fit_under.Goals as goal
-
-pub returns : goal.returns
-returns c = findings_fit

@@ -1,1 +1,0 @@
-pub use Rattle.event_under.specs.event_asked_under.assume_queries.UnderError

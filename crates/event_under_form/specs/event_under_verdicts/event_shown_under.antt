@@ -1,1 +1,0 @@
-pub use Rattle.event_under.specs.event_shown_under.event_under_fits.Findings
