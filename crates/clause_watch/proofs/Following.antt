@@ -5,9 +5,9 @@ use Rattle.std.specs.List.{Contains}
 use Rattle.std.proofs.Math.ListN.{set}
 use Rattle.std.proofs.lemmas.List.{length-set}
 use Rattle.std.proofs.lemmas.Option.{slice_get_within}
-use Rattle.sec_base.specs.clause_base.Literals.{Literal, negation}
-use Rattle.sec_base.specs.clause_base.Clauses.{IsClause}
-use Rattle.sec_base.specs.clause_base.NoMemory.{NoMemory}
+use Rattle.clause_base.specs.Literals.{Literal, negation}
+use Rattle.clause_base.specs.Clauses.{IsClause}
+use Rattle.clause_base.specs.NoMemory.{NoMemory}
 use Rattle.clause_watch.specs.Rows.{row, row_of, IsPut}
 use Rattle.clause_watch.specs.Trails.{TrailView, At, TrueBefore, FreeBefore, OthersFalse}
 use Rattle.clause_watch.specs.Answers.{IsConflict}

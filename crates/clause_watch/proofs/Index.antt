@@ -9,8 +9,8 @@ use Rattle.std.proofs.lemmas.List.Sums.{sum_by-set}
 use Rattle.std.proofs.lemmas.List.Folds.{sum_by-replicate}
 use Rattle.std.proofs.lemmas.Option.{slice_get_within, slice_get-get_or, get_or_from_slice_get}
 use Rattle.std.proofs.lemmas.List.Elements.{All-replicate}
-use Rattle.sec_base.specs.clause_base.Literals.{Literal, negation}
-use Rattle.sec_base.proofs.clause_base.Members.{same_literal, other_sign}
+use Rattle.clause_base.specs.Literals.{Literal, negation}
+use Rattle.clause_base.proofs.Members.{same_literal, other_sign}
 use Rattle.clause_watch.specs.Trails.{At, TrueBefore, FreeBefore}
 use Rattle.clause_watch.specs.Index.{blank, mark_of, literal_of, IsIndex}
 use Rattle.clause_watch.specs.declared.entry.Entry.{Entry}

@@ -5,8 +5,8 @@ use Rattle.std.proofs.Math.ListN.{set}
 use Rattle.std.proofs.lemmas.Bool.{cases_eq}
 use Rattle.std.proofs.lemmas.List.{get_or_default}
 use Rattle.std.proofs.lemmas.Option.{slice_get_within}
-use Rattle.sec_base.specs.clause_base.Literals.{Literal}
-use Rattle.sec_base.specs.clause_base.Clauses.{IsClause}
+use Rattle.clause_base.specs.Literals.{Literal}
+use Rattle.clause_base.specs.Clauses.{IsClause}
 use Rattle.clause_watch.specs.Rows.{row, IsAdded, IsPut, IsPopped, AreEmpty, AreSameRows}
 use Rattle.clause_watch.specs.TwoWatches.{IsWatch, AreOwn, IsNamed, IsWatching, AreAlone, KeepsWatches, IsInBothRows, IsRewatched}
 use Rattle.clause_watch.specs.declared.pair.Pair.{Pair}

@@ -5,8 +5,8 @@ use Rattle.std.specs.List.{Contains}
 use Rattle.std.proofs.lemmas.Bool.{cases_eq, cases_lt}
 use Rattle.std.proofs.lemmas.List.{length-take-le}
 use Rattle.std.proofs.lemmas.Option.{slice_get_within}
-use Rattle.sec_base.specs.clause_base.Literals.{Literal, negation}
-use Rattle.sec_base.proofs.clause_base.Members.{read}
+use Rattle.clause_base.specs.Literals.{Literal, negation}
+use Rattle.clause_base.proofs.Members.{read}
 use Rattle.clause_watch.specs.Rows.{row}
 use Rattle.clause_watch.specs.Trails.{TrailView, At, TrueBefore, FreeBefore, QuietAt, Forces, IsTrail}
 use Rattle.clause_watch.specs.Range.{AllInRange, InRange}

@@ -3,8 +3,8 @@ use Rattle.std.proofs.Common.{◌≡◌, ◌≢◌, ◌⊎◌, ℕ, zero, suc, �
 use Rattle.std.specs.Prelude.{slice_get, if◌then◌else◌}
 use Rattle.std.specs.List.{Contains}
 use Rattle.std.proofs.lemmas.Bool.{cases_eq, cases_lt}
-use Rattle.sec_base.specs.clause_base.Literals.{Literal, negation}
-use Rattle.sec_base.proofs.clause_base.Members.{same_literal, other_sign}
+use Rattle.clause_base.specs.Literals.{Literal, negation}
+use Rattle.clause_base.proofs.Members.{same_literal, other_sign}
 use Rattle.clause_watch.specs.Rows.{row_of}
 use Rattle.clause_watch.specs.Trails.{At, TrueBefore, FreeBefore, IsTrail}
 use Rattle.clause_watch.specs.Range.{AllInRange, InRange}

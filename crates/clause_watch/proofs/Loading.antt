@@ -5,8 +5,8 @@ use Rattle.std.specs.List.{Contains}
 use Rattle.std.proofs.lemmas.Bool.{cases_eq}
 use Rattle.std.proofs.lemmas.Option.{slice_get_within}
 use Rattle.std.proofs.lemmas.List.{get_or_default}
-use Rattle.sec_base.specs.clause_base.Literals.{Literal, negation}
-use Rattle.sec_base.specs.clause_base.NoMemory.{NoMemory}
+use Rattle.clause_base.specs.Literals.{Literal, negation}
+use Rattle.clause_base.specs.NoMemory.{NoMemory}
 use Rattle.clause_watch.specs.Range.{InRange}
 use Rattle.clause_watch.specs.Trails.{TrailView, TrueBefore, Forces, IsTrail}
 use Rattle.clause_watch.specs.TwoWatches.{IsWatching}

@@ -4,8 +4,8 @@ use Rattle.std.specs.Prelude.{slice_get, slice_range}
 use Rattle.std.specs.List.{All}
 use Rattle.std.proofs.lemmas.List.{take-append-le, drop-append-le, get_or_default}
 use Rattle.std.proofs.Math.Seq.{drop-append_seam, take-length}
-use Rattle.sec_base.specs.clause_base.Literals.{Literal}
-use Rattle.sec_base.specs.clause_base.Clauses.{IsClause}
+use Rattle.clause_base.specs.Literals.{Literal}
+use Rattle.clause_base.specs.Clauses.{IsClause}
 use Rattle.clause_watch.specs.Flat.{cut_at, pieces, IsCut, AreStarts, IsFlat}
 use Rattle.clause_watch.proofs.Lists.{at_number, all_by_number, get_push_cases}
 

@@ -2,8 +2,8 @@
 use Rattle.std.proofs.Common.{◌≡◌, ◌⊎◌, ℕ, ◌<◌, ◌≤◌, List, [], ◌∷◌, ◌++◌, length, take, refl, sym, ◌∙◌, ap, subst, arith, inl, inr, Option, Some, None}
 use Rattle.std.specs.Prelude.{slice_get}
 use Rattle.std.proofs.lemmas.Option.{slice_get_within}
-use Rattle.sec_base.specs.clause_base.Literals.{Literal, negation}
-use Rattle.sec_base.proofs.clause_base.Members.{not_same_sign}
+use Rattle.clause_base.specs.Literals.{Literal, negation}
+use Rattle.clause_base.proofs.Members.{not_same_sign}
 use Rattle.clause_watch.specs.Trails.{At, TrueBefore, FreeBefore, TwoFreeBefore, QuietAt, Quiet, Forces, IsTrail}
 use Rattle.clause_watch.specs.declared.entry.Entry.{Entry}
 use Rattle.clause_watch.proofs.Lists.{get_one, get_push_old, get_push_cases, get_take, get_take_within}

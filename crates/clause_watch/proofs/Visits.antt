@@ -6,9 +6,9 @@ use Rattle.std.proofs.Math.ListN.{set}
 use Rattle.std.proofs.lemmas.Bool.{cases_eq, cases_lt}
 use Rattle.std.proofs.lemmas.List.{length-set}
 use Rattle.std.proofs.lemmas.Option.{slice_get_within}
-use Rattle.sec_base.specs.clause_base.Literals.{Literal, negation}
-use Rattle.sec_base.specs.clause_base.Clauses.{IsClause}
-use Rattle.sec_base.proofs.clause_base.Members.{one_of_variable}
+use Rattle.clause_base.specs.Literals.{Literal, negation}
+use Rattle.clause_base.specs.Clauses.{IsClause}
+use Rattle.clause_base.proofs.Members.{one_of_variable}
 use Rattle.clause_watch.specs.Rows.{row, IsAdded, IsPut, IsRemoved}
 use Rattle.clause_watch.specs.Trails.{TrailView, At, TrueBefore, FreeBefore, FalseBefore, OthersFalse, QuietAt, Quiet, Forces}
 use Rattle.clause_watch.specs.TwoWatches.{IsWatch, IsListed, AreOwn, IsNamed, IsWatching}

@@ -5,8 +5,8 @@ use Rattle.std.proofs.Math.ListN.{set}
 use Rattle.std.proofs.lemmas.Bool.{cases_eq, cases_lt}
 use Rattle.std.proofs.lemmas.List.{length-set, length-replicate}
 use Rattle.std.proofs.lemmas.Option.{slice_get_within, slice_get-get_or, slice_get_cases, get_or_from_slice_get}
-use Rattle.sec_base.specs.clause_base.Literals.{Literal}
-use Rattle.sec_base.proofs.clause_base.Members.{same_literal}
+use Rattle.clause_base.specs.Literals.{Literal}
+use Rattle.clause_base.proofs.Members.{same_literal}
 use Rattle.clause_watch.specs.Rows.{row_of, row, IsTaken, IsAdded, IsRemoved, AreEmpty}
 use Rattle.clause_watch.specs.declared.watchers.Watcher.{Watcher}
 use Rattle.clause_watch.proofs.Lists.{get_set_same, get_set_other}

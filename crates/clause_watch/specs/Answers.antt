@@ -1,6 +1,6 @@
 -- What is asked of a trail and of clauses.
 use Rattle.std.specs.Prelude.{◌≡◌, ◌≢◌, ℕ, List, length, Option, Some, None, slice_get}
-use Rattle.sec_base.specs.clause_base.Literals.{Literal, negation}
+use Rattle.clause_base.specs.Literals.{Literal, negation}
 use Rattle.clause_watch.specs.Trails.{At, TrueBefore, FreeBefore, FalseBefore}
 use Rattle.clause_watch.specs.declared.entry.Entry.{Entry}
 use Rattle.clause_watch.specs.declared.entry.Truth.{Truth}

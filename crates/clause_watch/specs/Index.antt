@@ -1,6 +1,6 @@
 -- Where each variable stands on a trail.
 use Rattle.std.specs.Prelude.{◌≡◌, ℕ, ◌+◌, ◌-◌, ◌<◌, ◌≤◌, ◌^◌, Bool, List, length, Option, Some, None, slice_get, sum_by}
-use Rattle.sec_base.specs.clause_base.Literals.{Literal}
+use Rattle.clause_base.specs.Literals.{Literal}
 use Rattle.clause_watch.specs.declared.entry.Entry.{Entry}
 use Rattle.clause_watch.specs.declared.entry.Mark.{Mark}
 

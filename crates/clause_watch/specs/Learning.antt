@@ -1,8 +1,8 @@
 -- Clauses that come to a search: the given ones, and those that are learnt.
 use Rattle.std.specs.Prelude.{◌≡◌, ◌≢◌, ℕ, ◌+◌, ◌*◌, ◌<◌, ◌≤◌, List, length, Option, Some, None, slice_get}
 use Rattle.std.specs.List.{Contains}
-use Rattle.sec_base.specs.clause_base.Literals.{Literal, negation}
-use Rattle.sec_base.specs.clause_base.New.{IsNew}
+use Rattle.clause_base.specs.Literals.{Literal, negation}
+use Rattle.clause_base.specs.New.{IsNew}
 use Rattle.clause_watch.specs.Range.{InRange}
 use Rattle.clause_watch.specs.Trails.{TrailView, At, FreeBefore, OthersFalse, TwoFreeBefore, IsTrail}
 use Rattle.clause_watch.specs.Answers.{IsConflict}

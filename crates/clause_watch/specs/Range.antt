@@ -1,7 +1,7 @@
 -- Clauses that speak of the variables up to a number alone.
 use Rattle.std.specs.Prelude.{ℕ, ◌<◌, ◌≤◌, List}
 use Rattle.std.specs.List.{All}
-use Rattle.sec_base.specs.clause_base.Literals.{Literal}
+use Rattle.clause_base.specs.Literals.{Literal}
 
 -- each literal's variable is from 1 to the number
 abbrev pub AllInRange : ℕ → List Literal → Type 0

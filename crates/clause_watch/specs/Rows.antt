@@ -1,6 +1,6 @@
 -- For each literal the clauses that watch it.
 use Rattle.std.specs.Prelude.{◌≡◌, ◌≢◌, ◌⊎◌, ℕ, ◌+◌, ◌*◌, ◌≤◌, List, [], ◌∷◌, ◌++◌, length, Some, slice_get, slice_set, unwrap_or, if◌then◌else◌}
-use Rattle.sec_base.specs.clause_base.Literals.{Literal}
+use Rattle.clause_base.specs.Literals.{Literal}
 use Rattle.clause_watch.specs.declared.watchers.Watcher.{Watcher}
 
 abbrev pub row_of : Literal → ℕ

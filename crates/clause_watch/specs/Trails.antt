@@ -1,7 +1,7 @@
 -- A trail: the literals that were made true, in order, each by a decision or by the reason that forced it.
 use Rattle.std.specs.Prelude.{◌≡◌, ◌≢◌, ◌⊎◌, ℕ, ◌<◌, List, Some, None, slice_get}
 use Rattle.std.specs.List.{Contains}
-use Rattle.sec_base.specs.clause_base.Literals.{Literal, negation}
+use Rattle.clause_base.specs.Literals.{Literal, negation}
 use Rattle.clause_watch.specs.declared.entry.Entry.{Entry}
 
 -- how many variables there are, and the entries, the first of which is the oldest

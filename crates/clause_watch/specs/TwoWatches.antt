@@ -1,7 +1,7 @@
 -- Clauses, each of which watches two of its literals, and the rows of those that watch a literal.
 use Rattle.std.specs.Prelude.{◌≡◌, ◌≢◌, ◌⊎◌, ℕ, ◌<◌, ◌≤◌, List, length, Some, slice_get, slice_set, [], ◌∷◌, ◌++◌}
 use Rattle.std.specs.List.{Contains}
-use Rattle.sec_base.specs.clause_base.Literals.{Literal}
+use Rattle.clause_base.specs.Literals.{Literal}
 use Rattle.clause_watch.specs.Rows.{row, IsAdded, IsRemoved}
 use Rattle.clause_watch.specs.declared.pair.Pair.{Pair}
 use Rattle.clause_watch.specs.declared.watchers.Watcher.{Watcher}

@@ -1,7 +1,7 @@
 -- What two watched literals keep true while a trail grows.
 use Rattle.std.specs.Prelude.{◌≡◌, ◌≢◌, ◌⊎◌, ℕ, ◌+◌, ◌*◌, ◌<◌, ◌≤◌, List, length, Option, Some, None, slice_get, [], ◌∷◌, ◌++◌}
 use Rattle.std.specs.List.{Contains}
-use Rattle.sec_base.specs.clause_base.Literals.{Literal, negation}
+use Rattle.clause_base.specs.Literals.{Literal, negation}
 use Rattle.clause_watch.specs.Range.{InRange}
 use Rattle.clause_watch.specs.Rows.{row}
 use Rattle.clause_watch.specs.TwoWatches.{IsWatch, IsListed, IsWatching}

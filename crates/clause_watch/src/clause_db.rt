@@ -1,9 +1,9 @@
 //! The clauses of a search by number, one after the other in one list of literals.
 
 ghost use Rattle.std.specs.Prelude.{◌≡◌, ◌+◌, ◌<◌, ◌^◌, [], ◌∷◌, ◌++◌, length, slice_get, Some, IfOk, OnOk, OnErr};
-ghost use Rattle.sec_base.specs.clause_base.Clauses.{IsClause};
+ghost use Rattle.clause_base.specs.Clauses.{IsClause};
 
-use sec_base::clause_base::{Literal, NoMemory};
+use clause_base::{Literal, NoMemory};
 use std::alloc::Global;
 use std::marker::Model;
 
@@ -18,7 +18,7 @@ pub struct ClauseDb {
 
 impl Model for ClauseDb {
     ghost use Rattle.std.specs.Prelude.{List};
-    ghost use Rattle.sec_base.specs.clause_base.Literals as words;
+    ghost use Rattle.clause_base.specs.Literals as words;
     ghost use Rattle.clause_watch.specs.Flat.{pieces, IsFlat};
 
     ghost Value = { List (List words.Literal) };

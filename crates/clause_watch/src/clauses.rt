@@ -10,7 +10,7 @@ use crate::places::Placed;
 use crate::propagation::{Watches, force};
 use crate::trail::Trail;
 use crate::watched_clauses::WatchedClauses;
-use sec_base::clause_base::{Clause, Clauses, Literal, NoMemory};
+use clause_base::{Clause, Clauses, Literal, NoMemory};
 use std::alloc::Global;
 
 impl Watches {

@@ -1,6 +1,6 @@
 //! What a trail is made of.
 
-use sec_base::clause_base::Literal;
+use clause_base::Literal;
 
 /// A literal that was made true.
 #[derive(Clone, Copy)]

@@ -15,10 +15,10 @@ mod trail;
 mod watched_clauses;
 mod watchers;
 
+pub use clause_base::{Bits, Clause, Clauses, Literal, MAX_CONFLICTS, NoMemory, Seq};
 pub use clause_db::ClauseDb;
 pub use entry::{Entry, Truth};
 pub use places::Placed;
 pub use propagation::Watches;
-pub use sec_base::clause_base::{Bits, Clause, Clauses, Literal, MAX_CONFLICTS, NoMemory, Seq};
 pub use trail::Trail;
 pub use watched_clauses::WatchedClauses;

@@ -1,13 +1,13 @@
 //! The two literals that a clause watches.
 
 ghost use Rattle.std.specs.Prelude.{◌≡◌, ◌↔◌, ◌<◌, ◌≤◌, length, IsTrue};
-ghost use Rattle.sec_base.specs.clause_base.Literals.{negation};
+ghost use Rattle.clause_base.specs.Literals.{negation};
 ghost use Rattle.clause_watch.specs.Range.{AllInRange};
 ghost use Rattle.clause_watch.specs.Watching.{IsOther, IsNextWatch};
 
 use crate::entry::Truth;
 use crate::trail::Trail;
-use sec_base::clause_base::Literal;
+use clause_base::Literal;
 
 /// The two literals that a clause watches. Those of a clause of fewer literals mean nothing.
 #[derive(Clone, Copy)]

@@ -1,6 +1,6 @@
 //! Literals with their places on the trail.
 
-use sec_base::clause_base::Literal;
+use clause_base::Literal;
 
 /// A literal of a clause, and the place at which it became false.
 #[derive(Clone, Copy)]

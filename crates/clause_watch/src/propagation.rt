@@ -1,7 +1,7 @@
 //! Unit propagation that visits only the clauses that watch a literal that became false.
 
 ghost use Rattle.std.specs.Prelude.{◌≡◌, ◌≢◌, ◌+◌, ◌<◌, ◌≤◌, ◌^◌, length, slice_get, Some, IfOk};
-ghost use Rattle.sec_base.specs.clause_base.Literals.{negation};
+ghost use Rattle.clause_base.specs.Literals.{negation};
 ghost use Rattle.clause_watch.specs.Rows.{row, row_of};
 ghost use Rattle.clause_watch.specs.Trails.{At};
 ghost use Rattle.clause_watch.specs.Watching.{IsWatched, IsVisiting, IsVisited, IsRowVisited, IsPropagated, IsForced};
@@ -11,7 +11,7 @@ use crate::pair::{Visit, next_watch, other_of};
 use crate::trail::Trail;
 use crate::watched_clauses::WatchedClauses;
 use crate::watchers::Watcher;
-use sec_base::clause_base::{Literal, NoMemory};
+use clause_base::{Literal, NoMemory};
 
 /// The clauses with what they watch, and how many entries of the trail are propagated.
 #[derive(Drop)]

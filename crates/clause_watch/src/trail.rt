@@ -5,7 +5,7 @@ ghost use Rattle.clause_watch.specs.Trails.{FreeBefore};
 ghost use Rattle.clause_watch.specs.Answers.{IsTruth, IsPlace};
 
 use crate::entry::{Entry, Mark, Truth};
-use sec_base::clause_base::{Literal, NoMemory};
+use clause_base::{Literal, NoMemory};
 use std::alloc::Global;
 use std::marker::Model;
 

@@ -2,7 +2,7 @@
 
 ghost use Rattle.std.specs.Prelude.{◌≡◌, ◌≢◌, ◌+◌, ◌*◌, ◌<◌, ◌≤◌, ◌^◌, [], ◌∷◌, ◌++◌, length, slice_get, Some, IfOk, OnOk, OnErr};
 ghost use Rattle.std.specs.List.{Contains};
-ghost use Rattle.sec_base.specs.clause_base.Clauses.{IsClause};
+ghost use Rattle.clause_base.specs.Clauses.{IsClause};
 ghost use Rattle.clause_watch.specs.Range.{InRange};
 ghost use Rattle.clause_watch.specs.Rows.{row, row_of, IsPut};
 ghost use Rattle.clause_watch.specs.TwoWatches.{IsWatch, AreOwn, IsNamed, KeepsWatches, IsPushed, IsRewatched};
@@ -10,7 +10,7 @@ ghost use Rattle.clause_watch.specs.TwoWatches.{IsWatch, AreOwn, IsNamed, KeepsW
 use crate::clause_db::ClauseDb;
 use crate::pair::Pair;
 use crate::watchers::{Watcher, Watchers};
-use sec_base::clause_base::{Clauses, Literal, NoMemory};
+use clause_base::{Clauses, Literal, NoMemory};
 use std::alloc::Global;
 use std::marker::Model;
 

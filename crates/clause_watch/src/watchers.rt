@@ -5,7 +5,7 @@ ghost use Rattle.clause_watch.specs.Rows.{row, row_of, IsAdded, IsPut, IsRemoved
 ghost use Rattle.clause_watch.specs.TwoWatches.{IsInBothRows};
 
 use crate::pair::Pair;
-use sec_base::clause_base::{Literal, NoMemory};
+use clause_base::{Literal, NoMemory};
 use std::alloc::Global;
 use std::marker::Model;
 

@@ -6,8 +6,8 @@ use Rattle.circuit_theory.specs.declared.Side.TheVariants.{A, B}
 use Rattle.sec_base.specs.Texts.{names_text}
 use Rattle.blif_read.specs.declared.error.ReadKind.{ReadKind}
 use Rattle.blif_read.specs.declared.error.ReadKind.TheVariants as kind
-use Rattle.sec_base.specs.declared.text_numbers.kinds.TextKind.{TextKind}
-use Rattle.sec_base.specs.declared.text_numbers.kinds.TextKind.TheVariants as text_kind
+use Rattle.text_numbers.specs.declared.kinds.TextKind.{TextKind}
+use Rattle.text_numbers.specs.declared.kinds.TextKind.TheVariants as text_kind
 use Rattle.circuit_report.specs.declared.sim_report.refusal.Misfit.{Misfit}
 use Rattle.circuit_report.specs.declared.sim_report.refusal.Misfit.TheVariants as misfit
 use Rattle.aiger_read.specs.declared.aiger_records.error.AigerKind.{AigerKind}

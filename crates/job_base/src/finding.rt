@@ -8,8 +8,8 @@ use circuit_report::sim_report::Misfit;
 use cycle_sim::pair_runs::Differences;
 use elaborate::FlatError;
 use obligations::outcome::{Outcome, Proof, Settings};
-use sec_base::text_numbers::TextKind;
 use sec_base::{Side, Text, Word, Words};
+use text_numbers::TextKind;
 
 /// A file of a job, by what it is.
 #[derive(Clone, Copy)]

@@ -11,9 +11,9 @@ use assume_laws::assume_shape::ShapeFault;
 use blif_read::ReadKind;
 use circuit_report::sim_report::Misfit;
 use elaborate::FlatError;
-use sec_base::text_numbers::TextKind;
 use sec_base::{NoMemory, Seq, Side, Text, Word, Words, put, put_names, put_number};
 use std::alloc::Global;
+use text_numbers::TextKind;
 
 /// Puts the word behind what stands before it in the line.
 fn put_behind(text: &mut Vec<u8>, front: &[u8], word: &[u8]) -> Result<(), NoMemory>

@@ -10,8 +10,8 @@ use Rattle.lrat_core.specs.States.{Live, none_live, with_clause, without, withou
 use Rattle.lrat_core.specs.Hints.{HintsGive}
 use Rattle.lrat_core.specs.Sequences.{DeletionGives}
 use Rattle.lrat_core.specs.declared.hints.Hint.{Hint}
-use Rattle.sec_base.specs.declared.text_numbers.kinds.TextKind.{TextKind}
-use Rattle.sec_base.specs.declared.text_numbers.kinds.TextKind.TheVariants.{BadId, NoConflict}
+use Rattle.text_numbers.specs.declared.kinds.TextKind.{TextKind}
+use Rattle.text_numbers.specs.declared.kinds.TextKind.TheVariants.{BadId, NoConflict}
 
 -- a hint at its place, with those after it
 pub hints_from : (live : Live) (falsified : List Literal) (hints : List Hint) (k : ℕ) (d : Hint) (given : Option TextKind) → k < length hints →

@@ -8,7 +8,7 @@ use Rattle.lrat_core.specs.Laws.{SequenceHasOneVerdict}
 use Rattle.lrat_core.specs.declared.hints.Hint.{Hint}
 use Rattle.lrat_core.specs.Lines.{Addition, Line}
 use Rattle.lrat_core.specs.Lines as line
-use Rattle.sec_base.specs.declared.text_numbers.kinds.TextKind.{TextKind}
+use Rattle.text_numbers.specs.declared.kinds.TextKind.{TextKind}
 
 one_clause : (o : Option (List Literal)) (c d : List Literal) → o ≡ Some c → o ≡ Some d → c ≡ d
 one_clause o c d e f = let q : Some c ≡ Some d = sym e ∙ f in cc

@@ -10,7 +10,7 @@ use Rattle.lrat_core.specs.declared.looking.Outside.{Outside}
 use Rattle.lrat_core.specs.declared.looking.Outside.TheVariants.{Nothing, One, More}
 use Rattle.lrat_core.specs.declared.looking.Effect.{Effect}
 use Rattle.lrat_core.specs.declared.looking.Effect.TheVariants.{Fails, Conflicts, Forces}
-use Rattle.sec_base.specs.declared.text_numbers.kinds.TextKind.{TextKind}
+use Rattle.text_numbers.specs.declared.kinds.TextKind.{TextKind}
 use Rattle.lrat_core.specs.declared.line_error.LineError.{LineError}
 use Rattle.lrat_core.specs.declared.line_error.LineError.TheVariants as error
 

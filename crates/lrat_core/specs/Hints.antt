@@ -5,8 +5,8 @@ use Rattle.proof_check.specs.Literals.{Literal, negation}
 use Rattle.lrat_core.specs.States.{Live}
 use Rattle.lrat_core.specs.declared.hints.Hint.{Hint}
 use Rattle.lrat_core.specs.declared.hints.Hint.TheVariants.{Clause, Negative}
-use Rattle.sec_base.specs.declared.text_numbers.kinds.TextKind.{TextKind}
-use Rattle.sec_base.specs.declared.text_numbers.kinds.TextKind.TheVariants.{NegativeHint, BadHint, NotUnit, NoConflict}
+use Rattle.text_numbers.specs.declared.kinds.TextKind.{TextKind}
+use Rattle.text_numbers.specs.declared.kinds.TextKind.TheVariants.{NegativeHint, BadHint, NotUnit, NoConflict}
 
 -- each literal of the clause is false
 abbrev pub IsFalsified : List Literal → List Literal → Type 0

@@ -5,8 +5,8 @@ use Rattle.lrat_core.specs.States.{Live, State, with_clause, without, without_al
 use Rattle.lrat_core.specs.Hints.{HintsGive}
 use Rattle.lrat_core.specs.Lines.{Addition, Line}
 use Rattle.lrat_core.specs.Lines as line
-use Rattle.sec_base.specs.declared.text_numbers.kinds.TextKind.{TextKind}
-use Rattle.sec_base.specs.declared.text_numbers.kinds.TextKind.TheVariants.{BadId, NoEmpty}
+use Rattle.text_numbers.specs.declared.kinds.TextKind.{TextKind}
+use Rattle.text_numbers.specs.declared.kinds.TextKind.TheVariants.{BadId, NoEmpty}
 
 -- an addition's first fault, or none
 pub data AdditionGives (state : State) (a : Addition) : Option TextKind → Type 0 where

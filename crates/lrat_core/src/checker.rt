@@ -12,10 +12,10 @@ use crate::line_error::LineError;
 use crate::live::LiveClauses;
 use crate::looking::{Effect, look_at_hint};
 use proof_check::{Literal, Literals};
-use sec_base::text_numbers::TextKind;
 use sec_base::{NoMemory, Seq};
 use std::alloc::Global;
 use std::marker::Model;
+use text_numbers::TextKind;
 
 /// A proof as far as it has been read: the live clauses, and the greatest number of a clause so far.
 pub struct Checker {

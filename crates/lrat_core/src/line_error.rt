@@ -3,7 +3,7 @@
 ghost use Rattle.std.specs.Prelude.{◌≡◌};
 
 use sec_base::NoMemory;
-use sec_base::text_numbers::TextKind;
+use text_numbers::TextKind;
 
 /// Why one line isn't accepted.
 #[derive(Clone, Copy)]

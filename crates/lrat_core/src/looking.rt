@@ -8,7 +8,7 @@ use crate::falsified::Falsified;
 use crate::hints::Hint;
 use crate::live::LiveClauses;
 use proof_check::Literal;
-use sec_base::text_numbers::TextKind;
+use text_numbers::TextKind;
 
 /// The literals of a clause that aren't false.
 #[derive(Clone, Copy)]

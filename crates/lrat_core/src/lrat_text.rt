@@ -12,4 +12,4 @@ mod words;
 pub use crate::dimacs_text::{Formula, LiteralLists, read_dimacs};
 pub use checking::{Verified, check_lrat};
 pub use laws::{accepted_is_unsatisfiable, accepted_text_is_met, text_has_one_verdict};
-pub use sec_base::text_numbers::{TextError, TextKind};
+pub use text_numbers::{TextError, TextKind};

@@ -1,10 +1,10 @@
 -- What resolvents hold.
 use Rattle.std.proofs.Common.{◌≡◌, ◌≢◌, ℕ, not, List, refl, sym, ◌∙◌, ap, subst, inl, inr}
 use Rattle.std.specs.List.{Contains}
-use Rattle.sec_base.specs.clause_base.Literals.{Literal, negation}
-use Rattle.sec_base.specs.clause_base.Clauses.{IsClause}
+use Rattle.clause_base.specs.Literals.{Literal, negation}
+use Rattle.clause_base.specs.Clauses.{IsClause}
 use Rattle.proof_check.specs.Resolution.{HoldOpposite, Clash, IsResolvent}
-use Rattle.sec_base.proofs.clause_base.Members.{same_literal, not_same_sign, other_sign, one_of_variable, clause_unique}
+use Rattle.clause_base.proofs.Members.{same_literal, not_same_sign, other_sign, one_of_variable, clause_unique}
 
 -- what decides whether two clauses hold a variable with opposite signs
 pub no_left : (a b : List Literal) (pivot : ℕ) → ((l : Literal) → Contains a l → l.variable ≢ pivot) → HoldOpposite a b pivot → ⊥

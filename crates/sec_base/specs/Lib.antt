@@ -2,6 +2,4 @@ pub mod Cover
 pub mod Texts
 pub mod circuit_theory
 pub mod base_shelves
-pub mod text_numbers
-pub mod clause_base
 pub use Rattle.base_lists.specs.declared.list.NoMemory

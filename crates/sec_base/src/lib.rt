@@ -4,12 +4,10 @@
 
 pub mod base_shelves;
 mod basics;
-pub mod clause_base;
 mod covers;
 mod file_path;
 mod limits;
 mod settings;
-pub mod text_numbers;
 mod texts;
 
 pub use crate::base_shelves::{

@@ -6,9 +6,9 @@ use Rattle.sec_base.specs.base_shelves.Outside.{Rose}
 use Rattle.sec_base.specs.declared.limits.TheConstants.{MAX_FILE_BYTES}
 use Rattle.sec_base.specs.NoMemory.{NoMemory}
 use Rattle.sec_base.specs.declared.base_shelves.whole_file.FetchError.TheVariants as fetch_error
-use Rattle.sec_base.specs.text_numbers.Answers.{IsGiven}
-use Rattle.sec_base.specs.declared.text_numbers.kinds.TextError.{TextError}
-use Rattle.sec_base.specs.declared.text_numbers.kinds.TextError.TheVariants as text_error
+use Rattle.text_numbers.specs.Answers.{IsGiven}
+use Rattle.text_numbers.specs.declared.kinds.TextError.{TextError}
+use Rattle.text_numbers.specs.declared.kinds.TextError.TheVariants as text_error
 use Rattle.lrat_core.specs.dimacs_text.Dimacs.{formula_of}
 use Rattle.lrat_core.specs.dimacs_text.Formulas.{Formula}
 use Rattle.lrat_core.specs.lrat_text.Verdicts.{IsChecked}

@@ -3,9 +3,9 @@ use Rattle.std.specs.Prelude.{IsSomeAnd, IfSome}
 use Rattle.std.proofs.Common.{◌≡◌, ℕ, List, refl, sym, ◌∙◌, subst, inl, inr, ◌⊎◌, Option, Some, None, Result, Ok, Err, arith}
 use Rattle.sec_base.specs.base_shelves.Outside.{Takes}
 use Rattle.pair_decide.specs.declared.query.Proof.{Proof}
-use Rattle.sec_base.specs.declared.text_numbers.kinds.TextError.{TextError}
-use Rattle.sec_base.specs.declared.text_numbers.kinds.TextError.TheVariants as text_error
-use Rattle.sec_base.specs.declared.text_numbers.kinds.TextKind.{TextKind}
+use Rattle.text_numbers.specs.declared.kinds.TextError.{TextError}
+use Rattle.text_numbers.specs.declared.kinds.TextError.TheVariants as text_error
+use Rattle.text_numbers.specs.declared.kinds.TextKind.{TextKind}
 use Rattle.lrat_core.specs.dimacs_text.Dimacs.{formula_of}
 use Rattle.lrat_core.specs.dimacs_text.Formulas.{Formula}
 use Rattle.lrat_core.specs.Sequences.{Verdict, Accepted, Refused}

@@ -1,7 +1,7 @@
 -- What is true where the check of a refutation ends as it does. A text is given where it is told.
 use Rattle.std.specs.Prelude.{◌≡◌, ℕ, List, [], ◌∷◌, Option, IfSome, codes}
 use Rattle.proof_check.specs.Clauses.{Unsatisfiable}
-use Rattle.sec_base.specs.declared.text_numbers.kinds.TextKind.{TextKind}
+use Rattle.text_numbers.specs.declared.kinds.TextKind.{TextKind}
 use Rattle.lrat_core.specs.dimacs_text.Formulas.{Formula}
 use Rattle.job_base.specs.Reading.{ReadFailedAfter}
 use Rattle.job_base.specs.declared.finding.File.TheVariants as file

@@ -2,8 +2,8 @@
 use Rattle.std.specs.Prelude.{◌≡◌, ◌≤◌, ◌<◌, ℕ, List, length, Option, IfSome, Ok, Err}
 use Rattle.sec_base.specs.declared.limits.TheConstants.{MAX_FILE_BYTES}
 use Rattle.sec_base.specs.declared.base_shelves.whole_file.FetchError.TheVariants as fetch_error
-use Rattle.sec_base.specs.declared.text_numbers.kinds.TextError.TheVariants as text_error
-use Rattle.sec_base.specs.declared.text_numbers.kinds.TextKind.{TextKind}
+use Rattle.text_numbers.specs.declared.kinds.TextError.TheVariants as text_error
+use Rattle.text_numbers.specs.declared.kinds.TextKind.{TextKind}
 use Rattle.lrat_core.specs.dimacs_text.Dimacs.{formula_of}
 use Rattle.lrat_core.specs.dimacs_text.Formulas.{Formula}
 use Rattle.lrat_core.specs.Sequences.{Accepted, Refused}

@@ -8,7 +8,7 @@ use Rattle.proof_check.specs.Chains.{LogDerives, EndsEmpty, IsRefutation}
 use Rattle.proof_check.specs.declared.derivation.Chain.{Chain}
 use Rattle.proof_check.proofs.OneVerdict.{log_one}
 use Rattle.pair_decide.specs.declared.cnf_encode.cnf.Cnf.{Cnf}
-use Rattle.sec_base.specs.text_numbers.Lines.{lines_of}
+use Rattle.text_numbers.specs.Lines.{lines_of}
 use Rattle.lrat_core.specs.dimacs_text.dimacs_writer.Laws.{AreWritable}
 use Rattle.lrat_core.proofs.dimacs_text.dimacs_writer.Lining.{line_off}
 use Rattle.lrat_core.specs.Lines.{Line, Adds, Deletes}

@@ -12,7 +12,7 @@ use Rattle.proof_check.specs.declared.derivation.Step.{Step}
 use Rattle.proof_check.specs.declared.derivation.Chain.{Chain}
 use Rattle.proof_check.proofs.Marking.{all_members}
 use Rattle.proof_check.proofs.Sound.{at_number}
-use Rattle.sec_base.specs.declared.text_numbers.numbers.TheConstants.{MAX_SIZE}
+use Rattle.text_numbers.specs.declared.numbers.TheConstants.{MAX_SIZE}
 use Rattle.lrat_core.specs.Lines.{Line, Adds, Deletes}
 use Rattle.lrat_core.specs.Logs.{is_met, first_open, hints_after, hints_of, numbered_clause, clauses_back, lines_of}
 use Rattle.lrat_core.specs.declared.hints.Hint.{Hint}

@@ -6,10 +6,10 @@ use Rattle.std.specs.List.{All, flat_map, list_all, before_first, after_first}
 use Rattle.std.proofs.lemmas.Bool.{ne_eqb}
 use Rattle.std.proofs.lemmas.List.Elements.{All-nil, All-cons, All-head, All-tail, All-append}
 use Rattle.proof_check.specs.Literals.{Literal}
-use Rattle.sec_base.specs.text_numbers.Lines.{tokens_of, begins_with, is_empty}
-use Rattle.sec_base.specs.text_numbers.Numbers.{with_first, numbers_of, positive, is_zero}
-use Rattle.sec_base.specs.declared.text_numbers.numbers.TheConstants.{MAX_SIZE}
-use Rattle.sec_base.specs.declared.text_numbers.numbers.Number.{Number}
+use Rattle.text_numbers.specs.Lines.{tokens_of, begins_with, is_empty}
+use Rattle.text_numbers.specs.Numbers.{with_first, numbers_of, positive, is_zero}
+use Rattle.text_numbers.specs.declared.numbers.TheConstants.{MAX_SIZE}
+use Rattle.text_numbers.specs.declared.numbers.Number.{Number}
 use Rattle.lrat_core.specs.dimacs_text.Literals.{is_literal, literal_of}
 use Rattle.lrat_core.specs.dimacs_text.dimacs_writer.Written.{literal_text, literal_piece}
 use Rattle.lrat_core.proofs.dimacs_text.dimacs_writer.Lining.{Plain, Solid, solid_plain, token_off}

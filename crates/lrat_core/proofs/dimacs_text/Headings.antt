@@ -1,7 +1,7 @@
 -- Lines that are headers, and lines that aren't.
 use Rattle.std.proofs.Common.{◌≡◌, ℕ, true, false, cond, ◌&&◌, List, [], ◌∷◌, sym, ◌∙◌, ap, codes, Option, None, suc}
 use Rattle.std.specs.Str.{bytes_eq}
-use Rattle.sec_base.specs.text_numbers.Lines.{tokens_of, is_passed_over}
+use Rattle.text_numbers.specs.Lines.{tokens_of, is_passed_over}
 use Rattle.lrat_core.specs.declared.dimacs_text.counts.Header.{Header}
 use Rattle.lrat_core.specs.dimacs_text.Dimacs.{count_of, header_from, header_of, header_then, formula_from}
 

@@ -4,17 +4,17 @@ use Rattle.std.specs.Prelude.{◌==◌}
 use Rattle.std.proofs.Math.Seq.{drop-cons}
 use Rattle.std.proofs.lemmas.Bool.{eq-eqb, ne_eqb}
 use Rattle.proof_check.specs.Literals as words
-use Rattle.sec_base.specs.text_numbers.Lines.{tokens_of, is_passed_over}
-use Rattle.sec_base.specs.text_numbers.Numbers.{behind}
-use Rattle.sec_base.specs.declared.text_numbers.kinds.TextError.{TextError}
-use Rattle.sec_base.specs.declared.text_numbers.kinds.TextError.TheVariants.{At, NoMemory}
-use Rattle.sec_base.specs.declared.text_numbers.kinds.TextKind.TheVariants.{BadCount}
+use Rattle.text_numbers.specs.Lines.{tokens_of, is_passed_over}
+use Rattle.text_numbers.specs.Numbers.{behind}
+use Rattle.text_numbers.specs.declared.kinds.TextError.{TextError}
+use Rattle.text_numbers.specs.declared.kinds.TextError.TheVariants.{At, NoMemory}
+use Rattle.text_numbers.specs.declared.kinds.TextKind.TheVariants.{BadCount}
 use Rattle.lrat_core.specs.declared.dimacs_text.entries.Entry.{Entry}
 use Rattle.lrat_core.specs.declared.dimacs_text.entries.Entry.TheVariants.{Literal, End}
 use Rattle.lrat_core.specs.dimacs_text.Formulas.{Formula}
 use Rattle.lrat_core.specs.declared.dimacs_text.counts.Header.{Header}
 use Rattle.lrat_core.specs.dimacs_text.Entries.{entries_of, is_end, ends, is_open, clauses_from}
-use Rattle.sec_base.specs.text_numbers.Answers.{IsGiven}
+use Rattle.text_numbers.specs.Answers.{IsGiven}
 use Rattle.lrat_core.specs.dimacs_text.Parts.{IsLineFault}
 use Rattle.lrat_core.specs.dimacs_text.Dimacs.{is_past, line_entries, line_then, end_of, body_from}
 

@@ -3,8 +3,8 @@ use Rattle.std.proofs.Common.{◌≡◌, ℕ, Bool, true, false, cond, List, [],
 use Rattle.std.specs.Prelude.{◌==◌}
 use Rattle.std.proofs.Math.Dec.{eqb-suc-zero}
 use Rattle.proof_check.specs.Literals.{Literal}
-use Rattle.sec_base.specs.text_numbers.Lines.{tokens_of}
-use Rattle.sec_base.specs.declared.text_numbers.numbers.Number.{Number}
+use Rattle.text_numbers.specs.Lines.{tokens_of}
+use Rattle.text_numbers.specs.declared.numbers.Number.{Number}
 use Rattle.lrat_core.specs.Lines.{adds, Deletes}
 use Rattle.lrat_core.specs.Answers.{IsTaken}
 use Rattle.lrat_core.specs.States.{State}

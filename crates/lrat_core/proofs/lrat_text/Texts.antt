@@ -1,10 +1,10 @@
 -- The verdicts of texts.
 use Rattle.std.proofs.Common.{◌≡◌, ℕ, suc, ◌+◌, arith, Err, Bool, true, false, List, [], ◌∷◌, refl, sym, ◌∙◌, ap, subst, Some, None, ◌⊎◌, inl, inr}
-use Rattle.sec_base.specs.declared.text_numbers.kinds.TextKind.{TextKind}
+use Rattle.text_numbers.specs.declared.kinds.TextKind.{TextKind}
 use Rattle.lrat_core.specs.Lines.{Line}
-use Rattle.sec_base.specs.text_numbers.Lines.{lines_of}
-use Rattle.sec_base.specs.declared.text_numbers.kinds.TextError.{TextError}
-use Rattle.sec_base.specs.declared.text_numbers.kinds.TextKind.TheVariants.{BadLine, NoEmpty}
+use Rattle.text_numbers.specs.Lines.{lines_of}
+use Rattle.text_numbers.specs.declared.kinds.TextError.{TextError}
+use Rattle.text_numbers.specs.declared.kinds.TextKind.TheVariants.{BadLine, NoEmpty}
 use Rattle.lrat_core.specs.dimacs_text.Formulas.{Formula}
 use Rattle.lrat_core.specs.States.{State, start}
 use Rattle.lrat_core.specs.declared.line_error.LineError.{LineError}

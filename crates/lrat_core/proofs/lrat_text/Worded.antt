@@ -1,8 +1,8 @@
 -- What the numbers of a line spell.
 use Rattle.std.proofs.Common.{◌≡◌, ℕ, Bool, true, false, List, [], ◌∷◌, ◌++◌, Some, None, refl, sym, ◌∙◌, ap, ap₂, codes, bytes_eq}
 use Rattle.std.specs.Prelude.{Option, if◌then◌else◌}
-use Rattle.sec_base.specs.declared.text_numbers.numbers.Number.{Number}
-use Rattle.sec_base.specs.text_numbers.Numbers.{number_of, numbers_of, with_first, behind}
+use Rattle.text_numbers.specs.declared.numbers.Number.{Number}
+use Rattle.text_numbers.specs.Numbers.{number_of, numbers_of, with_first, behind}
 use Rattle.lrat_core.specs.lrat_text.Spellings.{Malformed, addition_of, deletion_of, in_numbers, spelling_by}
 
 -- one number before others

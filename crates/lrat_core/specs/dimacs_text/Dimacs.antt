@@ -1,11 +1,11 @@
 -- The clauses that a DIMACS text spells, or its first fault.
 use Rattle.std.specs.Prelude.{ℕ, suc, ◌+◌, ◌==◌, ◌&&◌, nat_lt, nat_le, Bool, not, if◌then◌else◌, List, [], ◌∷◌, Option, Some, None, Result, Ok, Err, codes, bytes_eq}
-use Rattle.sec_base.specs.text_numbers.Lines.{lines_of, tokens_of, is_passed_over}
-use Rattle.sec_base.specs.text_numbers.Numbers.{number_of, behind}
-use Rattle.sec_base.specs.declared.text_numbers.numbers.Number.{Number}
-use Rattle.sec_base.specs.declared.text_numbers.kinds.TextError.{TextError}
-use Rattle.sec_base.specs.declared.text_numbers.kinds.TextError.TheVariants.{At}
-use Rattle.sec_base.specs.declared.text_numbers.kinds.TextKind.TheVariants.{BadHeader, BadNumber, BadCount}
+use Rattle.text_numbers.specs.Lines.{lines_of, tokens_of, is_passed_over}
+use Rattle.text_numbers.specs.Numbers.{number_of, behind}
+use Rattle.text_numbers.specs.declared.numbers.Number.{Number}
+use Rattle.text_numbers.specs.declared.kinds.TextError.{TextError}
+use Rattle.text_numbers.specs.declared.kinds.TextError.TheVariants.{At}
+use Rattle.text_numbers.specs.declared.kinds.TextKind.TheVariants.{BadHeader, BadNumber, BadCount}
 use Rattle.lrat_core.specs.declared.dimacs_text.formula.TheConstants.{MAX_COUNT}
 use Rattle.lrat_core.specs.dimacs_text.Formulas.{Formula}
 use Rattle.lrat_core.specs.declared.dimacs_text.counts.Header.{Header}

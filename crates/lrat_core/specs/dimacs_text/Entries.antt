@@ -1,8 +1,8 @@
 -- What a DIMACS text holds behind its header: literals, and the ends of clauses.
 use Rattle.std.specs.Prelude.{ℕ, suc, ◌==◌, nat_le, Bool, true, false, not, if◌then◌else◌, List, [], ◌∷◌, ◌++◌, Option, Some, None}
 use Rattle.proof_check.specs.Literals as words
-use Rattle.sec_base.specs.declared.text_numbers.numbers.Number.{Number}
-use Rattle.sec_base.specs.text_numbers.Numbers.{number_of, all_spelled}
+use Rattle.text_numbers.specs.declared.numbers.Number.{Number}
+use Rattle.text_numbers.specs.Numbers.{number_of, all_spelled}
 use Rattle.lrat_core.specs.declared.dimacs_text.entries.Entry.{Entry}
 use Rattle.lrat_core.specs.declared.dimacs_text.entries.Entry.TheVariants.{Literal, End}
 use Rattle.lrat_core.specs.dimacs_text.Literals.{literal_of}

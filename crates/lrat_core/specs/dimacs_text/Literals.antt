@@ -2,7 +2,7 @@
 use Rattle.std.specs.Prelude.{◌≡◌, ℕ, ◌&&◌, nat_le, Bool, true, false, not, List, ◌++◌, map}
 use Rattle.std.specs.List.{list_all}
 use Rattle.proof_check.specs.Literals.{Literal}
-use Rattle.sec_base.specs.declared.text_numbers.numbers.Number.{Number}
+use Rattle.text_numbers.specs.declared.numbers.Number.{Number}
 
 -- the number is a literal of a variable from 1 up to the limit
 abbrev pub is_literal : ℕ → Number → Bool

@@ -1,7 +1,7 @@
 -- What the reader's parts answer.
 use Rattle.std.specs.Prelude.{◌≡◌, ℕ, List, Result, Err}
-use Rattle.sec_base.specs.declared.text_numbers.kinds.TextError.{TextError}
-use Rattle.sec_base.specs.declared.text_numbers.kinds.TextError.TheVariants.{At, NoMemory}
+use Rattle.text_numbers.specs.declared.kinds.TextError.{TextError}
+use Rattle.text_numbers.specs.declared.kinds.TextError.TheVariants.{At, NoMemory}
 use Rattle.lrat_core.specs.dimacs_text.Formulas.{Formula}
 use Rattle.lrat_core.specs.declared.dimacs_text.counts.Header.{Header}
 use Rattle.lrat_core.specs.declared.dimacs_text.entries.Entry.{Entry}

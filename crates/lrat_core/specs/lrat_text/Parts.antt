@@ -2,12 +2,12 @@
 use Rattle.std.specs.Prelude.{◌≡◌, ◌⊎◌, ℕ, Bool, true, false, List, Option, Some, None}
 use Rattle.std.specs.List.{list_all, before_first, after_first}
 use Rattle.proof_check.specs.Literals.{Literal}
-use Rattle.sec_base.specs.text_numbers.Numbers.{is_zero}
-use Rattle.sec_base.specs.declared.text_numbers.numbers.Number.{Number}
+use Rattle.text_numbers.specs.Numbers.{is_zero}
+use Rattle.text_numbers.specs.declared.numbers.Number.{Number}
 use Rattle.lrat_core.specs.dimacs_text.Literals.{is_literal}
-use Rattle.sec_base.specs.declared.text_numbers.kinds.TextKind.TheVariants.{BadLine}
-use Rattle.sec_base.specs.declared.text_numbers.kinds.TextError.{TextError}
-use Rattle.sec_base.specs.declared.text_numbers.kinds.TextError.TheVariants as text_error
+use Rattle.text_numbers.specs.declared.kinds.TextKind.TheVariants.{BadLine}
+use Rattle.text_numbers.specs.declared.kinds.TextError.{TextError}
+use Rattle.text_numbers.specs.declared.kinds.TextError.TheVariants as text_error
 use Rattle.lrat_core.specs.Lines.{Line, adds, Deletes}
 use Rattle.lrat_core.specs.States.{State}
 use Rattle.lrat_core.specs.Sequences.{LineGives, AddsEmpty}

@@ -1,9 +1,9 @@
 -- What a line of an LRAT text spells.
 use Rattle.std.specs.Prelude.{◌≡◌, ℕ, ◌&&◌, ◌==◌, Bool, true, false, if◌then◌else◌, List, [], ◌∷◌, map, Option, Some, None, codes, bytes_eq, refl}
 use Rattle.std.specs.List.{list_all, before_first, after_first}
-use Rattle.sec_base.specs.text_numbers.Lines.{is_empty, tokens_of}
-use Rattle.sec_base.specs.text_numbers.Numbers.{numbers_of, is_zero, has_zero}
-use Rattle.sec_base.specs.declared.text_numbers.numbers.Number.{Number}
+use Rattle.text_numbers.specs.Lines.{is_empty, tokens_of}
+use Rattle.text_numbers.specs.Numbers.{numbers_of, is_zero, has_zero}
+use Rattle.text_numbers.specs.declared.numbers.Number.{Number}
 use Rattle.lrat_core.specs.dimacs_text.Literals.{is_literal, literal_of}
 use Rattle.lrat_core.specs.Lines.{Line, adds, Deletes}
 use Rattle.lrat_core.specs.declared.hints.Hint.{Hint}

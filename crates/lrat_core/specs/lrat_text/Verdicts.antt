@@ -1,10 +1,10 @@
 -- Which LRAT texts are accepted, and the first fault of the others.
 use Rattle.std.specs.Prelude.{◌≡◌, ℕ, suc, List, [], ◌∷◌, Some, None, Result, Ok, Err}
-use Rattle.sec_base.specs.text_numbers.Lines.{lines_of}
-use Rattle.sec_base.specs.declared.text_numbers.kinds.TextError.{TextError}
-use Rattle.sec_base.specs.declared.text_numbers.kinds.TextError.TheVariants as error
-use Rattle.sec_base.specs.declared.text_numbers.kinds.TextKind.{TextKind}
-use Rattle.sec_base.specs.declared.text_numbers.kinds.TextKind.TheVariants.{BadLine, NoEmpty}
+use Rattle.text_numbers.specs.Lines.{lines_of}
+use Rattle.text_numbers.specs.declared.kinds.TextError.{TextError}
+use Rattle.text_numbers.specs.declared.kinds.TextError.TheVariants as error
+use Rattle.text_numbers.specs.declared.kinds.TextKind.{TextKind}
+use Rattle.text_numbers.specs.declared.kinds.TextKind.TheVariants.{BadLine, NoEmpty}
 use Rattle.lrat_core.specs.dimacs_text.Formulas.{Formula}
 use Rattle.lrat_core.specs.Lines.{Line}
 use Rattle.lrat_core.specs.States.{State, start}

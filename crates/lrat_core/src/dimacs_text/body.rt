@@ -1,10 +1,10 @@
 //! What stands behind the header of a DIMACS text.
 
 ghost use Rattle.std.specs.Prelude.{◌≡◌, ◌≤◌, ◌^◌, [], ◌∷◌, ◌++◌, Some, false, IfOk, IfErr, OnOk};
-ghost use Rattle.sec_base.specs.declared.text_numbers.kinds.TextError.TheVariants.{At};
-ghost use Rattle.sec_base.specs.declared.text_numbers.kinds.TextKind.TheVariants.{BadCount};
-ghost use Rattle.sec_base.specs.text_numbers.Answers.{IsGiven};
-ghost use Rattle.sec_base.specs.text_numbers.Numbers.{IsRead};
+ghost use Rattle.text_numbers.specs.declared.kinds.TextError.TheVariants.{At};
+ghost use Rattle.text_numbers.specs.declared.kinds.TextKind.TheVariants.{BadCount};
+ghost use Rattle.text_numbers.specs.Answers.{IsGiven};
+ghost use Rattle.text_numbers.specs.Numbers.{IsRead};
 ghost use Rattle.lrat_core.specs.dimacs_text.Entries.{entries_of, ends, is_open, clauses_from};
 ghost use Rattle.lrat_core.specs.dimacs_text.Dimacs.{begun, is_past, line_entries, end_of};
 ghost use Rattle.lrat_core.specs.dimacs_text.Parts.{IsLineFault};
@@ -14,8 +14,8 @@ use crate::dimacs_text::entries::{Entry, ends_in, entry_of, is_end};
 use crate::dimacs_text::formula::{Formula, LiteralLists};
 use proof_check::Literals;
 use sec_base::NoMemory;
-use sec_base::text_numbers::{TextError, TextKind, Tokens, is_passed_over};
 use std::alloc::Global;
+use text_numbers::{TextError, TextKind, Tokens, is_passed_over};
 
 /// The entries behind the header, as far as they were read.
 #[derive(Drop)]

@@ -4,7 +4,7 @@ ghost use Rattle.std.specs.Prelude.{◌≡◌, ◌≤◌, ◌^◌, if◌then◌e
 ghost use Rattle.lrat_core.specs.dimacs_text.Entries.{entry_of, entry_from, is_end};
 
 use proof_check::Literal;
-use sec_base::text_numbers::{Number, number_of};
+use text_numbers::{Number, number_of};
 
 /// A literal of a clause, or the 0 that ends a clause.
 #[derive(Clone, Copy)]

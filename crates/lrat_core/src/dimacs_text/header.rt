@@ -1,14 +1,12 @@
 //! The header of a DIMACS text.
 
 ghost use Rattle.std.specs.Prelude.{◌≡◌, ◌≤◌, ◌^◌, [], suc, IfOk, IfSome, MatchResult};
-ghost use Rattle.sec_base.specs.text_numbers.Lines.{tokens_of};
+ghost use Rattle.text_numbers.specs.Lines.{tokens_of};
 ghost use Rattle.lrat_core.specs.dimacs_text.Dimacs.{count_of, counted, header_of, header_from, formula_from, body_from};
 
 use crate::dimacs_text::counts::Header;
 use crate::dimacs_text::formula::MAX_COUNT;
-use sec_base::text_numbers::{
-    Number, NumberedLines, TextError, TextKind, Tokens, is_passed_over, number_of,
-};
+use text_numbers::{Number, NumberedLines, TextError, TextKind, Tokens, is_passed_over, number_of};
 
 /// The number as a count, where it is at most 2^30.
 fn counted(number: Option<Number>) -> Option<u32>

@@ -5,7 +5,7 @@ ghost use Rattle.lrat_core.specs.dimacs_text.Literals.{is_literal, IsPut};
 
 use proof_check::Literal;
 use sec_base::NoMemory;
-use sec_base::text_numbers::Number;
+use text_numbers::Number;
 
 /// Whether the number is a literal of a variable from 1 up to the limit.
 pub fn is_literal(limit: u32, number: Number) -> bool

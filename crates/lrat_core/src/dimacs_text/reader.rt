@@ -1,15 +1,15 @@
 //! Clauses out of DIMACS texts.
 
 ghost use Rattle.std.specs.Prelude.{◌≤◌, ◌^◌, length, IfOk};
-ghost use Rattle.sec_base.specs.text_numbers.Answers.{IsGiven};
+ghost use Rattle.text_numbers.specs.Answers.{IsGiven};
 ghost use Rattle.lrat_core.specs.dimacs_text.Dimacs.{formula_of};
 
 use crate::dimacs_text::body::Body;
 use crate::dimacs_text::formula::Formula;
 use crate::dimacs_text::header::read_header;
 use sec_base::MAX_FILE_BYTES;
-use sec_base::text_numbers::{NumberedLines, TextError};
 use std::alloc::Global;
+use text_numbers::{NumberedLines, TextError};
 
 /// Reads clauses: a header `p cnf V C`, and then C clauses of literals of the variables 1 to V, each ended by a 0, over lines as
 /// they like. Lines without tokens and those that begin with `c` are passed over. An error names the first faulty line with its

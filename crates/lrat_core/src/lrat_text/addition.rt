@@ -8,7 +8,7 @@ use crate::Hint;
 use crate::dimacs_text::put_literals;
 use proof_check::Literal;
 use sec_base::NoMemory;
-use sec_base::text_numbers::{Number, split_at_zero};
+use text_numbers::{Number, split_at_zero};
 
 /// The literals and the hints of an addition.
 #[derive(Drop)]

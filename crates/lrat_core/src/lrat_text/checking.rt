@@ -11,8 +11,8 @@ use crate::dimacs_text::Formula;
 use crate::lrat_text::line::{Buffers, Form};
 use crate::{Checker, LineError};
 use sec_base::MAX_FILE_BYTES;
-use sec_base::text_numbers::{NumberedLines, TextError, TextKind};
 use std::alloc::Global;
+use text_numbers::{NumberedLines, TextError, TextKind};
 
 /// An accepted text.
 #[derive(Clone, Copy)]

@@ -9,8 +9,8 @@ use crate::lrat_text::addition::{read_addition, read_deletion};
 use crate::lrat_text::words::{Words, read_words};
 use proof_check::Literal;
 use sec_base::NoMemory;
-use sec_base::text_numbers::Number;
 use std::alloc::Global;
+use text_numbers::Number;
 
 /// Whether a line is passed over: it is empty, or begins with `c`.
 fn is_comment(line: &[u8]) -> bool

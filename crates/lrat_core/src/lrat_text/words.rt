@@ -1,11 +1,11 @@
 //! The numbers of a line.
 
 ghost use Rattle.std.specs.Prelude.{IfOk};
-ghost use Rattle.sec_base.specs.text_numbers.Lines.{tokens_of};
+ghost use Rattle.text_numbers.specs.Lines.{tokens_of};
 ghost use Rattle.lrat_core.specs.lrat_text.Parts.{AreWords};
 
 use sec_base::NoMemory;
-use sec_base::text_numbers::{Number, Tokens, number_of, read_numbers};
+use text_numbers::{Number, Tokens, number_of, read_numbers};
 
 /// What a line is by its tokens.
 #[derive(Clone, Copy)]

@@ -6,8 +6,8 @@ use Rattle.std.specs.List.Sorted.{IsStrictlyIncreasing}
 use Rattle.std.proofs.lemmas.Option.{same_Some}
 use Rattle.circuit_theory.proofs.Lists.{at_of}
 use Rattle.circuit_theory.proofs.Numbers.{distinct_at}
-use Rattle.sec_base.specs.clause_base.Clauses.{IsClause, IsClauseOf, IsTautology}
-use Rattle.sec_base.specs.clause_base.Literals.{Literal, negation}
+use Rattle.clause_base.specs.Clauses.{IsClause, IsClauseOf, IsTautology}
+use Rattle.clause_base.specs.Literals.{Literal, negation}
 use Rattle.event_nodes.specs.aig.Node.{Node}
 use Rattle.event_nodes.specs.aig.Node.TheVariants.{Constant, Input}
 use Rattle.pair_decide.specs.aig.Cone.{IsConeOf, IsPartOf, IsPlacedNode, IsReached, Reads}

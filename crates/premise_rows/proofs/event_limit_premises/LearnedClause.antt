@@ -4,8 +4,8 @@ use Rattle.std.specs.Prelude.{◌⊎◌}
 use Rattle.std.specs.List.{Contains}
 use Rattle.std.proofs.lemmas.List.Elements.{All-from_recursion}
 use Rattle.circuit_theory.proofs.Lists.{only}
-use Rattle.sec_base.specs.clause_base.Literals.{Literal, negation}
-use Rattle.sec_base.specs.clause_base.New.{HasTwoFree, IsClosed, IsFree, IsMet, IsNew}
+use Rattle.clause_base.specs.Literals.{Literal, negation}
+use Rattle.clause_base.specs.New.{HasTwoFree, IsClosed, IsFree, IsMet, IsNew}
 use Rattle.proof_check.specs.Chains.{ChainDerives}
 use Rattle.proof_check.specs.Resolution.{HoldOpposite, IsResolvent}
 use Rattle.call_rows.proofs.circuit_samples.Each.{Each, EachPair, each_at, each_pair}

@@ -7,7 +7,7 @@ use Rattle.proof_check.specs.Literals.{Literal}
 use Rattle.lrat_core.specs.Hints.{IsUnit, HintsGive}
 use Rattle.lrat_core.specs.Sequences.{AdditionGives, DeletionGives, Accepted}
 use Rattle.lrat_core.specs.States.{numbered, start, with_clause, without_all}
-use Rattle.sec_base.specs.text_numbers.Lines.{lines_of}
+use Rattle.text_numbers.specs.Lines.{lines_of}
 use Rattle.lrat_core.specs.lrat_text.Verdicts.{TextGives}
 use Rattle.premise_rows.specs.job_rows.Refutations.{UnitsAreRefuted, PairsAreRefuted, refuting}
 

@@ -4,7 +4,7 @@ use Rattle.std.specs.Fmt.{digits}
 use Rattle.std.specs.List.{All, Contains}
 use Rattle.std.proofs.Common.{ℕ, List, [], ◌∷◌, refl, arith, inl, inr}
 use Rattle.circuit_theory.proofs.Lists.{All-from_each}
-use Rattle.sec_base.specs.clause_base.Clauses.{IsClause}
+use Rattle.clause_base.specs.Clauses.{IsClause}
 use Rattle.proof_check.specs.Literals.{Literal, negation}
 use Rattle.proof_check.specs.Resolution.{IsResolvent}
 use Rattle.proof_check.specs.Chains.{LogDerives, StepsDerive}

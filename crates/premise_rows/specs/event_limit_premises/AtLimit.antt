@@ -1,7 +1,7 @@
 -- The query of that pair, and the answer at the limit where no conflict is allowed.
 use Rattle.std.specs.Prelude.{ℕ, true, false, [], ◌∷◌, Some, codes}
 use Rattle.circuit_theory.specs.Joined.{Left, Right}
-use Rattle.sec_base.specs.clause_base.Literals.{Literal}
+use Rattle.clause_base.specs.Literals.{Literal}
 use Rattle.sec_base.specs.declared.basics.PairAnswer.TheVariants as answer
 use Rattle.sec_setup.specs.declared.ports.pairs.SignalPair.{SignalPair}
 use Rattle.witness_report.specs.declared.witness.PairName.TheVariants as pair

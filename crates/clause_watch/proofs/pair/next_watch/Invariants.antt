@@ -1,5 +1,5 @@
 use Rattle.std.proofs.Common.{◌≢◌, ◌<◌, ℕ, get_or, length}
-use Rattle.sec_base.specs.clause_base.Literals.{Literal, negation}
+use Rattle.clause_base.specs.Literals.{Literal, negation}
 use Rattle.clause_watch.specs.Trails.{TrueBefore}
 use Rattle.clause_watch.proofs.pair.next_watch.Given as goal
 

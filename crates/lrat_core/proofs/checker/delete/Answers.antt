@@ -1,7 +1,7 @@
 use Rattle.std.proofs.Common.{◌∙◌, drop, sym, ap, subst, add-one, Some, None}
 use Rattle.lrat_core.specs.States.{live_of, without_all}
 use Rattle.lrat_core.specs.Sequences.{DeletionGives}
-use Rattle.sec_base.specs.declared.text_numbers.kinds.TextKind.TheVariants.{BadId}
+use Rattle.text_numbers.specs.declared.kinds.TextKind.TheVariants.{BadId}
 use Rattle.lrat_core.proofs.Checking.{deletion_stops, deletion_goes_on, deletion_same, deletion_done}
 use Rattle.lrat_core.proofs.checker.delete.Goals as goal
 

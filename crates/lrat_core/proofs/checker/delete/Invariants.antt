@@ -1,7 +1,7 @@
 use Rattle.std.proofs.Common.{◌≡◌, drop, Option}
 use Rattle.lrat_core.specs.Sequences.{DeletionGives}
 use Rattle.lrat_core.specs.States.{live_of, without_all}
-use Rattle.sec_base.specs.declared.text_numbers.kinds.TextKind.{TextKind}
+use Rattle.text_numbers.specs.declared.kinds.TextKind.{TextKind}
 use Rattle.lrat_core.proofs.checker.delete.Given as goal
 
 -- what the numbers that are left give, all give

@@ -1,7 +1,7 @@
 use Rattle.std.proofs.Common.{suc, drop, Some, None}
 use Rattle.lrat_core.specs.States.{live_of}
 use Rattle.lrat_core.specs.declared.hints.Hint.TheVariants.{Clause}
-use Rattle.sec_base.specs.declared.text_numbers.kinds.TextKind.TheVariants.{NoConflict}
+use Rattle.text_numbers.specs.declared.kinds.TextKind.TheVariants.{NoConflict}
 use Rattle.lrat_core.proofs.Checking.{hints_from, no_hints}
 use Rattle.lrat_core.proofs.checker.follow.Goals as goal
 

@@ -1,7 +1,7 @@
 use Rattle.std.proofs.Common.{drop, Option}
 use Rattle.lrat_core.specs.Hints.{HintsGive}
 use Rattle.lrat_core.specs.States.{live_of}
-use Rattle.sec_base.specs.declared.text_numbers.kinds.TextKind.{TextKind}
+use Rattle.text_numbers.specs.declared.kinds.TextKind.{TextKind}
 use Rattle.lrat_core.proofs.checker.follow.Given as goal
 
 -- what the hints that are left give, all give

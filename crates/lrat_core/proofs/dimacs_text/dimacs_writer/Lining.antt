@@ -6,8 +6,8 @@ use Rattle.std.specs.Io.BufRead.{strip_last, ends_with_byte}
 use Rattle.std.proofs.lemmas.Bool.{ne_eqb}
 use Rattle.std.proofs.lemmas.List.Elements.{All-weaker}
 use Rattle.std.proofs.lemmas.List.Splits.{slice_split_at, slice_split_none, length-slice_split}
-use Rattle.sec_base.specs.text_numbers.Lines.{is_blank, is_line_feed, is_empty, without_returns, lines_of, tokens_of}
-use Rattle.sec_base.proofs.text_numbers.Pieces.{first_of_more}
+use Rattle.text_numbers.specs.Lines.{is_blank, is_line_feed, is_empty, without_returns, lines_of, tokens_of}
+use Rattle.text_numbers.proofs.Pieces.{first_of_more}
 
 -- bytes above a carriage return, and above a blank
 abbrev pub Plain : List ℕ → Type 0

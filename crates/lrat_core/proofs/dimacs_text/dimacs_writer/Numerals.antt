@@ -9,9 +9,9 @@ use Rattle.std.proofs.lemmas.Fmt.{decimal_is_IsNumeral, decimal_nonempty, digits
 use Rattle.std.proofs.lemmas.List.Elements.{All-cons, All-from_get_or}
 use Rattle.std.proofs.lemmas.Str.Parse.{IsNumeralModel, numerals_by_fold, digit_at}
 use Rattle.proof_check.specs.Literals.{Literal}
-use Rattle.sec_base.specs.text_numbers.Lines.{is_empty, begins_with}
-use Rattle.sec_base.specs.text_numbers.Numbers.{value_after, digits_value, is_size, size_of, negative, positive, number_of}
-use Rattle.sec_base.specs.declared.text_numbers.numbers.TheConstants.{MAX_SIZE}
+use Rattle.text_numbers.specs.Lines.{is_empty, begins_with}
+use Rattle.text_numbers.specs.Numbers.{value_after, digits_value, is_size, size_of, negative, positive, number_of}
+use Rattle.text_numbers.specs.declared.numbers.TheConstants.{MAX_SIZE}
 use Rattle.lrat_core.specs.declared.dimacs_text.formula.TheConstants.{MAX_COUNT}
 use Rattle.lrat_core.specs.declared.dimacs_text.entries.Entry.TheVariants as entry
 use Rattle.lrat_core.specs.dimacs_text.Entries.{entry_from, entry_of}

@@ -8,11 +8,11 @@ use Rattle.std.proofs.lemmas.Bool.Decides.{leb_tells}
 use Rattle.std.proofs.lemmas.List.{append-nil}
 use Rattle.std.proofs.lemmas.List.Elements.{All-nil, All-cons, All-head, All-tail, All-append}
 use Rattle.proof_check.specs.Literals.{Literal}
-use Rattle.sec_base.specs.text_numbers.Lines.{lines_of, tokens_of, is_passed_over}
-use Rattle.sec_base.specs.text_numbers.Numbers.{with_first, behind}
-use Rattle.sec_base.specs.declared.text_numbers.numbers.TheConstants.{MAX_SIZE}
-use Rattle.sec_base.specs.declared.text_numbers.kinds.TextError.TheVariants.{At}
-use Rattle.sec_base.specs.declared.text_numbers.kinds.TextKind.TheVariants.{BadCount}
+use Rattle.text_numbers.specs.Lines.{lines_of, tokens_of, is_passed_over}
+use Rattle.text_numbers.specs.Numbers.{with_first, behind}
+use Rattle.text_numbers.specs.declared.numbers.TheConstants.{MAX_SIZE}
+use Rattle.text_numbers.specs.declared.kinds.TextError.TheVariants.{At}
+use Rattle.text_numbers.specs.declared.kinds.TextKind.TheVariants.{BadCount}
 use Rattle.lrat_core.specs.dimacs_text.Formulas.{Formula}
 use Rattle.lrat_core.specs.declared.dimacs_text.counts.Header.{Header}
 use Rattle.lrat_core.specs.declared.dimacs_text.entries.Entry.{Entry}

@@ -4,7 +4,7 @@ use Rattle.lrat_core.specs.Hints.{HintsGive}
 use Rattle.lrat_core.specs.Answers.{HintDoes}
 use Rattle.lrat_core.specs.declared.hints.Hint.{Hint}
 use Rattle.lrat_core.specs.declared.looking.Effect.TheVariants.{Fails, Conflicts, Forces}
-use Rattle.sec_base.specs.declared.text_numbers.kinds.TextKind.TheVariants.{NegativeHint, BadHint, NotUnit}
+use Rattle.text_numbers.specs.declared.kinds.TextKind.TheVariants.{NegativeHint, BadHint, NotUnit}
 use Rattle.lrat_core.proofs.looking.look_at_hint.Goals as goal
 
 pub returns-in_default : goal.returns-in_default

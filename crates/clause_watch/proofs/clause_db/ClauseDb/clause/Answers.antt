@@ -1,6 +1,6 @@
 use Rattle.std.proofs.Common.{◌+◌, ◌<◌, List, length, ap, sym, ◌∙◌, arith, Some}
 use Rattle.std.specs.Prelude.{slice_get, slice_range}
-use Rattle.sec_base.specs.clause_base.Literals.{Literal}
+use Rattle.clause_base.specs.Literals.{Literal}
 use Rattle.clause_watch.proofs.Pieces.{pieces_length, read_piece, flat_clause}
 use Rattle.clause_watch.proofs.clause_db.ClauseDb.clause.Goals as goal
 

@@ -1,5 +1,5 @@
 use Rattle.std.proofs.Common.{List, length, ap, arith}
-use Rattle.sec_base.specs.clause_base.Literals.{Literal}
+use Rattle.clause_base.specs.Literals.{Literal}
 use Rattle.clause_watch.proofs.Pieces.{pieces_length}
 use Rattle.clause_watch.proofs.clause_db.ClauseDb.len.Goals as goal
 

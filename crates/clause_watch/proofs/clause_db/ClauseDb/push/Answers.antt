@@ -1,5 +1,5 @@
 use Rattle.std.proofs.Common.{◌≡◌, ◌+◌, ℕ, List, [], ◌∷◌, ◌++◌, length, ap, sym, ◌∙◌, subst, arith}
-use Rattle.sec_base.specs.clause_base.Literals.{Literal}
+use Rattle.clause_base.specs.Literals.{Literal}
 use Rattle.clause_watch.specs.Flat.{pieces, IsFlat}
 use Rattle.clause_watch.proofs.Pieces.{pieces_push, flat_push}
 use Rattle.clause_watch.proofs.clause_db.ClauseDb.push.Goals as goal

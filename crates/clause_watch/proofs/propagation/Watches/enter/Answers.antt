@@ -1,6 +1,6 @@
 use Rattle.std.proofs.Common.{arith, ◌<◌, ◌≤◌, subst, sym}
 use Rattle.clause_watch.proofs.Loading.{entered_long, entered_force}
-use Rattle.sec_base.specs.clause_base.Literals.{Literal}
+use Rattle.clause_base.specs.Literals.{Literal}
 use Rattle.clause_watch.specs.Range.{AllInRange}
 use Rattle.clause_watch.proofs.Lists.{at_number}
 use Rattle.clause_watch.proofs.propagation.Watches.enter.Goals as goal

@@ -1,8 +1,8 @@
 use Rattle.std.proofs.Common.{◌≡◌, ℕ, ◌<◌, ◌≤◌, List, length, sym, ap, subst, arith, refl, Some, [], ◌∷◌, ◌++◌}
 use Rattle.std.specs.List.{Contains}
 use Rattle.std.proofs.lemmas.List.Elements.{All-contains}
-use Rattle.sec_base.specs.clause_base.Literals.{Literal}
-use Rattle.sec_base.specs.clause_base.Clauses.{IsClause}
+use Rattle.clause_base.specs.Literals.{Literal}
+use Rattle.clause_base.specs.Clauses.{IsClause}
 use Rattle.clause_watch.specs.Range.{AllInRange}
 use Rattle.clause_watch.specs.TwoWatches.{AreOwn, IsPushed}
 use Rattle.clause_watch.specs.Trails.{FreeBefore}

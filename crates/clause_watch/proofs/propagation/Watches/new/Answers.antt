@@ -1,5 +1,5 @@
 use Rattle.std.proofs.Common.{List, subst, sym}
-use Rattle.sec_base.specs.clause_base.Literals.{Literal}
+use Rattle.clause_base.specs.Literals.{Literal}
 use Rattle.clause_watch.specs.Range.{InRange}
 use Rattle.clause_watch.proofs.Loading.{loading_start}
 use Rattle.clause_watch.proofs.propagation.Watches.new.Goals as goal

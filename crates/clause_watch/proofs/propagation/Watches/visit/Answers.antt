@@ -1,6 +1,6 @@
 use Rattle.std.proofs.Common.{refl, arith, ◌≡◌, ◌∙◌, ℕ, List, length, subst}
 use Rattle.clause_watch.proofs.Visits.{visit_start, visit_end}
-use Rattle.sec_base.specs.clause_base.Literals.{Literal}
+use Rattle.clause_base.specs.Literals.{Literal}
 use Rattle.clause_watch.specs.Rows.{row}
 use Rattle.clause_watch.specs.Trails.{TrailView}
 use Rattle.clause_watch.specs.Watching.{IsVisited}

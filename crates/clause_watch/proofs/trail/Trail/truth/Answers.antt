@@ -1,7 +1,7 @@
 use Rattle.std.proofs.Common.{List, Some, None, length, ap, sym, ◌∙◌, subst, arith, ◌≡◌}
 use Rattle.clause_watch.specs.Trails.{TrailView, TrueBefore, FreeBefore}
 use Rattle.clause_watch.specs.declared.entry.Entry.{Entry}
-use Rattle.sec_base.specs.clause_base.Literals.{negation}
+use Rattle.clause_base.specs.Literals.{negation}
 use Rattle.clause_watch.proofs.Index.{marked_true, marked_false, unmarked_free, mark_there, same_by_test, differ_by_test}
 use Rattle.clause_watch.proofs.trail.Trail.truth.Goals as goal
 

@@ -1,5 +1,5 @@
 use Rattle.std.proofs.Common.{subst, sym}
-use Rattle.sec_base.specs.clause_base.Clauses.{IsClause}
+use Rattle.clause_base.specs.Clauses.{IsClause}
 use Rattle.clause_watch.proofs.watched_clauses.WatchedClauses.new.Goals as goal
 
 pub push-requires-clause-clause : goal.push-requires-clause-clause

@@ -8,7 +8,7 @@ use Rattle.lrat_core.specs.Sequences.{AdditionGives}
 use Rattle.lrat_core.specs.Answers.{HintsFail, IsTaken, IsNotTaken}
 use Rattle.lrat_core.specs.declared.line_error.LineError.{LineError}
 use Rattle.lrat_core.specs.declared.line_error.LineError.TheVariants as error
-use Rattle.sec_base.specs.declared.text_numbers.kinds.TextKind.TheVariants.{BadId}
+use Rattle.text_numbers.specs.declared.kinds.TextKind.TheVariants.{BadId}
 use Rattle.lrat_core.proofs.checker.Checker.add.Goals as goal
 
 pub returns-then-id-self : goal.returns-then-id-self

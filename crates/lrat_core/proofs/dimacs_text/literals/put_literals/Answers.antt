@@ -1,6 +1,6 @@
 use Rattle.std.proofs.Common.{Bool, ◌&&◌, ap₂, sym, ◌∙◌, false}
 use Rattle.std.proofs.lemmas.List.Folds.{list_all_more}
-use Rattle.sec_base.specs.declared.text_numbers.numbers.Number.{Number}
+use Rattle.text_numbers.specs.declared.numbers.Number.{Number}
 use Rattle.lrat_core.specs.dimacs_text.Literals.{is_literal, literal_of}
 use Rattle.lrat_core.proofs.Loops.{map_more}
 use Rattle.lrat_core.proofs.dimacs_text.literals.put_literals.Goals as goal

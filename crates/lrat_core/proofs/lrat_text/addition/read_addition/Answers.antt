@@ -2,7 +2,7 @@ use Rattle.std.proofs.Common.{◌≡◌, ◌∙◌, ◌-◌, ◌++◌, ℕ, arit
 use Rattle.std.specs.List.{list_all}
 use Rattle.std.proofs.lemmas.List.{take_all}
 use Rattle.proof_check.specs.Literals.{Literal}
-use Rattle.sec_base.specs.declared.text_numbers.numbers.Number.{Number}
+use Rattle.text_numbers.specs.declared.numbers.Number.{Number}
 use Rattle.lrat_core.specs.Lines.{adds}
 use Rattle.lrat_core.specs.dimacs_text.Literals.{is_literal, literal_of, IsPut}
 use Rattle.lrat_core.specs.declared.hints.Hint.{Hint}

@@ -1,5 +1,5 @@
 use Rattle.std.proofs.Common.{Bool, List, ℕ, ◌∷◌, sym, ◌∙◌, ap, subst, bytes_eq}
-use Rattle.sec_base.specs.text_numbers.Numbers.{numbers_of, IsRead}
+use Rattle.text_numbers.specs.Numbers.{numbers_of, IsRead}
 use Rattle.lrat_core.proofs.lrat_text.Worded.{addition_words, no_addition_words, no_second_word, deletion_words, no_deletion_words}
 use Rattle.lrat_core.proofs.lrat_text.words.read_words.Goals as goal
 

@@ -1,6 +1,6 @@
 use Rattle.std.proofs.Common.{ℕ, ◌+◌, ◌∙◌, List, [], ◌∷◌, Contains, subst, sym}
 use Rattle.std.proofs.lemmas.List.Elements.{Contains-append_left, Contains-append_right}
-use Rattle.sec_base.proofs.clause_base.Members.{Contains-head}
+use Rattle.clause_base.proofs.Members.{Contains-head}
 use Rattle.proof_check.proofs.Marking.{reached_signed}
 use Rattle.proof_check.proofs.marks.Marks.reach.Goals as goal
 

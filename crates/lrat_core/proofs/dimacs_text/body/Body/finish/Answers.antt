@@ -1,7 +1,7 @@
 use Rattle.std.proofs.Common.{List, [], Ok, Err, sym, ◌∙◌, ap, subst}
 use Rattle.proof_check.specs.Literals.{Literal}
-use Rattle.sec_base.specs.declared.text_numbers.kinds.TextError.{TextError}
-use Rattle.sec_base.specs.text_numbers.Answers.{IsGiven}
+use Rattle.text_numbers.specs.declared.kinds.TextError.{TextError}
+use Rattle.text_numbers.specs.Answers.{IsGiven}
 use Rattle.lrat_core.specs.dimacs_text.Entries.{clauses_from}
 use Rattle.lrat_core.specs.dimacs_text.Dimacs.{end_of}
 use Rattle.lrat_core.proofs.dimacs_text.Putting.{wrong_count, still_open, all_there}

@@ -1,5 +1,5 @@
 use Rattle.std.proofs.Common.{sym, ◌∙◌}
-use Rattle.sec_base.proofs.text_numbers.Readings.{read_more}
+use Rattle.text_numbers.proofs.Readings.{read_more}
 use Rattle.lrat_core.specs.dimacs_text.Entries.{entry_of}
 use Rattle.lrat_core.proofs.dimacs_text.body.Body.put_all.Goals as goal
 

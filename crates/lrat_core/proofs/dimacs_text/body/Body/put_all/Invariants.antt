@@ -1,5 +1,5 @@
 use Rattle.std.proofs.Common.{◌≡◌, length}
-use Rattle.sec_base.specs.text_numbers.Numbers.{behind}
+use Rattle.text_numbers.specs.Numbers.{behind}
 use Rattle.lrat_core.specs.dimacs_text.Entries.{entries_of}
 use Rattle.lrat_core.proofs.dimacs_text.body.Body.put_all.Given as goal
 

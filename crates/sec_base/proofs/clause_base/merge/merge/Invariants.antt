@@ -1,9 +1,0 @@
-use Rattle.std.proofs.Common.{length, ◌-◌, ◌+◌, None}
-use Rattle.sec_base.specs.clause_base.Merging.{IsMerged}
-use Rattle.sec_base.proofs.clause_base.merge.merge.Given as goal
-
-abbrev pub invariant-turns : goal.invariant-turns
-invariant-turns l = IsMerged l.left l.right l.out.items None l.at.left l.at.right
-
-abbrev pub decreases-turns : goal.decreases-turns
-decreases-turns l = (length l.left - l.at.left) + (length l.right - l.at.right)
