@@ -1,10 +1,8 @@
 //! Shelves and sinks in memory, and real files.
 
 use crate::words::size_of;
-use sec_base::{
-    Duplicate, FetchError, FilePath, FileShelf, FileText, Ids, MemShelf, MemSink, Shelf, Sink,
-    fetch,
-};
+use base_shelves::{FetchError, FileShelf, MemShelf, MemSink, Shelf, Sink, fetch};
+use sec_base::{Duplicate, FilePath, FileText, Ids};
 use std::rt::HostRuntime;
 use std::str;
 use text_rows::row_text::{show, show_count, split_at};

@@ -1,7 +1,7 @@
 -- What is found where one of the files isn't loaded.
 use Rattle.std.proofs.Common.{ℕ, List, [], ◌∷◌, refl, Option, Result, Ok, Err}
 use Rattle.std.proofs.lemmas.List.Elements.{All-nil, All-cons}
-use Rattle.sec_base.specs.base_shelves.Outside.{Rose}
+use Rattle.base_shelves.specs.Outside.{Rose}
 use Rattle.flat_net.specs.View.{NetView}
 use Rattle.job_base.specs.declared.sec_files.loader.LoadError.{LoadError}
 use Rattle.job_base.specs.declared.sec_files.stimuli.StimulusError.{StimulusError}

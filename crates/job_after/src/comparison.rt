@@ -1,14 +1,15 @@
 //! Two files searched for a difference behind the rows of a third.
 
 ghost use Rattle.std.specs.Prelude.{◌≡◌, ◌≤◌, ℕ, List, IsErrOf};
-ghost use Rattle.sec_base.specs.base_shelves.Outside.{SameHeld, NoneFell};
+ghost use Rattle.base_shelves.specs.Outside.{SameHeld, NoneFell};
 ghost use Rattle.job_after.specs.Answer.{AfterJob};
 ghost use Rattle.job_after.specs.Ends.{AfterFound};
 
 use crate::judging::{after_end, judge_after};
 use crate::reading::{AfterPaths, ReadFiles, read_files};
+use base_shelves::Shelf;
 use job_base::{Finding, Stop};
-use sec_base::{MAX_CONFLICTS, Shelf};
+use sec_base::MAX_CONFLICTS;
 use std::alloc::Global;
 
 /// The paths of two circuits and of a stimulus, behind whose rows the circuits are searched for a difference.

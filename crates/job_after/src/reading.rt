@@ -1,15 +1,15 @@
 //! The files of two circuits and of a stimulus.
 
 ghost use Rattle.std.specs.Prelude.{◌≡◌, ℕ, List, Err};
-ghost use Rattle.sec_base.specs.base_shelves.Outside.{SameHeld, NoneFell};
+ghost use Rattle.base_shelves.specs.Outside.{SameHeld, NoneFell};
 ghost use Rattle.job_base.specs.declared.finding.Stop.TheVariants as stop;
 ghost use Rattle.job_after.specs.Read.{IsRead};
 
+use base_shelves::Shelf;
 use flat_net::Net;
 use job_base::sec_files::job_files::{load_end, stimulus_end};
 use job_base::sec_files::{load, load_stimulus};
 use job_base::{File, Finding, Stop};
-use sec_base::Shelf;
 use std::alloc::Global;
 use witness_report::Stimulus;
 

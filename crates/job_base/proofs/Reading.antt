@@ -1,7 +1,7 @@
 -- Reads that failed.
 use Rattle.std.proofs.Common.{ℕ, List, [], ◌∷◌, Option, refl}
 use Rattle.std.proofs.lemmas.List.Elements.{All-nil, All-cons}
-use Rattle.sec_base.specs.base_shelves.Outside.{Rose}
+use Rattle.base_shelves.specs.Outside.{Rose}
 use Rattle.job_base.specs.Reading.{ReadFailedAfter}
 
 module _ (GoesOn : Option (List ℕ) → Type 0) (held : List ℕ → Option (List ℕ)) (before now : List ℕ → ℕ) where

@@ -1,7 +1,7 @@
 -- What is written of a finding, and with which status and proofs.
 use Rattle.std.specs.Prelude.{◌≡◌, ℕ, List, [], ◌∷◌, ◌++◌, Option}
 use Rattle.std.specs.List.{filter_map}
-use Rattle.sec_base.specs.base_shelves.Outside.{Takes, TakesFront}
+use Rattle.base_shelves.specs.Outside.{Takes, TakesFront}
 use Rattle.obligations.specs.outcome.pair_decide.Proof.{Proof}
 use Rattle.cycle_sim.specs.declared.pair_runs.differences.Difference.{Difference}
 use Rattle.obligations.specs.outcome.Proofs.{verdict_proofs}

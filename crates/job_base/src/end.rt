@@ -2,7 +2,7 @@
 
 ghost use Rattle.std.specs.Prelude.{◌≡◌, ◌≢◌, ◌≤◌, [], ◌∷◌, Ok, IfOk, OnOk, option_to_list, ◌++◌};
 ghost use Rattle.std.specs.List.{filter_map};
-ghost use Rattle.sec_base.specs.base_shelves.Outside.{Rose};
+ghost use Rattle.base_shelves.specs.Outside.{Rose};
 ghost use Rattle.obligations.specs.outcome.Report.{report_text};
 ghost use Rattle.job_base.specs.Lines.{finding_text, undecided_text, unrefuted_text, unsettled_text};
 ghost use Rattle.job_base.specs.Written.{status_of, generated_status, unrefuted_status, judgement_status, outcome_proofs, proofs_of, unrefuted_proofs, IsWritten};
@@ -13,10 +13,11 @@ use crate::text::{
     cycle_report, refusal_report, satisfiable_report, undecided_text, unpaired_report,
     unsettled_text, words_report,
 };
+use base_shelves::Sink;
 use cycle_sim::pair_runs::Differences;
 use cycle_sim::pair_runs::replay_report::replay_report;
 use obligations::outcome::{Outcome, PairResult, PairResults, Proof, Settings, Verdict, report};
-use sec_base::{NoMemory, Side, Sink, Text, Word};
+use sec_base::{NoMemory, Side, Text, Word};
 use std::alloc::Global;
 
 fn verdict_status(verdict: &Verdict) -> StatusName

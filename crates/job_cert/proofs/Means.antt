@@ -1,7 +1,7 @@
 -- What the status of a certificate means.
 use Rattle.std.specs.Prelude.{IfSome}
 use Rattle.std.proofs.Common.{◌≡◌, ℕ, Bool, true, false, List, refl, sym, ap₂, subst, Option}
-use Rattle.sec_base.specs.base_shelves.Outside.{Takes}
+use Rattle.base_shelves.specs.Outside.{Takes}
 use Rattle.flat_net.specs.View.{NetView}
 use Rattle.proof_check.specs.Clauses.{Unsatisfiable}
 use Rattle.pair_decide.specs.declared.cnf_encode.cnf.Cnf.{Cnf}

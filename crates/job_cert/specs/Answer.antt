@@ -2,7 +2,7 @@
 use Rattle.std.specs.Prelude.{◌≡◌, ℕ, Bool, true, false, List, [], ◌∷◌, Option, Some, Ok, IsSomeAnd}
 use Rattle.circuit_theory.specs.declared.Side.{Side}
 use Rattle.circuit_theory.specs.Asked.{HaveEqualFunctions}
-use Rattle.sec_base.specs.base_shelves.Outside.{Takes}
+use Rattle.base_shelves.specs.Outside.{Takes}
 use Rattle.flat_net.specs.View.{NetView, circuit_of}
 use Rattle.pair_decide.specs.declared.cnf_encode.cnf.Cnf.{Cnf}
 use Rattle.sat_search.specs.Found.{IsFruitless}

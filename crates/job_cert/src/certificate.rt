@@ -1,18 +1,19 @@
 //! Certificates of two files.
 
 ghost use Rattle.std.specs.Prelude.{◌≡◌, ◌≤◌, ◌∷◌, [], ℕ, List, IsErrOf};
-ghost use Rattle.sec_base.specs.base_shelves.Outside.{Rose, SameHeld, NoneFell};
+ghost use Rattle.base_shelves.specs.Outside.{Rose, SameHeld, NoneFell};
 ghost use Rattle.flat_net.specs.Comparable.{IsComparable};
 ghost use Rattle.job_cert.specs.Made.{wanted_of};
 ghost use Rattle.job_cert.specs.Ends.{compare_end, cert_end, CertFound, EndsBeside};
 
 use crate::making::{Wanted, make};
 use crate::pair_clauses::{CertError, CompareError};
+use base_shelves::Shelf;
 use flat_net::Net;
 use job_base::sec_files::job_files::load_end;
 use job_base::sec_files::load;
 use job_base::{File, Finding, Refusal, Stop};
-use sec_base::{MAX_CONFLICTS, Shelf};
+use sec_base::MAX_CONFLICTS;
 use std::alloc::Global;
 
 /// The paths of two circuits, and what certificate is wanted of them.

@@ -3,15 +3,16 @@
 ghost use Rattle.std.specs.Prelude.{◌≡◌, ◌≤◌, ℕ, List, true, false, option_map, Some, IsErrOf};
 ghost use Rattle.std.specs.List.{All};
 ghost use Rattle.circuit_theory.specs.declared.Mode.TheVariants.{Plain};
-ghost use Rattle.sec_base.specs.base_shelves.Outside.{SameHeld, NoneFell};
+ghost use Rattle.base_shelves.specs.Outside.{SameHeld, NoneFell};
 ghost use Rattle.flat_net.specs.Comparable.{IsComparable};
 ghost use Rattle.job_check.specs.check_meaning.check_found.Check.{Check, all_paths, assumed_paths};
 ghost use Rattle.job_check.specs.check_meaning.check_found.Ends.{compare_end, EndsBeside, EndsBoth, FoundOf};
 
 use crate::check_meaning::check_found::{File, Finding, Refusal, Stop, load, load_end};
 use crate::sec_check::{CompareError, Outcome, Settings, compare, compare_under};
+use base_shelves::Shelf;
 use flat_net::Net;
-use sec_base::{MAX_CONFLICTS, Shelf};
+use sec_base::MAX_CONFLICTS;
 use std::alloc::Global;
 
 /// The paths of two files that are to be compared, how, and that of the assumption where there is one.

@@ -3,8 +3,8 @@ use Rattle.std.specs.Prelude.{IfSome}
 use Rattle.std.proofs.Common.{◌≡◌, ℕ, ◌≤◌, Bool, List, [], subst, Option, Result, Ok, Err}
 use Rattle.circuit_theory.specs.declared.Side.TheVariants.{A, B}
 use Rattle.circuit_theory.specs.declared.Mode.{Mode}
-use Rattle.sec_base.specs.declared.base_shelves.whole_file.FetchError.TheVariants as fetch_error
-use Rattle.sec_base.specs.base_shelves.Outside.{Rose}
+use Rattle.base_shelves.specs.declared.whole_file.FetchError.TheVariants as fetch_error
+use Rattle.base_shelves.specs.Outside.{Rose}
 use Rattle.witness_report.specs.declared.error.StimError.TheVariants as stim_error
 use Rattle.flat_net.specs.View.{NetView}
 use Rattle.blif_read.specs.declared.error.ReadError.TheVariants as read_error

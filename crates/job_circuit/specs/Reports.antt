@@ -3,7 +3,7 @@ use Rattle.std.specs.Prelude.{◌≡◌, ℕ, Bool, List, [], ◌∷◌, Option,
 use Rattle.circuit_theory.specs.declared.Mode.TheVariants.{Event}
 use Rattle.circuit_theory.specs.declared.Mode.{Mode}
 use Rattle.circuit_theory.specs.declared.Side.TheVariants.{A}
-use Rattle.sec_base.specs.base_shelves.Outside.{Takes}
+use Rattle.base_shelves.specs.Outside.{Takes}
 use Rattle.flat_net.specs.View.{NetView}
 use Rattle.circuit_report.specs.declared.sim_report.refusal.Misfit.{Misfit}
 use Rattle.circuit_report.specs.sim_report.Checks.{first_misfit}

@@ -1,15 +1,16 @@
 //! The jobs that report on one circuit.
 
 ghost use Rattle.std.specs.Prelude.{◌≡◌, ℕ, List, option_map, IsErrOf};
-ghost use Rattle.sec_base.specs.base_shelves.Outside.{SameHeld, NoneFell};
+ghost use Rattle.base_shelves.specs.Outside.{SameHeld, NoneFell};
 ghost use Rattle.job_circuit.specs.Ends.{GraphFound, SimFound, graph_end, sim_end};
 
+use base_shelves::Shelf;
 use circuit_report::graph_report::{KindsError, SimulateError, simulate as run_circuit, tell};
 use circuit_theory::Mode;
 use job_base::sec_files::job_files::{load_end, stimulus_end};
 use job_base::sec_files::{load, load_stimulus};
 use job_base::{File, Finding, Refusal, Stop};
-use sec_base::{Shelf, Side, Text};
+use sec_base::{Side, Text};
 use std::alloc::Global;
 
 /// The paths of a circuit and of a stimulus for it, the mode, the power word, and whether initial values go before that.

@@ -1,10 +1,10 @@
 -- What the parts of the work on the files of a comparison with cares find.
 use Rattle.std.specs.Prelude.{IfSome, IsErrOf}
 use Rattle.std.proofs.Common.{ℕ, List, refl, sym, subst, inl, inr, Option, Some, None, Result, Ok, Err}
-use Rattle.sec_base.specs.base_shelves.Outside.{SameHeld, NoneFell}
+use Rattle.base_shelves.specs.Outside.{SameHeld, NoneFell}
 use Rattle.sec_base.specs.declared.settings.Settings.{Settings}
 use Rattle.flat_net.specs.View.{NetView}
-use Rattle.sec_base.specs.declared.base_shelves.whole_file.FetchError.TheVariants as fetch_error
+use Rattle.base_shelves.specs.declared.whole_file.FetchError.TheVariants as fetch_error
 use Rattle.blif_read.specs.declared.error.ReadError.TheVariants as read_error
 use Rattle.aiger_read.specs.declared.aiger_records.error.AigerError.TheVariants as aiger_error
 use Rattle.elaborate.specs.declared.error.FlatError.{FlatError}

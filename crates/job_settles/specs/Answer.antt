@@ -1,6 +1,6 @@
 -- What the status of a comparison with the cares of its pairs says of the texts.
 use Rattle.std.specs.Prelude.{◌≡◌, ℕ, List, Option, None, Some, All}
-use Rattle.sec_base.specs.base_shelves.Outside.{Takes}
+use Rattle.base_shelves.specs.Outside.{Takes}
 use Rattle.obligations.specs.outcome.Proof.{Proof}
 use Rattle.obligations.specs.outcome.Report.{report_text}
 use Rattle.obligations.specs.declared.outcome.verdict.Outcome.{Outcome}

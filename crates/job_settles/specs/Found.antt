@@ -1,7 +1,7 @@
 -- What is true of the files of a comparison with the cares of its pairs where it finds what it does, and how the work on it ends.
 use Rattle.std.specs.Prelude.{◌≡◌, ◌≢◌, ◌⊎◌, ℕ, List, [], Option, Some, None, true, Result, Ok, Err, IfSome}
 use Rattle.circuit_theory.specs.declared.Mode.TheVariants.{Event}
-use Rattle.sec_base.specs.base_shelves.Outside.{Rose}
+use Rattle.base_shelves.specs.Outside.{Rose}
 use Rattle.sec_base.specs.declared.settings.Settings.{Settings}
 use Rattle.flat_net.specs.View.{NetView}
 use Rattle.obligations.specs.outcome.Proof.{Proof}

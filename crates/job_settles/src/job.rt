@@ -2,7 +2,7 @@
 
 ghost use Rattle.std.specs.Prelude.{◌≡◌, ◌≤◌, ℕ, List, false, option_map, Some, IsErrOf};
 ghost use Rattle.std.specs.List.{All};
-ghost use Rattle.sec_base.specs.base_shelves.Outside.{SameHeld, NoneFell};
+ghost use Rattle.base_shelves.specs.Outside.{SameHeld, NoneFell};
 ghost use Rattle.flat_net.specs.Comparable.{IsComparable};
 ghost use Rattle.job_check.specs.check_meaning.check_found.Check.{Check, all_paths, assumed_paths};
 ghost use Rattle.job_settles.specs.Found.{CanTell, IsSettledEnd, SettlesFound, SettlesBeside, SettlesBoth};
@@ -10,13 +10,14 @@ ghost use Rattle.job_settles.specs.Settled.{SettledIn, SettledUnderIn};
 
 use crate::comparison::{settle, settle_under};
 use crate::report::found_of;
+use base_shelves::Shelf;
 use event_check::event_answers::Settled;
 use flat_net::Net;
 use job_check::check_meaning::check_found::{File, Finding, Stop, load, load_end};
 use job_check::sec_check::CompareError;
 use job_check::{Comparison, compare_end};
 use obligations::outcome::Settings;
-use sec_base::{MAX_CONFLICTS, Shelf};
+use sec_base::MAX_CONFLICTS;
 use std::alloc::Global;
 
 /// Compares the circuits of two files as `job_check::check` does, not from initial values, and finds out of each pair whether both its sides have care

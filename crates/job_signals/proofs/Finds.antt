@@ -1,7 +1,7 @@
 -- What the parts of the work on two files find.
 use Rattle.std.specs.Prelude.{IfSome, IsErrOf}
 use Rattle.std.proofs.Common.{◌≡◌, ℕ, ◌≤◌, List, [], ◌∷◌, refl, sym, subst, inl, inr, Option, Result, Ok, Err}
-use Rattle.sec_base.specs.base_shelves.Outside.{Rose}
+use Rattle.base_shelves.specs.Outside.{Rose}
 use Rattle.flat_net.specs.View.{NetView}
 use Rattle.job_base.specs.sec_files.Loading.{Loads, LoadFails}
 use Rattle.job_base.specs.declared.sec_files.loader.LoadError.{LoadError}

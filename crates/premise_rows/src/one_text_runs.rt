@@ -11,9 +11,10 @@ ghost use Rattle.sec_run.specs.Answer.{IsCutOff};
 ghost use Rattle.sec_run.specs.Promises.{IsComplete};
 ghost use Rattle.premise_rows.specs.one_text_runs.one_text.Itself.{OfCheck, OfOneText, IsEqualAnswer};
 
+use base_shelves::{MemShelf, MemSink, Shelf, Sink};
 use circuit_theory::Mode;
 use command_line::Task;
-use sec_base::{FilePath, MemShelf, MemSink, NoMemory, Seq, Shelf, Sink};
+use sec_base::{FilePath, NoMemory, Seq};
 use sec_run::{Status, StatusName, run, run_job};
 use std::alloc::Global;
 

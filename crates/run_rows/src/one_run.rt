@@ -1,6 +1,6 @@
 //! One run.
 
-use sec_base::{MemShelf, MemSink};
+use base_shelves::{MemShelf, MemSink};
 use sec_run::run;
 use std::rt::HostRuntime;
 use text_rows::row_text::{show, show_count};

@@ -1,5 +1,4 @@
 pub mod Cover
 pub mod Texts
 pub mod circuit_theory
-pub mod base_shelves
 pub use Rattle.base_lists.specs.declared.list.NoMemory

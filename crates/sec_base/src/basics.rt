@@ -1,6 +1,6 @@
 //! Small types that several crates share.
 
-use crate::base_shelves::{Duplicate, Ids, NoMemory};
+use base_lists::{Duplicate, Ids, NoMemory};
 use circuit_theory::Side;
 use std::alloc::Global;
 

@@ -5,7 +5,7 @@ ghost use Rattle.circuit_theory.specs.Cover.{cover_value, row_matches, place_mat
 ghost use Rattle.std.specs.List.{list_any};
 ghost use Rattle.sec_base.specs.Cover.{IsCube, IsCoverSound};
 
-use crate::base_shelves::{Cubes, Duplicate, NoMemory, Seq, Word};
+use base_lists::{Cubes, Duplicate, NoMemory, Seq, Word};
 use std::alloc::Global;
 use std::marker::Model;
 

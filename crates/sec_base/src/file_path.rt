@@ -2,7 +2,7 @@
 
 ghost use Rattle.std.specs.Prelude.{◌≡◌, ℕ, List, string_bytes, IfOk};
 
-use crate::base_shelves::{Duplicate, NoMemory};
+use base_lists::{Duplicate, NoMemory};
 use std::alloc::Global;
 use std::marker::Model;
 

@@ -1,8 +1,7 @@
-//! Covers, limits, small types and pieces of reports, and the outside, where files are read and reports are written: what nearly all
-//! crates of `sec` stand on. The lists stand in a crate of their own, which it hands on; tables stand beside it.
+//! Covers, limits, small types and pieces of reports: what nearly all crates of `sec` stand on. The lists stand in a crate of their own, which it
+//! hands on; tables stand beside it.
 #![tactic(auto)]
 
-pub mod base_shelves;
 mod basics;
 mod covers;
 mod file_path;
@@ -10,10 +9,8 @@ mod limits;
 mod settings;
 mod texts;
 
-pub use crate::base_shelves::{
-    BitRows, Bits, Cubes, Duplicate, Failed, FetchError, FileShelf, FileText, HeldFile, Ids,
-    MemShelf, MemSink, NoMemory, Seq, Shelf, ShelfError, Sink, StdSink, Text, Word, Words, fetch,
-    unset_bits,
+pub use base_lists::{
+    BitRows, Bits, Cubes, Duplicate, FileText, Ids, NoMemory, Seq, Text, Word, Words, unset_bits,
 };
 pub use basics::{Edge, Init, Orders, PairAnswer, Tag};
 pub use circuit_theory::Side;

@@ -4,7 +4,7 @@ ghost use Rattle.std.specs.Prelude.{◌≡◌, ◌++◌, map, OnOk, OnErr};
 ghost use Rattle.std.specs.Fmt.{decimal};
 ghost use Rattle.sec_base.specs.Texts.{digit_of, names_text};
 
-use crate::base_shelves::{NoMemory, Words};
+use base_lists::{NoMemory, Words};
 use std::alloc::Global;
 
 /// Puts the bytes behind the text. After `NoMemory` nothing has changed.

@@ -3,7 +3,7 @@
 
 ghost use Rattle.std.specs.Prelude.{◌≡◌, ◌≢◌};
 
-use sec_base::{FileShelf, StdSink};
+use base_shelves::{FileShelf, StdSink};
 use sec_run::run;
 use std::env;
 use std::io::ErrorKind;

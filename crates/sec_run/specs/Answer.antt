@@ -1,6 +1,6 @@
 -- What is true where a run ends as it does.
 use Rattle.std.specs.Prelude.{◌≡◌, ℕ, List, [], Option, Some, None}
-use Rattle.sec_base.specs.base_shelves.Outside.{Takes, TakesFront}
+use Rattle.base_shelves.specs.Outside.{Takes, TakesFront}
 use Rattle.command_line.specs.declared.task.Task.{Task}
 use Rattle.command_line.specs.declared.task.Task.TheVariants as task
 use Rattle.pair_decide.specs.declared.query.Proof.{Proof}

@@ -2,7 +2,7 @@
 
 ghost use Rattle.std.specs.Prelude.{◌≡◌, ◌≢◌, ◌≤◌, [], ℕ, List, Ok, IsErrOf, map, string_bytes, option_map, Some};
 ghost use Rattle.std.specs.List.{All};
-ghost use Rattle.sec_base.specs.base_shelves.Outside.{Rose, SameHeld, NoneFell};
+ghost use Rattle.base_shelves.specs.Outside.{Rose, SameHeld, NoneFell};
 ghost use Rattle.command_line.specs.Jobs.{job_of};
 ghost use Rattle.job_base.specs.Reading.{ReadFailedAfter};
 ghost use Rattle.command_line.specs.Allowed.{IsAllowed};
@@ -12,6 +12,7 @@ ghost use Rattle.sec_run.specs.Answer.{IsCutOff, IsTaken};
 ghost use Rattle.sec_run.specs.Ends.{Found};
 ghost use Rattle.sec_run.specs.Promises.{Means, IsComplete};
 
+use base_shelves::{Shelf, Sink};
 use command_line::{Task, WordsError, job};
 use job_after::{AfterComparison, compare_after};
 use job_base::{Finding, Status, StatusName, Stop, finish};
@@ -24,7 +25,7 @@ use job_gen::{Generation, compare_generated};
 use job_settles::check_settles;
 use job_signals::job_tied::{TiedComparison, compare_tied};
 use job_signals::{SignalComparison, compare_by_signals};
-use sec_base::{FilePath, Shelf, Sink, Word};
+use sec_base::{FilePath, Word};
 use sec_jobs::job_induct::{BlockComparison, compare_by_blocks};
 use sec_jobs::job_search::{CycleComparison, compare_in_cycles};
 use std::alloc::Global;

@@ -9,7 +9,7 @@ use Rattle.flat_net.specs.View.{NetView}
 use Rattle.elaborate.specs.declared.error.FlatError.{FlatError}
 use Rattle.elaborate.specs.declared.error.FlatError.TheVariants as flat_error
 use Rattle.flatten.specs.DesignFaults.{DesignFault}
-use Rattle.sec_base.specs.declared.base_shelves.whole_file.FetchError.TheVariants as fetch_error
+use Rattle.base_shelves.specs.declared.whole_file.FetchError.TheVariants as fetch_error
 use Rattle.blif_read.specs.declared.error.ReadError.TheVariants as read_error
 use Rattle.aiger_read.specs.declared.aiger_records.error.AigerKind.{AigerKind}
 use Rattle.aiger_read.specs.declared.aiger_records.error.AigerError.TheVariants as aiger_error

@@ -1,7 +1,7 @@
 -- What a text says as a stimulus, and why it is none. A text is given where it is told.
 use Rattle.std.specs.Prelude.{◌≡◌, ◌≤◌, ℕ, Bool, List, length, Option, IfSome}
 use Rattle.sec_base.specs.declared.limits.TheConstants.{MAX_FILE_BYTES}
-use Rattle.sec_base.specs.declared.base_shelves.whole_file.FetchError.TheVariants as fetch_error
+use Rattle.base_shelves.specs.declared.whole_file.FetchError.TheVariants as fetch_error
 use Rattle.witness_report.specs.declared.error.StimError.TheVariants as stim_error
 use Rattle.witness_report.specs.Form.{IsForm, HasNoHeader, IsBadRow}
 use Rattle.job_base.specs.sec_files.Loading.{IsTooLong}

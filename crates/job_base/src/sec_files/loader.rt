@@ -1,16 +1,17 @@
 //! From the bytes of a file to a flat net.
 
 ghost use Rattle.std.specs.Prelude.{◌≡◌, ℕ, List, true, false, IfOk, IfErr, IfSome, IsErrOf, ◌≤◌, length, Some};
-ghost use Rattle.sec_base.specs.base_shelves.Outside.{Rose, SameHeld, NoneFell};
+ghost use Rattle.base_shelves.specs.Outside.{Rose, SameHeld, NoneFell};
 ghost use Rattle.flat_net.specs.Comparable.{IsComparable};
 ghost use Rattle.job_base.specs.sec_files.Formats.{is_aiger};
 ghost use Rattle.job_base.specs.sec_files.Loading.{Loads, LoadFails};
 
 use aiger_read::{AigerError, read_aiger};
+use base_shelves::{FetchError, Shelf, fetch};
 use blif_read::{ReadError, read_design};
 use flat_net::Net;
 use flatten::{FlatError, flatten};
-use sec_base::{FetchError, MAX_FILE_BYTES, Shelf, fetch};
+use sec_base::MAX_FILE_BYTES;
 use std::alloc::Global;
 
 /// Why a file isn't loaded.

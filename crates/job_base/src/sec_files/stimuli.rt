@@ -1,10 +1,11 @@
 //! From the bytes of a file to a stimulus.
 
 ghost use Rattle.std.specs.Prelude.{◌<◌, ◌≤◌, ◌^◌, ℕ, List, length, IfOk, IfErr, IfSome, IsErrOf, Some};
-ghost use Rattle.sec_base.specs.base_shelves.Outside.{Rose, SameHeld, NoneFell};
+ghost use Rattle.base_shelves.specs.Outside.{Rose, SameHeld, NoneFell};
 ghost use Rattle.job_base.specs.sec_files.Stimuli.{IsStimulus, StimulusFails};
 
-use sec_base::{FetchError, MAX_FILE_BYTES, Shelf, fetch};
+use base_shelves::{FetchError, Shelf, fetch};
+use sec_base::MAX_FILE_BYTES;
 use std::alloc::Global;
 use witness_report::{StimError, Stimulus, read_stimulus};
 

@@ -2,10 +2,10 @@
 use Rattle.std.specs.Prelude.{IfSome, IfOk}
 use Rattle.std.proofs.Common.{◌≡◌, ℕ, ◌≤◌, List, [], ◌∷◌, length, subst, Option, Some, None, Result, Ok, Err, arith}
 use Rattle.proof_check.specs.Clauses.{Unsatisfiable}
-use Rattle.sec_base.specs.base_shelves.Outside.{Rose}
+use Rattle.base_shelves.specs.Outside.{Rose}
 use Rattle.sec_base.specs.declared.limits.TheConstants.{MAX_FILE_BYTES}
 use Rattle.sec_base.specs.NoMemory.{NoMemory}
-use Rattle.sec_base.specs.declared.base_shelves.whole_file.FetchError.TheVariants as fetch_error
+use Rattle.base_shelves.specs.declared.whole_file.FetchError.TheVariants as fetch_error
 use Rattle.text_numbers.specs.Answers.{IsGiven}
 use Rattle.text_numbers.specs.declared.kinds.TextError.{TextError}
 use Rattle.text_numbers.specs.declared.kinds.TextError.TheVariants as text_error

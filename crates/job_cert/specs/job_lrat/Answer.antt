@@ -1,6 +1,6 @@
 -- What the status says of a refutation that is checked, and when it can be checked.
 use Rattle.std.specs.Prelude.{ℕ, List, Option, IsSomeAnd}
-use Rattle.sec_base.specs.base_shelves.Outside.{Takes}
+use Rattle.base_shelves.specs.Outside.{Takes}
 use Rattle.lrat_core.specs.dimacs_text.Formulas.{Formula}
 use Rattle.job_base.specs.declared.status.StatusName.{StatusName}
 use Rattle.job_base.specs.declared.status.StatusName.TheVariants as status

@@ -1,7 +1,7 @@
 -- How the check of a refutation ends.
 use Rattle.std.specs.Prelude.{ℕ, List, Option, Result, Ok, Err}
 use Rattle.sec_base.specs.NoMemory.{NoMemory}
-use Rattle.sec_base.specs.declared.base_shelves.whole_file.FetchError.TheVariants as fetch_error
+use Rattle.base_shelves.specs.declared.whole_file.FetchError.TheVariants as fetch_error
 use Rattle.text_numbers.specs.declared.kinds.TextError.TheVariants as text_error
 use Rattle.job_base.specs.Ends.{EndsBy}
 use Rattle.job_base.specs.declared.finding.File.{File}

@@ -1,7 +1,7 @@
 -- What texts say as clauses and as refutations, and why they say nothing. A text is given where it is told.
 use Rattle.std.specs.Prelude.{◌≡◌, ◌≤◌, ◌<◌, ℕ, List, length, Option, IfSome, Ok, Err}
 use Rattle.sec_base.specs.declared.limits.TheConstants.{MAX_FILE_BYTES}
-use Rattle.sec_base.specs.declared.base_shelves.whole_file.FetchError.TheVariants as fetch_error
+use Rattle.base_shelves.specs.declared.whole_file.FetchError.TheVariants as fetch_error
 use Rattle.text_numbers.specs.declared.kinds.TextError.TheVariants as text_error
 use Rattle.text_numbers.specs.declared.kinds.TextKind.{TextKind}
 use Rattle.lrat_core.specs.dimacs_text.Dimacs.{formula_of}

@@ -2,11 +2,12 @@
 
 ghost use Rattle.std.specs.Prelude.{◌≡◌, ◌≤◌, ◌^◌, ℕ, List, length, Some, IfOk, IfErr, IfSome, OnOk, IsErrOf};
 ghost use Rattle.proof_check.specs.Clauses.{Unsatisfiable};
-ghost use Rattle.sec_base.specs.base_shelves.Outside.{Rose, SameHeld, NoneFell};
+ghost use Rattle.base_shelves.specs.Outside.{Rose, SameHeld, NoneFell};
 ghost use Rattle.job_cert.specs.job_lrat.Texts.{Spells, Refutes, ClausesFail, ProofFails};
 
+use base_shelves::{FetchError, Shelf, fetch};
 use lrat_core::lrat_text::{Formula, TextError, Verified, check_lrat, read_dimacs};
-use sec_base::{FetchError, MAX_FILE_BYTES, Shelf, fetch};
+use sec_base::MAX_FILE_BYTES;
 use std::alloc::Global;
 
 /// Why a text isn't loaded.

@@ -1,14 +1,15 @@
 //! A refutation is checked.
 
 ghost use Rattle.std.specs.Prelude.{◌≡◌, ℕ, List, IsErrOf, IfOk, IfErr, MatchResult};
-ghost use Rattle.sec_base.specs.base_shelves.Outside.{SameHeld, NoneFell};
+ghost use Rattle.base_shelves.specs.Outside.{SameHeld, NoneFell};
 ghost use Rattle.job_cert.specs.job_lrat.Ends.{LratFound, text_end, verified_end};
 ghost use Rattle.job_cert.specs.job_lrat.Found.{verified_text};
 
 use crate::job_lrat::loading::{TextLoadError, check_file, load_clauses};
+use base_shelves::{FetchError, Shelf};
 use job_base::{File, Finding, LineFault, Refusal, Stop};
 use lrat_core::lrat_text::TextError;
-use sec_base::{FetchError, NoMemory, Seq, Shelf, Text, put};
+use sec_base::{NoMemory, Seq, Text, put};
 use std::alloc::Global;
 
 /// The paths of clauses and of a text that refutes them.

@@ -2,7 +2,7 @@
 use Rattle.std.specs.Prelude.{◌==◌}
 use Rattle.std.proofs.Common.{◌≡◌, ◌∙◌, ℕ, Bool, true, false, cond, List, [], ◌∷◌, length, sym, ap, subst, Option, Ok}
 use Rattle.circuit_theory.specs.declared.Mode.{Mode}
-use Rattle.sec_base.specs.base_shelves.Outside.{Takes}
+use Rattle.base_shelves.specs.Outside.{Takes}
 use Rattle.pair_decide.specs.declared.query.Proof.{Proof}
 use Rattle.cycle_sim.specs.declared.pair_runs.differences.Difference.{Difference}
 use Rattle.cycle_sim.specs.declared.pair_runs.differences.Replayed.{Replayed}

@@ -3,7 +3,7 @@ use Rattle.std.specs.Prelude.{IfSome, IsErrOf}
 use Rattle.std.proofs.Common.{◌≡◌, ℕ, ◌≤◌, Bool, List, [], ◌∷◌, length, refl, sym, subst, inl, inr, Option, Result, Ok, Err}
 use Rattle.std.proofs.lemmas.List.Elements.{All-nil, All-cons}
 use Rattle.circuit_theory.specs.declared.Mode.{Mode}
-use Rattle.sec_base.specs.base_shelves.Outside.{Rose}
+use Rattle.base_shelves.specs.Outside.{Rose}
 use Rattle.flat_net.specs.View.{NetView}
 use Rattle.cycle_sim.specs.declared.pair_runs.differences.Replayed.{Replayed}
 use Rattle.job_circuit.specs.declared.job_replay.fault.ReplayFault.{ReplayFault}

@@ -1,7 +1,7 @@
 //! The job that runs two circuits on one stimulus.
 
 ghost use Rattle.std.specs.Prelude.{◌≡◌, ◌<◌, ◌^◌, ℕ, List, length, IfOk, IsErrOf};
-ghost use Rattle.sec_base.specs.base_shelves.Outside.{Rose, SameHeld, NoneFell};
+ghost use Rattle.base_shelves.specs.Outside.{Rose, SameHeld, NoneFell};
 ghost use Rattle.flat_net.specs.Comparable.{IsComparable};
 ghost use Rattle.job_circuit.specs.job_replay.Ends.{ReplayJob, replay_end, EndsOver, EndsWithBoth, ReplayFound};
 ghost use Rattle.job_circuit.specs.job_replay.Told.{judgement_of, finding_of, FindsIn};
@@ -9,6 +9,7 @@ ghost use Rattle.job_circuit.specs.job_replay.Told.{judgement_of, finding_of, Fi
 use crate::job_replay::fault::ReplayFault;
 use crate::job_replay::modes::replay_in;
 use crate::replay::Replayed;
+use base_shelves::Shelf;
 use circuit_report::sim_report::Misfit;
 use circuit_theory::Mode;
 use cycle_sim::pair_runs::replay_report::{settle_report, settled_count, settled_replay_report};
@@ -16,7 +17,7 @@ use flat_net::Net;
 use job_base::sec_files::job_files::{load_end, stimulus_end};
 use job_base::sec_files::{load, load_stimulus};
 use job_base::{File, Finding, Judgement, Proofs, Refusal, Stop};
-use sec_base::{NoMemory, Shelf};
+use sec_base::NoMemory;
 use std::alloc::Global;
 use witness_report::Stimulus;
 

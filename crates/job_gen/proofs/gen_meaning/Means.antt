@@ -2,7 +2,7 @@
 use Rattle.std.specs.List.{Contains}
 use Rattle.std.proofs.Common.{◌≡◌, ℕ, true, false, List, [], refl, sym, ◌∙◌, subst, ap, Option, Some, Result, Ok, Err, slice_get}
 use Rattle.circuit_theory.proofs.Lists.{of_at}
-use Rattle.sec_base.specs.base_shelves.Outside.{Takes}
+use Rattle.base_shelves.specs.Outside.{Takes}
 use Rattle.witness_report.specs.declared.witness.Witness.{Witness}
 use Rattle.flat_net.specs.View.{circuit_of}
 use Rattle.pair_decide.specs.declared.query.Proof.{Proof}

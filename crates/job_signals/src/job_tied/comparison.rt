@@ -1,13 +1,13 @@
 //! Two files compared by ties of their signals behind the rows of a third.
 
 ghost use Rattle.std.specs.Prelude.{◌≡◌, ℕ, List, IsErrOf};
-ghost use Rattle.sec_base.specs.base_shelves.Outside.{SameHeld, NoneFell};
+ghost use Rattle.base_shelves.specs.Outside.{SameHeld, NoneFell};
 ghost use Rattle.job_signals.specs.job_tied.Ends.{TiedFound};
 
 use crate::job_tied::judging::judge_tied;
+use base_shelves::Shelf;
 use job_after::{AfterPaths, ReadFiles, after_end, read_files};
 use job_base::{Finding, Stop};
-use sec_base::Shelf;
 use std::alloc::Global;
 
 /// The paths of two circuits and of a stimulus, behind whose rows the circuits are compared by ties of signals.

@@ -1,7 +1,7 @@
 -- What two calls print of the same files fits together.
 use Rattle.std.specs.Prelude.{ℕ, ◌≤◌, true, false, List, length, Option, Some}
 use Rattle.sec_base.specs.declared.limits.TheConstants.{MAX_FILE_BYTES}
-use Rattle.sec_base.specs.base_shelves.Outside.{Takes}
+use Rattle.base_shelves.specs.Outside.{Takes}
 use Rattle.pair_decide.specs.declared.query.Proof.{Proof}
 use Rattle.job_base.specs.declared.status.StatusName.TheVariants.{Done}
 use Rattle.job_cert.specs.Answer.{AcceptsOver, CertMeans}

@@ -2,7 +2,7 @@
 use Rattle.std.specs.Prelude.{IfSome, IsErrOf}
 use Rattle.std.proofs.Common.{◌≡◌, ℕ, ◌≤◌, List, [], ◌∷◌, sym, subst, inl, inr, Option, Result, Ok, Err}
 use Rattle.circuit_theory.specs.declared.Side.TheVariants.{A, B}
-use Rattle.sec_base.specs.base_shelves.Outside.{Rose}
+use Rattle.base_shelves.specs.Outside.{Rose}
 use Rattle.flat_net.specs.View.{NetView}
 use Rattle.job_base.specs.sec_files.Loading.{Loads, LoadFails}
 use Rattle.job_base.specs.declared.sec_files.loader.LoadError.{LoadError}

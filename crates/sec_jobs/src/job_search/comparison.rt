@@ -1,16 +1,17 @@
 //! Two files searched for a difference in the cycles from 0 on.
 
 ghost use Rattle.std.specs.Prelude.{◌≡◌, ◌≤◌, ◌∷◌, [], ℕ, List, IsErrOf};
-ghost use Rattle.sec_base.specs.base_shelves.Outside.{Rose, SameHeld, NoneFell};
+ghost use Rattle.base_shelves.specs.Outside.{Rose, SameHeld, NoneFell};
 ghost use Rattle.flat_net.specs.Comparable.{IsComparable};
 ghost use Rattle.sec_jobs.specs.job_search.Ends.{SearchFound, EndsBeside};
 
 use crate::job_search::judging::{judge_nets, judged_end};
+use base_shelves::Shelf;
 use flat_net::Net;
 use job_base::sec_files::job_files::load_end;
 use job_base::sec_files::load;
 use job_base::{File, Finding, Stop};
-use sec_base::{MAX_CONFLICTS, Shelf};
+use sec_base::MAX_CONFLICTS;
 use std::alloc::Global;
 
 /// The paths of two circuits that are searched for a difference in the cycles from 0 on.

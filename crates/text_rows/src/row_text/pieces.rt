@@ -1,6 +1,7 @@
 //! Pieces of what a row tells, written to the standard output.
 
-use sec_base::{FileShelf, FileText, MAX_FILE_BYTES, fetch};
+use base_shelves::{FileShelf, fetch};
+use sec_base::{FileText, MAX_FILE_BYTES};
 use std::rt::HostRuntime;
 
 /// Writes the bytes.

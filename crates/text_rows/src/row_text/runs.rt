@@ -3,7 +3,8 @@
 use crate::row_text::pieces::{file_of, show};
 use crate::row_text::rows::{number_of, split_at};
 use crate::row_text::telling::Telling;
-use sec_base::{Ids, MemShelf, NoMemory};
+use base_shelves::MemShelf;
+use sec_base::{Ids, NoMemory};
 use std::alloc::Global;
 use std::rt::HostRuntime;
 use std::str;

@@ -1,8 +1,8 @@
 -- Files that aren't loaded, whatever the job.
 use Rattle.std.specs.Prelude.{IfSome}
 use Rattle.std.proofs.Common.{◌≡◌, ℕ, ◌≤◌, List, subst, Option}
-use Rattle.sec_base.specs.base_shelves.Outside.{Rose}
-use Rattle.sec_base.specs.declared.base_shelves.whole_file.FetchError.TheVariants as fetch_error
+use Rattle.base_shelves.specs.Outside.{Rose}
+use Rattle.base_shelves.specs.declared.whole_file.FetchError.TheVariants as fetch_error
 use Rattle.witness_report.specs.declared.error.StimError.TheVariants as stim_error
 use Rattle.blif_read.specs.declared.error.ReadError.TheVariants as read_error
 use Rattle.blif_read.specs.declared.error.ReadKind.{ReadKind}

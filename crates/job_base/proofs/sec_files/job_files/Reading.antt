@@ -1,7 +1,7 @@
 -- Reads that failed, and what is held.
 use Rattle.std.specs.Prelude.{IfSome, IsSomeAnd}
 use Rattle.std.proofs.Common.{◌≡◌, ℕ, ◌≤◌, List, ◌∷◌, refl, subst, arith, Option, Some, None}
-use Rattle.sec_base.specs.base_shelves.Outside.{Rose}
+use Rattle.base_shelves.specs.Outside.{Rose}
 use Rattle.flat_net.specs.View.{NetView}
 use Rattle.job_base.specs.sec_files.Loading.{Loads}
 use Rattle.job_base.proofs.Reading.{first_read_failed, second_read_failed}

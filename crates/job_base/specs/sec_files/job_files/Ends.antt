@@ -1,6 +1,6 @@
 -- What a job finds where a file of it isn't loaded.
 use Rattle.std.specs.Prelude.{Result, Ok, Err}
-use Rattle.sec_base.specs.declared.base_shelves.whole_file.FetchError.TheVariants as fetch_error
+use Rattle.base_shelves.specs.declared.whole_file.FetchError.TheVariants as fetch_error
 use Rattle.witness_report.specs.declared.error.StimError.TheVariants as stim_error
 use Rattle.blif_read.specs.declared.error.ReadError.TheVariants as read_error
 use Rattle.aiger_read.specs.declared.aiger_records.error.AigerError.TheVariants as aiger_error

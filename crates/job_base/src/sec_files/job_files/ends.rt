@@ -5,8 +5,8 @@ ghost use Rattle.job_base.specs.sec_files.job_files.Ends.{load_end, stimulus_end
 
 use crate::sec_files::{AigerError, FlatError, LoadError, StimulusError};
 use crate::{File, Finding, LineFault, Refusal, Stop};
+use base_shelves::FetchError;
 use blif_read::ReadError;
-use sec_base::FetchError;
 use witness_report::StimError;
 
 /// What is found where the file of a circuit isn't loaded.

@@ -2,7 +2,7 @@
 use Rattle.std.specs.Prelude.{Ok}
 use Rattle.std.specs.List.{filter_map}
 use Rattle.std.proofs.Common.{◌≡◌, ◌∙◌, ℕ, ◌++◌, List, ◌∷◌, ap, inl, inr, ◌⊎◌, Option}
-use Rattle.sec_base.specs.base_shelves.Outside.{Takes}
+use Rattle.base_shelves.specs.Outside.{Takes}
 use Rattle.sec_base.specs.declared.settings.Settings.{Settings}
 use Rattle.witness_report.specs.declared.witness.Witness.{Witness}
 use Rattle.flat_net.specs.View.{NetView}

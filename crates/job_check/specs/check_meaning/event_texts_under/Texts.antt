@@ -4,7 +4,7 @@ use Rattle.circuit_theory.specs.declared.Mode.TheVariants.{Event}
 use Rattle.circuit_theory.specs.Agree.{IsMinimalCut}
 use Rattle.circuit_theory.specs.Circuit.{Circuit}
 use Rattle.circuit_theory.specs.Joined.{Left, Right}
-use Rattle.sec_base.specs.base_shelves.Outside.{Takes}
+use Rattle.base_shelves.specs.Outside.{Takes}
 use Rattle.sec_base.specs.declared.basics.PairAnswer.TheVariants as answer
 use Rattle.sec_base.specs.declared.settings.Settings.{Settings}
 use Rattle.witness_report.specs.declared.witness.Witness.{Witness}

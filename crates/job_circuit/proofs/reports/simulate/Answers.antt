@@ -1,6 +1,6 @@
 use Rattle.std.specs.Prelude.{ℕ, IfSome, option_map}
 use Rattle.std.proofs.Common.{List, [], ◌∷◌, sym, subst, Option, Result}
-use Rattle.sec_base.specs.base_shelves.Outside.{Rose}
+use Rattle.base_shelves.specs.Outside.{Rose}
 use Rattle.job_base.specs.declared.finding.Finding.{Finding}
 use Rattle.job_base.specs.declared.finding.Stop.{Stop}
 use Rattle.job_base.specs.sec_files.Stimuli.{IsStimulus}

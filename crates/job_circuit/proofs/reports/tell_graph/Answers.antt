@@ -1,5 +1,5 @@
 use Rattle.std.proofs.Common.{[], ◌∷◌, sym, subst, Result}
-use Rattle.sec_base.specs.base_shelves.Outside.{Rose}
+use Rattle.base_shelves.specs.Outside.{Rose}
 use Rattle.job_base.specs.declared.finding.Finding.{Finding}
 use Rattle.job_base.specs.declared.finding.Stop.{Stop}
 use Rattle.job_base.specs.sec_files.job_files.Reading.{ReadFailed}

@@ -1,7 +1,7 @@
 use Rattle.std.specs.Prelude.{IsSome}
 use Rattle.std.proofs.Common.{ℕ, List, [], ◌∷◌, ◌∙◌, Option, refl, sym, subst}
 use Rattle.std.proofs.lemmas.List.Elements.{All-nil, All-cons, All-weaker}
-use Rattle.sec_base.specs.base_shelves.MemShelf.{IsServing}
+use Rattle.base_shelves.specs.MemShelf.{IsServing}
 use Rattle.premise_rows.proofs.one_text_runs.tell_again.Goals as goal
 
 pub returns : goal.returns

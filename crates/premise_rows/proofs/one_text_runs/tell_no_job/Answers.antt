@@ -1,7 +1,7 @@
 -- The one finding is that no words are no job, and there is room for its report.
 use Rattle.std.proofs.Common.{◌≡◌, [], None, Some, ℕ, sym, subst, arith}
 use Rattle.clap.proofs.OnLiterals.{clap_on_literals}
-use Rattle.sec_base.specs.base_shelves.MemSink.{SinkState, Accepts}
+use Rattle.base_shelves.specs.MemSink.{SinkState, Accepts}
 use Rattle.job_base.specs.declared.finding.Finding.{Finding}
 use Rattle.job_base.specs.declared.finding.Finding.TheVariants as finding
 use Rattle.job_base.specs.Lines.{words_text, finding_text}

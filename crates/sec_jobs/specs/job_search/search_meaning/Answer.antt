@@ -5,7 +5,7 @@ use Rattle.circuit_theory.specs.Interface.{first_mismatch}
 use Rattle.circuit_theory.specs.declared.Side.{Side}
 use Rattle.circuit_laws.specs.reset_laws.Reset.{AgreeFromReset}
 use Rattle.circuit_laws.specs.cycle_laws.Bounded.{AgreeUpTo}
-use Rattle.sec_base.specs.base_shelves.Outside.{Takes}
+use Rattle.base_shelves.specs.Outside.{Takes}
 use Rattle.flat_net.specs.View.{NetView, circuit_of, ports_of}
 use Rattle.blif_read.specs.Design.{Place}
 use Rattle.pair_decide.specs.declared.query.Proof.{Proof}
