@@ -7,7 +7,11 @@ pub mod Insert
 pub mod Folds
 pub mod Bits
 pub mod ConeWalks
+pub mod Supports
 pub mod Parts
 pub mod Placing
+pub mod Lists
+pub mod Interned
+pub mod MergeLists
 pub mod circuit_theory
 pub use Rattle.base_tables.proofs.TableLemmas

@@ -1,9 +1,11 @@
+pub mod Adds
 pub mod Graph
 pub mod Values
 pub mod Rules
 pub mod Builds
 pub mod Cone
 pub mod Cones
+pub mod Merged
 pub mod Ways
 pub mod Places
 pub mod sec_base

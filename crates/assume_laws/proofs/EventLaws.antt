@@ -15,7 +15,7 @@ use Rattle.circuit_laws.proofs.event_laws.ExposedEvents.{left_net, right_net, ne
 use Rattle.assume_laws.specs.Assume.{Assumption, RowMeets, RunMeets, ReadsInputs, HaveEqualEventsUnder}
 use Rattle.assume_laws.specs.Laws.{EventFunctionsAgreeUnder, ExposedEventFunctionsAgreeUnder}
 use Rattle.assume_laws.proofs.Care.{run_holds, cut_meets, shorter_meets}
-use Rattle.assume_laws.proofs.OnwardCare.{runs_agree_onward}
+use Rattle.circuit_laws.proofs.Onward.{runs_agree_onward}
 use Rattle.assume_laws.proofs.EventCare.{event_pair_under}
 
 -- one pair, in two runs that meet the assumption

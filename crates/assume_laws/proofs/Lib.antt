@@ -3,7 +3,6 @@ pub mod EventCare
 pub mod EventLaws
 pub mod Filled
 pub mod Meeting
-pub mod OnwardCare
 pub mod PlainCare
 pub mod PlainLaws
 pub mod Reading

@@ -9,7 +9,7 @@ use Rattle.circuit_theory.specs.Agree.{AreAlike, cut}
 use Rattle.circuit_laws.proofs.Marks.{settled_depth}
 use Rattle.circuit_laws.proofs.Values.{tree_is_run}
 use Rattle.circuit_laws.proofs.Onward.{cut_input}
-use Rattle.circuit_laws.proofs.Parted.{cut_tree_is_run, found_input, found_is, found_some}
+use Rattle.circuit_laws.proofs.Parted.{filled, own_filled, left_tree_filled, right_tree_filled}
 use Rattle.circuit_laws.proofs.reset_laws.ResetAgreement.{HoldsAlong, input_row, row_left, row_right}
 
 -- both sides of a pair unfold, to functions that agree where each row is cared for
@@ -39,12 +39,6 @@ same_at_under {P} {Q} care a b oa ob numbered sa sb n left right alike along p q
 
 -- With exposed latches, for places that are settled in the circuits themselves: as without a care, and each row that is filled has the
 -- circuit's own inputs, exposed latches whichever value they take.
-abbrev chosen : {P Q : Type 0} → (List ℕ → Bool) → (P → Bool) → (Q → Bool) → Option (Named P) → Option (Named Q) → Bool
-chosen never l r (Some m) (Some w) = cond (never m.name) (r w.place) (l m.place)
-chosen never l r (Some m) None = l m.place
-chosen never l r None (Some w) = r w.place
-chosen never l r None None = false
-
 module _ {P Q : Type 0} (names : List (List ℕ)) (a : Circuit P) (b : Circuit Q) (oa ob : List ℕ)
     (numbered : AreNumbered (cut names a) (cut names b) oa ob) (sa : IsSingleDriven a) (sb : IsSingleDriven b)
     (left_clear : (name : List ℕ) (p : P) → Contains a.inputs (record { name = name; place = p }) → Contains names name → ⊥)
@@ -60,91 +54,7 @@ module _ {P Q : Type 0} (names : List (List ℕ)) (a : Circuit P) (b : Circuit Q
     (along : (t : ℕ) → t < n → (row : ℕ → Bool) → ((name : List ℕ) (p : P) (i : ℕ) → Contains a.inputs (record { name = name; place = p }) → IsInputNumber (cut names a) oa p i → row i ≡ left t p) → care row) where
   pub parted_same_at : (p : P) (q : Q) → EqualPlainUnder care (cut names a) (cut names b) oa ob p q → (t : ℕ) → t < n → Marked a NoneEnabled left t p → Marked b NoneEnabled right t q → left t p ≡ right t q
   parted_same_at p q e t in_run lm rm =
-      let l = cut_tree_is_run names a sa oa n left alike.left_run t in_run x left_inputs e.left_unfolds t (omega arith) lm in
-      let r = cut_tree_is_run names b sb ob n right alike.right_run t in_run x right_inputs e.right_unfolds t (omega arith) rm in
-      sym l ∙ (e.same x (λ k. along (t - k) (omega arith) (λ i. x i k) (λ name p i own h. own_inputs name p i k own h)) ∙ r)
-    where
-      x : ℕ → ℕ → Bool
-      x i k = chosen never_left (left (t - k)) (right (t - k)) (found_input (cut names a).inputs oa i) (found_input (cut names b).inputs ob i)
-
-      own_inputs : (name : List ℕ) (p : P) (i k : ℕ) → Contains a.inputs (record { name = name; place = p }) → IsInputNumber (cut names a) oa p i → x i k ≡ left (t - k) p
-      own_inputs name p i k own h = ap (λ o. chosen never_left (left (t - k)) (right (t - k)) o (found_input (cut names b).inputs ob i)) f.1 ∙ go (found_input (cut names b).inputs ob i) (never_left f.0.name) refl
-        where
-          f : (m : Named P) × (found_input (cut names a).inputs oa i ≡ Some m)
-          f = found_some (cut names a).inputs oa p i h
-
-          inside : Contains (cut names a).inputs f.0 × StandsBeside (cut names a).inputs oa f.0.place i
-          inside = found_is (cut names a).inputs oa i f.0 f.1
-
-          place_is : f.0.place ≡ p
-          place_is = numbered.left_once f.0.place p i inside.1 h
-
-          exposed : never_left f.0.name ≡ true → Contains a.inputs f.0 ⊎ (Contains names f.0.name × ((next : P) × IsLatch a f.0.name f.0.place next)) → ⊥
-          exposed never (inl there) = left_clear f.0.name f.0.place there (only_names f.0.name never)
-          exposed never (inr l) = sa.no_input (Latch f.0.name f.0.place l.1.0) l.1.1 (name, subst (λ (z : P). Contains a.inputs (record { name = name; place = z })) (sym place_is) own)
-
-          go : (o : Option (Named Q)) (b' : Bool) → never_left f.0.name ≡ b' → chosen never_left (left (t - k)) (right (t - k)) (Some f.0) o ≡ left (t - k) p
-          go None b' z = ap (left (t - k)) place_is
-          go (Some w) false z = ap (λ c. cond c (right (t - k) w.place) (left (t - k) f.0.place)) z ∙ ap (left (t - k)) place_is
-          go (Some w) true z = absurd (exposed z (cut_input names a f.0.name f.0.place inside.0))
-
-      left_inputs : (p : P) (i k s : ℕ) → IsInputNumber (cut names a) oa p i → k + s ≡ t → Marked a NoneEnabled left s p → x i k ≡ left s p
-      left_inputs p i k s h e mark = ap (λ o. chosen never_left (left (t - k)) (right (t - k)) o (found_input (cut names b).inputs ob i)) f.1 ∙ (go (found_input (cut names b).inputs ob i) (never_left f.0.name) refl ∙ ap (λ c. left c p) back)
-        where
-          back : t - k ≡ s
-          back = omega arith
-
-          f : (m : Named P) × (found_input (cut names a).inputs oa i ≡ Some m)
-          f = found_some (cut names a).inputs oa p i h
-
-          inside : Contains (cut names a).inputs f.0 × StandsBeside (cut names a).inputs oa f.0.place i
-          inside = found_is (cut names a).inputs oa i f.0 f.1
-
-          place_is : f.0.place ≡ p
-          place_is = numbered.left_once f.0.place p i inside.1 h
-
-          impossible : never_left f.0.name ≡ true → Contains a.inputs f.0 ⊎ (Contains names f.0.name × ((next : P) × IsLatch a f.0.name f.0.place next)) → ⊥
-          impossible never (inl own) = left_clear f.0.name f.0.place own (only_names f.0.name never)
-          impossible never (inr l) = left_never f.0.name f.0.place l.1.0 l.1.1 never left s (subst (λ (z : P). Marked a NoneEnabled left s z) (sym place_is) mark)
-
-          go : (o : Option (Named Q)) (b' : Bool) → never_left f.0.name ≡ b' → chosen never_left (left (t - k)) (right (t - k)) (Some f.0) o ≡ left (t - k) p
-          go None b' z = ap (left (t - k)) place_is
-          go (Some w) false z = ap (λ c. cond c (right (t - k) w.place) (left (t - k) f.0.place)) z ∙ ap (left (t - k)) place_is
-          go (Some w) true z = absurd (impossible z (cut_input names a f.0.name f.0.place inside.0))
-
-      right_inputs : (q : Q) (i k s : ℕ) → IsInputNumber (cut names b) ob q i → k + s ≡ t → Marked b NoneEnabled right s q → x i k ≡ right s q
-      right_inputs q i k s h e mark =
-          ap (λ o. chosen never_left (left (t - k)) (right (t - k)) (found_input (cut names a).inputs oa i) o) f.1 ∙ (go (found_input (cut names a).inputs oa i) refl ∙ ap (λ c. right c q) back)
-        where
-          back : t - k ≡ s
-          back = omega arith
-
-          f : (w : Named Q) × (found_input (cut names b).inputs ob i ≡ Some w)
-          f = found_some (cut names b).inputs ob q i h
-
-          place_is : f.0.place ≡ q
-          place_is = numbered.right_once f.0.place q i (found_is (cut names b).inputs ob i f.0 f.1).1 h
-
-          same_name_same_value : (m : Named P) → never_left m.name ≡ false → Contains (cut names a).inputs m × StandsBeside (cut names a).inputs oa m.place i → left (t - k) m.place ≡ right (t - k) q
-          same_name_same_value m never inside = go' (cut_input names a name.0 m.place name.1) (cut_input names b name.0 q name.2)
-            where
-              name : (name : List ℕ) × Contains (cut names a).inputs (record { name = name; place = m.place }) × Contains (cut names b).inputs (record { name = name; place = q })
-              name = numbered.shared m.place q i inside.1 h
-
-              name_is : m.name ≡ name.0
-              name_is = one_name m.name name.0 m.place inside.0 name.1
-
-              go' : Contains a.inputs (record { name = name.0; place = m.place }) ⊎ (Contains names name.0 × ((next : P) × IsLatch a name.0 m.place next)) →
-                  Contains b.inputs (record { name = name.0; place = q }) ⊎ (Contains names name.0 × ((next : Q) × IsLatch b name.0 q next)) → left (t - k) m.place ≡ right (t - k) q
-              go' (inl l) (inl r) = alike.equal_inputs name.0 m.place q l r (t - k) (omega arith)
-              go' (inl l) (inr r) = absurd (left_clear name.0 m.place l r.0)
-              go' (inr l) (inl r) = absurd (right_clear name.0 q r l.0)
-              go' (inr l) (inr r) = absurd (right_never name.0 q r.1.0 r.0 r.1.1 (ap never_left (sym name_is) ∙ never) right s mark)
-
-          go : (o : Option (Named P)) → found_input (cut names a).inputs oa i ≡ o → chosen never_left (left (t - k)) (right (t - k)) (found_input (cut names a).inputs oa i) (Some f.0) ≡ right (t - k) q
-          go None z = ap (λ o. chosen never_left (left (t - k)) (right (t - k)) o (Some f.0)) z ∙ ap (right (t - k)) place_is
-          go (Some m) z = ap (λ o. chosen never_left (left (t - k)) (right (t - k)) o (Some f.0)) z ∙ by_test (never_left m.name) refl
-            where
-              by_test : (b' : Bool) → never_left m.name ≡ b' → cond (never_left m.name) (right (t - k) f.0.place) (left (t - k) m.place) ≡ right (t - k) q
-              by_test true y = ap (λ c. cond c (right (t - k) f.0.place) (left (t - k) m.place)) y ∙ ap (right (t - k)) place_is
-              by_test false y = ap (λ c. cond c (right (t - k) f.0.place) (left (t - k) m.place)) y ∙ same_name_same_value m y (found_is (cut names a).inputs oa i m z)
+      let l = left_tree_filled names a b oa ob numbered sa sb left_clear right_clear one_name never_left left_never right_never only_names n left right alike t in_run p e.left_unfolds lm in
+      let r = right_tree_filled names a b oa ob numbered sa sb left_clear right_clear one_name never_left left_never right_never only_names n left right alike t in_run q e.right_unfolds rm in
+      let x = filled names a b oa ob numbered sa sb left_clear right_clear one_name never_left left_never right_never only_names n left right alike t in_run in
+      sym l ∙ (e.same x (λ k. along (t - k) (omega arith) (λ i. x i k) (λ name p i own h. own_filled names a b oa ob numbered sa sb left_clear right_clear one_name never_left left_never right_never only_names n left right alike t in_run name p i k own h)) ∙ r)

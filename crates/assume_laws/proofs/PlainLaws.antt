@@ -17,7 +17,7 @@ use Rattle.assume_laws.specs.Assume.{Assumption, RowMeets, RunMeets, HaveEqualFu
 use Rattle.assume_laws.specs.Laws.{EqualFunctionsAgreeUnder, ExposedFunctionsAgreeUnder, EqualResetsAgreeUnder}
 use Rattle.assume_laws.proofs.Care.{run_holds, cut_meets, shorter_meets}
 use Rattle.assume_laws.proofs.PlainCare.{EqualPlainUnder, same_at_under, parted_same_at}
-use Rattle.assume_laws.proofs.OnwardCare.{runs_agree_onward}
+use Rattle.circuit_laws.proofs.Onward.{runs_agree_onward}
 
 -- what holds where the variables' places meet the assumption holds where all do
 everywhere : {P Q : Type 0} (c : Assumption) (a : Circuit P) (b : Circuit Q) (left right : List ℕ) (p : P) (q : Q) → HaveEqualFunctionsUnder c a b left right p q → EqualPlainUnder (RowMeets c) a b left right p q

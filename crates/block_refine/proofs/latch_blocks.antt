@@ -11,5 +11,4 @@ pub mod Reached
 pub mod Readings
 pub mod Sources
 pub mod Starting
-pub mod Supports
 pub mod Weights

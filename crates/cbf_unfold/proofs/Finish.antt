@@ -23,7 +23,7 @@ use Rattle.cbf_unfold.specs.unfold_places.Walk.{IsWalk, IsTooLong}
 use Rattle.cbf_unfold.specs.View.{UnfolderView}
 use Rattle.cbf_unfold.specs.Unfolded.{IsNumberOf, IsUnfolded, Holds, Fits}
 use Rattle.cbf_unfold.specs.Building.{IsMet, HasRoom, IsLater, AreNumbered}
-use Rattle.cbf_unfold.proofs.unfold_places.Lists.{adds_contains}
+use Rattle.aig.proofs.Lists.{adds_contains}
 use Rattle.cbf_unfold.proofs.PlaceLits.{zip_more_left}
 use Rattle.cbf_unfold.proofs.Going.{places_weigh}
 use Rattle.cbf_unfold.proofs.Walk.{reach_from, over_long}

@@ -23,7 +23,7 @@ use Rattle.cbf_unfold.specs.unfold_places.Planned.{IsPlanned}
 use Rattle.cbf_unfold.specs.View.{UnfolderView}
 use Rattle.cbf_unfold.specs.Unfolded.{IsKnown, Holds}
 use Rattle.cbf_unfold.specs.Building.{IsMet, IsReady, HasRoom, HasGrown, IsLater}
-use Rattle.cbf_unfold.proofs.unfold_places.Lists.{adds_none, adds_trans, adds_push, adds_contains, append_cases, pairs_at, sum_by-map}
+use Rattle.aig.proofs.Lists.{adds_none, adds_trans, adds_push, adds_contains, append_cases, pairs_at, sum_by-map}
 use Rattle.cbf_unfold.proofs.unfold_places.Steps.{step_lower, step_within}
 use Rattle.cbf_unfold.proofs.unfold_places.InputLists.{place_apart, pairs_push}
 use Rattle.cbf_unfold.proofs.Known.{Any, known_later}

@@ -14,10 +14,10 @@ use Rattle.aig.specs.Graph.{Grows, IsLitOf}
 use Rattle.aig.specs.Rules.{IsCoverOf}
 use Rattle.aig.specs.Builds.{BuildsAll}
 use Rattle.aig.proofs.Growth.{Grows-length}
-use Rattle.cbf_unfold.specs.unfold_places.Reach.{Adds}
+use Rattle.aig.specs.Adds.{Adds}
 use Rattle.cbf_unfold.specs.View.{UnfolderView}
 use Rattle.cbf_unfold.specs.Unfolded.{IsKnown, IsNumberOf, IsUnfolded, IsLiteralOf, Fits, Holds}
-use Rattle.cbf_unfold.proofs.unfold_places.Lists.{adds_at}
+use Rattle.aig.proofs.Lists.{adds_at}
 pub use Rattle.cbf_unfold.proofs.unfold_places.Growing.{Any, builds_later}
 
 pub known_later : (n : NetView) (order : List ℕ) (last : ℕ) (g h : List Node) (places more : List (ℕ × ℕ)) (p : ℕ × ℕ) (x : ℕ) → Grows g h → Adds Any places more → IsKnown n order last g places p x →

@@ -15,7 +15,7 @@ use Rattle.cbf_unfold.specs.View.{UnfolderView, IsOrderOf}
 use Rattle.cbf_unfold.specs.Unfolded.{IsKnown}
 use Rattle.cbf_unfold.specs.unfold_places.Literals.{IsVariableLit, IsGateLit}
 use Rattle.cbf_unfold.specs.Building.{AreKnown, IsMet, IsReady}
-use Rattle.cbf_unfold.proofs.unfold_places.Lists.{adds_none}
+use Rattle.aig.proofs.Lists.{adds_none}
 pub use Rattle.cbf_unfold.proofs.unfold_places.Zips.{zip_more_left}
 pub use Rattle.cbf_unfold.proofs.unfold_places.Growing.{zip_all, grown_none, cover_within_weight, input_grown, gate_grown, grown_as}
 use Rattle.flat_net.proofs.Drivers.{gate_equation_stands, latch_equation_stands}

@@ -1,5 +1,6 @@
 pub mod Assignments
-pub mod MergeLists
+pub mod ShiftOrder
 pub mod Reading
 pub mod Standing
 pub mod CycleRows
+pub mod TwoFunctions

@@ -1,5 +1,4 @@
 pub mod Lists
-pub mod Table
 pub mod Steps
 pub mod ReadPlaces
 pub mod Over

@@ -6,7 +6,8 @@ use Rattle.aig.specs.declared.node.Lit.{Lit}
 use Rattle.aig.specs.declared.node.Node.{Node}
 use Rattle.aig.specs.Graph.{Grows}
 use Rattle.cbf_unfold.specs.unfold_places.Places.{Steps, PlaceBefore, IsVisited}
-use Rattle.cbf_unfold.specs.unfold_places.Reach.{Adds, AreInputsAt}
+use Rattle.aig.specs.Adds.{Adds}
+use Rattle.cbf_unfold.specs.unfold_places.Reach.{AreInputsAt}
 pub use Rattle.cbf_unfold.specs.unfold_places.Reach.{IsMet}
 pub use Rattle.cbf_unfold.specs.unfold_places.Growing.{HasGrown}
 use Rattle.cbf_unfold.specs.View.{UnfolderView}

@@ -16,7 +16,7 @@ use Rattle.aig.specs.Graph.{IsGraph, Grows}
 use Rattle.aig.specs.Cone.{IsReached}
 use Rattle.aig.specs.Values.{value}
 use Rattle.aig.specs.Builds.{HasOneLitEach, HasTreeValues}
-use Rattle.cbf_unfold.specs.unfold_places.Reach.{Adds}
+use Rattle.aig.specs.Adds.{Adds}
 pub use Rattle.cbf_unfold.specs.unfold_places.Growing.{TakesBits}
 use Rattle.cbf_unfold.specs.View.{UnfolderView}
 use Rattle.cbf_unfold.specs.Unfolded.{IsUnfolded, Fits}

@@ -67,20 +67,18 @@ cut_run names c n m run le is_run = record {
   carries = λ t h. All-filter (is_kept names) (Carries (run t) (run (t + 1))) c.equations (is_run.carries t (omega arith));
 }
 
--- In either mode: where settled pairs of the cut circuits have one value in any two runs with equal inputs, A and B agree onward.
+-- In either mode, of two runs: where settled pairs of the cut circuits have one value in these runs and in their beginnings, as long as the
+-- exposed latches have.
 module _ {P Q : Type 0} (mode : Mode) (names : List (List ℕ)) (a : Circuit P) (b : Circuit Q)
     (left_clear : (name : List ℕ) (p : P) → Contains a.inputs (record { name = name; place = p }) → Contains names name → ⊥)
     (right_clear : (name : List ℕ) (q : Q) → Contains b.inputs (record { name = name; place = q }) → Contains names name → ⊥)
-    (pair_same_at : (n : ℕ) (left : ℕ → P → Bool) (right : ℕ → Q → Bool) → AreAlike (cut names a) (cut names b) n left right → (t : ℕ) (p : P) (q : Q) → t < n → IsPair names a b p q →
-    IsSettled mode (cut names a) left t p → IsSettled mode (cut names b) right t q → left t p ≡ right t q) where
-  -- up to a cycle
-  LatchesUpTo : (ℕ → P → Bool) → (ℕ → Q → Bool) → ℕ → Type 0
-  LatchesUpTo left right last = LatchesEqual names a b left right (λ t. t ≤ last)
+    (n : ℕ) (left : ℕ → P → Bool) (right : ℕ → Q → Bool) (alike : AreAlike a b n left right) where
+  LatchesUpTo : ℕ → Type 0
+  LatchesUpTo last = LatchesEqual names a b left right (λ t. t ≤ last)
 
-  alike_cut : (n : ℕ) (left : ℕ → P → Bool) (right : ℕ → Q → Bool) → AreAlike a b n left right → (last : ℕ) → last < n → LatchesUpTo left right last →
-      AreAlike (cut names a) (cut names b) (last + 1) left right
+  alike_cut : (last : ℕ) → last < n → LatchesUpTo last → AreAlike (cut names a) (cut names b) (last + 1) left right
   unfolding LatchesUpTo
-  alike_cut n left right alike last in_run latches = record {
+  alike_cut last in_run latches = record {
     left_run = cut_run names a n (last + 1) left (omega arith) alike.left_run;
     right_run = cut_run names b n (last + 1) right (omega arith) alike.right_run;
     equal_inputs = λ name p q l r t h. inputs name p q t h (cut_input names a name p l) (cut_input names b name q r);
@@ -94,44 +92,56 @@ module _ {P Q : Type 0} (mode : Mode) (names : List (List ℕ)) (a : Circuit P) 
       inputs name p q t h (inr l) (inl r) = absurd (right_clear name q r l.0)
       inputs name p q t h (inr l) (inr r) = latches name p l.1.0 q r.1.0 t l.0 l.1.1 r.1.1 (omega arith)
 
-  pub pairs_agree_onward : AgreeOnward mode names a b
-  unfolding LatchesUpTo alike_cut
-  pairs_agree_onward n left right alike T in_run settled start = (λ name u p v q t h l r k. up_to t k name u p v q t h l r (omega arith), outputs)
-    where
-      pair_same : (t : ℕ) → T ≤ t → t < n → LatchesUpTo left right t → (p : P) (q : Q) → IsPair names a b p q → left t p ≡ right t q
-      pair_same t after k latches p q pair =
-          let marks = settled p q pair in
-          let e : T + (t - T) ≡ t = omega arith in
-          pair_same_at (t + 1) left right (alike_cut n left right alike t k latches) t p q (omega arith) pair
-          (subst (λ s. IsSettled mode (cut names a) left s p) e (marks_stay (cut names a) (EnabledIn mode (cut names a)) left T (t - T) marks.0))
-          (subst (λ s. IsSettled mode (cut names b) right s q) e (marks_stay (cut names b) (EnabledIn mode (cut names b)) right T (t - T) marks.1))
+  module _ (pair_same_at : (k : ℕ) → k ≤ n → AreAlike (cut names a) (cut names b) k left right → (t : ℕ) (p : P) (q : Q) → t < k → IsPair names a b p q →
+      IsSettled mode (cut names a) left t p → IsSettled mode (cut names b) right t q → left t p ≡ right t q) where
+    pub runs_agree_onward : (T : ℕ) → T < n → ((p : P) (q : Q) → IsPair names a b p q → IsSettled mode (cut names a) left T p × IsSettled mode (cut names b) right T q) →
+        LatchesEqual names a b left right (λ t. t ≤ T) →
+        LatchesEqual names a b left right (λ t. t < n) × ((t : ℕ) (p : P) (q : Q) → T ≤ t → t < n → IsPair [] a b p q → left t p ≡ right t q)
+    unfolding LatchesUpTo alike_cut
+    runs_agree_onward T in_run settled start = (λ name u p v q t h l r k. up_to t k name u p v q t h l r (omega arith), outputs)
+      where
+        pair_same : (t : ℕ) → T ≤ t → t < n → LatchesUpTo t → (p : P) (q : Q) → IsPair names a b p q → left t p ≡ right t q
+        pair_same t after k latches p q pair =
+            let marks = settled p q pair in
+            let e : T + (t - T) ≡ t = omega arith in
+            pair_same_at (t + 1) (omega arith) (alike_cut t k latches) t p q (omega arith) pair
+            (subst (λ s. IsSettled mode (cut names a) left s p) e (marks_stay (cut names a) (EnabledIn mode (cut names a)) left T (t - T) marks.0))
+            (subst (λ s. IsSettled mode (cut names b) right s q) e (marks_stay (cut names b) (EnabledIn mode (cut names b)) right T (t - T) marks.1))
 
-      up_to : (last : ℕ) → last < n → LatchesUpTo left right last
-      up_to zero k name u p v q t h l r le = start name u p v q t h l r (omega arith)
-      up_to (suc last) k name u p v q t h l r le = go (up_to last (omega arith)) (cases t last le) (start_or T (suc last))
-        where
-          cases : (x y : ℕ) → x ≤ suc y → (x ≤ y) ⊎ (x ≡ suc y)
-          cases x y h = grind arith
+        up_to : (last : ℕ) → last < n → LatchesUpTo last
+        up_to zero k name u p v q t h l r le = start name u p v q t h l r (omega arith)
+        up_to (suc last) k name u p v q t h l r le = go (up_to last (omega arith)) (cases t last le) (start_or T (suc last))
+          where
+            cases : (x y : ℕ) → x ≤ suc y → (x ≤ y) ⊎ (x ≡ suc y)
+            cases x y h = grind arith
 
-          start_or : (x y : ℕ) → (y ≤ x) ⊎ (x < y)
-          start_or x y = grind arith
+            start_or : (x y : ℕ) → (y ≤ x) ⊎ (x < y)
+            start_or x y = grind arith
 
-          go : LatchesUpTo left right last → (t ≤ last) ⊎ (t ≡ suc last) → (suc last ≤ T) ⊎ (T < suc last) → left t u ≡ right t v
-          go before (inl early) w = before name u p v q t h l r early
-          go before (inr now) (inl early) = start name u p v q t h l r (omega arith)
-          go before (inr now) (inr late) =
-              let step = pair_same last (omega arith) (omega arith) before p q (IsPair.nexts h l r) in
-              let lc = All-contains (Carries (left last) (left (last + 1))) a.equations _ (alike.left_run.carries last (omega arith)) l in
-              let rc = All-contains (Carries (right last) (right (last + 1))) b.equations _ (alike.right_run.carries last (omega arith)) r in
-              let e : t ≡ last + 1 = omega arith in
-              ap (λ s. left s u) e ∙ (lc ∙ (step ∙ (sym rc ∙ ap (λ s. right s v) (sym e))))
+            go : LatchesUpTo last → (t ≤ last) ⊎ (t ≡ suc last) → (suc last ≤ T) ⊎ (T < suc last) → left t u ≡ right t v
+            go before (inl early) w = before name u p v q t h l r early
+            go before (inr now) (inl early) = start name u p v q t h l r (omega arith)
+            go before (inr now) (inr late) =
+                let step = pair_same last (omega arith) (omega arith) before p q (IsPair.nexts h l r) in
+                let lc = All-contains (Carries (left last) (left (last + 1))) a.equations _ (alike.left_run.carries last (omega arith)) l in
+                let rc = All-contains (Carries (right last) (right (last + 1))) b.equations _ (alike.right_run.carries last (omega arith)) r in
+                let e : t ≡ last + 1 = omega arith in
+                ap (λ s. left s u) e ∙ (lc ∙ (step ∙ (sym rc ∙ ap (λ s. right s v) (sym e))))
 
-      outputs : (t : ℕ) (p : P) (q : Q) → T ≤ t → t < n → IsPair [] a b p q → left t p ≡ right t q
-      outputs t p q after k pair = pair_same t after k (up_to t k) p q (wider pair)
-        where
-          wider : {p : P} {q : Q} → IsPair [] a b p q → IsPair names a b p q
-          wider (IsPair.outputs l r) = IsPair.outputs l r
-          wider (IsPair.nexts h l r) = absurd (omega (arith, h.1))
+        outputs : (t : ℕ) (p : P) (q : Q) → T ≤ t → t < n → IsPair [] a b p q → left t p ≡ right t q
+        outputs t p q after k pair = pair_same t after k (up_to t k) p q (wider pair)
+          where
+            wider : {p : P} {q : Q} → IsPair [] a b p q → IsPair names a b p q
+            wider (IsPair.outputs l r) = IsPair.outputs l r
+            wider (IsPair.nexts h l r) = absurd (omega (arith, h.1))
+
+-- so where they have one value in any two runs with equal inputs, A and B agree onward
+pub pairs_agree_onward : {P Q : Type 0} (mode : Mode) (names : List (List ℕ)) (a : Circuit P) (b : Circuit Q) →
+    ((name : List ℕ) (p : P) → Contains a.inputs (record { name = name; place = p }) → Contains names name → ⊥) → ((name : List ℕ) (q : Q) → Contains b.inputs (record { name = name; place = q }) → Contains names name → ⊥) →
+    ((n : ℕ) (left : ℕ → P → Bool) (right : ℕ → Q → Bool) → AreAlike (cut names a) (cut names b) n left right → (t : ℕ) (p : P) (q : Q) → t < n → IsPair names a b p q →
+        IsSettled mode (cut names a) left t p → IsSettled mode (cut names b) right t q → left t p ≡ right t q) → AgreeOnward mode names a b
+pairs_agree_onward mode names a b left_clear right_clear pair_same_at n left right alike =
+    runs_agree_onward mode names a b left_clear right_clear n left right alike (λ k within cuts t p q h pair lm rm. pair_same_at k left right cuts t p q h pair lm rm)
 
 -- in the plain mode by equal functions
 pub equal_functions_agree_onward : {P Q : Type 0} (names : List (List ℕ)) (a : Circuit P) (b : Circuit Q) (oa ob : List ℕ) → AreNumbered (cut names a) (cut names b) oa ob →

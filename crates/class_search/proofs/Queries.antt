@@ -19,7 +19,7 @@ use Rattle.pair_decide.specs.declared.query.Query.{Query}
 use Rattle.pair_decide.specs.Queries.{roots_of, IsQuery}
 use Rattle.class_search.specs.declared.compare.Enable.{Enable}
 use Rattle.class_search.specs.Comparing.{IsReadyEnable}
-use Rattle.event_nodes.proofs.event_variables.Cones.{From, Supports, supports_and_of, supports_constant, from_one, reached_one, reached_among, to_from, old_node, old_reached}
+use Rattle.aig.proofs.Supports.{From, Supports, supports_and_of, supports_constant, from_one, reached_one, reached_among, to_from, old_node, old_reached}
 
 not_before_itself : (xs : List ℕ) → ListBefore xs xs → ⊥
 not_before_itself [] h = h

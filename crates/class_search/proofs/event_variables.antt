@@ -1,4 +1,3 @@
-pub use Rattle.event_nodes.proofs.event_variables.Cones
 pub use Rattle.event_nodes.proofs.event_variables.Meaning
 pub use Rattle.event_nodes.proofs.event_variables.Named
 pub use Rattle.event_nodes.proofs.event_variables.NodePaths

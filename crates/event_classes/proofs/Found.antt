@@ -20,7 +20,7 @@ use Rattle.class_search.specs.pair_decide.Queries.{assigned_to}
 use Rattle.event_nodes.specs.Nodes.{EventGraphView, IsEventGraph, GrowsEvents}
 use Rattle.event_nodes.specs.View.{EventCircuitView}
 use Rattle.event_nodes.specs.event_variables.Variables.{variables_of}
-use Rattle.event_nodes.proofs.event_variables.Cones.{reached_among}
+use Rattle.aig.proofs.Supports.{reached_among}
 use Rattle.class_search.specs.declared.compare.Enable.{Enable}
 use Rattle.class_search.specs.Comparing.{IsReadyEnable}
 use Rattle.class_search.proofs.Queries.{distinct_in_order}

@@ -11,7 +11,7 @@ use Rattle.event_nodes.specs.declared.error.EventUnfoldError.TheVariants as unfo
 use Rattle.event_nodes.specs.Visited.{CounterView, IsWeighed, places_weight}
 use Rattle.flat_net.specs.Weights.{weight_at}
 use Rattle.flat_net.proofs.Drivers.{weight_positive}
-use Rattle.event_nodes.proofs.Table.{there_or_not}
+use Rattle.aig.proofs.Interned.{there_or_not}
 
 -- it was there, or it goes last
 pub counted_cases : (old new : List (ℕ × ℕ)) (p : ℕ × ℕ) → (Contains old p → new ≡ old) → ((Contains old p → ⊥) → new ≡ old ++ p ∷ []) → ((new ≡ old) × Contains old p) ⊎ (new ≡ old ++ p ∷ [])

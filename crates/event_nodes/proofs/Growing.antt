@@ -15,9 +15,9 @@ use Rattle.aig.specs.Graph.{Grows}
 use Rattle.aig.proofs.Growth.{Grows-refl, Grows-trans}
 use Rattle.event_nodes.specs.Nodes.{EventGraphView, GrowsEvents, IsEventGraph}
 use Rattle.event_nodes.specs.View.{class_at}
-use Rattle.event_nodes.proofs.Table.{interned}
+use Rattle.aig.proofs.Interned.{interned}
 use Rattle.flat_net.proofs.Drivers.{same_latch}
-use Rattle.event_nodes.proofs.Lists.{adds_trans}
+use Rattle.aig.proofs.Lists.{adds_trans}
 
 pub grows_refl : (w : EventGraphView) → GrowsEvents w w
 grows_refl w = record { graph = Grows-refl w.graph; children = ([], sym (append-nil w.children)); places = ([], sym (append-nil w.places)) }

@@ -8,10 +8,10 @@ use Rattle.flat_net.specs.Table.{AreDistinct}
 use Rattle.aig.specs.declared.node.Node.{Node}
 use Rattle.aig.specs.Graph.{IsGraph}
 use Rattle.event_nodes.specs.Nodes.{EventGraphView, IsEventGraph, IsTree}
-use Rattle.event_nodes.specs.Adds.{Adds}
+use Rattle.aig.specs.Adds.{Adds}
 use Rattle.event_nodes.proofs.Growing.{place_kept}
-use Rattle.event_nodes.proofs.Lists.{adds_cases, adds_length}
-use Rattle.event_nodes.proofs.Table.{interned}
+use Rattle.aig.proofs.Lists.{adds_cases, adds_length}
+use Rattle.aig.proofs.Interned.{interned}
 
 pub same_children : (w : EventGraphView) (es : List (ℕ × ℕ)) → es ≡ w.children → record w { children = es } ≡ w
 same_children w es e = ap (λ (l : List (ℕ × ℕ)). record w { children = l }) e

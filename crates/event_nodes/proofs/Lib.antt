@@ -1,9 +1,7 @@
 pub mod Growing
 mod Kept
-pub mod Lists
 pub mod Paths
 pub mod ReadPlaces
-pub mod Table
 pub mod Visits
 pub mod Bits
 pub mod OnePath
@@ -15,3 +13,4 @@ pub use Rattle.aig.proofs.CoverMeaning
 pub use Rattle.aig.proofs.Growth
 pub use Rattle.aig.proofs.Literals
 pub use Rattle.aig.proofs.Meaning
+pub use Rattle.aig.proofs.Lists

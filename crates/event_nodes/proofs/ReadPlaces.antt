@@ -3,8 +3,8 @@ use Rattle.std.proofs.Common.{◌≡◌, ◌+◌, ◌<◌, ℕ, List, length, ta
 use Rattle.std.specs.List.{All, Contains}
 use Rattle.std.proofs.lemmas.List.Elements.{All-more, All-weaker, Contains-get_or}
 use Rattle.flat_net.specs.declared.signals.Signal.{Signal}
-use Rattle.event_nodes.specs.Adds.{Adds}
-use Rattle.event_nodes.proofs.Lists.{adds_trans, adds_weaker, adds_contains}
+use Rattle.aig.specs.Adds.{Adds}
+use Rattle.aig.proofs.Lists.{adds_trans, adds_weaker, adds_contains}
 
 -- the place of one of these fan-ins
 abbrev pub IsFaninPlace : List Signal → ℕ → ℕ × ℕ → Type 0

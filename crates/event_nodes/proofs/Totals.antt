@@ -16,7 +16,7 @@ use Rattle.event_nodes.specs.View.{EventCircuitView, side_of, Enabled}
 use Rattle.event_nodes.specs.Visited.{IsVisitedPair, places_weight}
 use Rattle.flat_net.specs.Weights.{weight_at}
 use Rattle.flat_net.proofs.Drivers.{weighs}
-use Rattle.event_nodes.proofs.Lists.{pairs_map, sum_by-map}
+use Rattle.aig.proofs.Lists.{pairs_map, sum_by-map}
 use Rattle.event_nodes.proofs.OnePath.{one_node}
 use Rattle.event_nodes.proofs.Visits.{visits_one}
 

@@ -1,7 +1,5 @@
-pub mod Cones
-pub mod MergeLists
+pub mod NodeOrder
 pub mod NodePaths
-pub mod Reading
 pub mod Climbing
 pub mod Named
 pub mod PathOrder

@@ -1,4 +1,3 @@
-pub mod Adds
 pub mod Nodes
 pub mod View
 pub mod Reach
@@ -15,3 +14,4 @@ pub use Rattle.aig.specs.Rules
 pub use Rattle.aig.specs.declared.node.Node
 pub use Rattle.aig.specs.Values
 pub use Rattle.flat_net.specs.Table
+pub use Rattle.aig.specs.Adds

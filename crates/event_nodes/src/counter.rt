@@ -4,7 +4,7 @@ ghost use Rattle.std.specs.Prelude.{◌≡◌, ◌<◌, [], length, slice_get, S
 ghost use Rattle.flat_net.specs.Sound.{IsSound};
 ghost use Rattle.flat_net.specs.Table.{AreDistinct};
 ghost use Rattle.event_nodes.specs.declared.error.EventUnfoldError.TheVariants as unfold_error;
-ghost use Rattle.event_nodes.specs.Adds.{Adds};
+ghost use Rattle.aig.specs.Adds.{Adds};
 ghost use Rattle.event_nodes.specs.Visited.{IsWeighed, places_weight};
 
 use crate::error::EventUnfoldError;

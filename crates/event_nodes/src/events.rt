@@ -6,7 +6,7 @@ ghost use Rattle.aig.specs.Graph.{Grows, IsLitOf, flip};
 ghost use Rattle.aig.specs.Values.{value};
 ghost use Rattle.aig.specs.Rules.{IsAndOf, IsCoverOf, cover_room};
 ghost use Rattle.aig.specs.Builds.{HasOneLitAt, HasTreeValuesAt};
-ghost use Rattle.event_nodes.specs.Adds.{Adds};
+ghost use Rattle.aig.specs.Adds.{Adds};
 ghost use Rattle.event_nodes.specs.Nodes.{IsEventGraph, IsChild, GrowsEvents};
 
 mod parts;
@@ -36,7 +36,7 @@ impl Drop for EventGraph {
 }
 
 impl Model for EventGraph {
-    ghost use Rattle.event_nodes.specs.Adds.{Adds};
+    ghost use Rattle.aig.specs.Adds.{Adds};
     ghost use Rattle.event_nodes.specs.Nodes.{EventGraphView, IsEventGraph};
 
     ghost Value = { EventGraphView };

@@ -2,7 +2,7 @@
 
 ghost use Rattle.std.specs.Prelude.{◌≡◌, ◌+◌, ◌^◌, ◌<◌, ◌≤◌, length, OnOk, All, Contains};
 ghost use Rattle.flat_net.specs.declared.signals.Signal.{Signal};
-ghost use Rattle.event_nodes.specs.Adds.{Adds};
+ghost use Rattle.aig.specs.Adds.{Adds};
 
 use flat_net::{NoMemory, PlaceTable, Signal};
 

@@ -11,7 +11,7 @@ use Rattle.aig.specs.Cone.{IsReached}
 use Rattle.aig.specs.Graph.{IsGraph}
 use Rattle.aig.specs.Values.{value}
 use Rattle.aig.proofs.CoverMeaning.{value-zero, value-one}
-use Rattle.cbf_unfold.proofs.unfold_places.Cone.{reached_one, constant_reaches}
+use Rattle.aig.proofs.Supports.{reached_one, constant_reaches}
 use Rattle.obligations.specs.outcome.Query.{Query}
 use Rattle.obligations.specs.outcome.Decision.TheVariants as decision
 use Rattle.obligations.specs.outcome.Queries.{IsQuery, IsSame, roots_of, assigned_to}

@@ -1,13 +1,13 @@
 -- What the answer to an obligation of one query says of the pair that the query asks about, whatever the form.
-use Rattle.std.proofs.Common.{◌≡◌, ◌≢◌, ◌∙◌, ℕ, ◌≤◌, zero, suc, Bool, true, false, List, [], ◌∷◌, length, map, slice_get, Option, Some, None, refl, sym, ap, subst, arith, inl, inr}
+use Rattle.std.proofs.Common.{◌≡◌, ◌≢◌, ◌∙◌, ℕ, ◌<◌, ◌≤◌, zero, suc, Bool, true, false, List, [], ◌∷◌, length, map, slice_get, Option, Some, None, refl, sym, ap, subst, arith, inl, inr}
 use Rattle.std.specs.Prelude.{◌↔◌}
 use Rattle.std.specs.List.{All, Contains}
-use Rattle.std.proofs.lemmas.List.Elements.{All-head}
+use Rattle.std.proofs.lemmas.List.Elements.{All-contains, All-head}
 use Rattle.std.proofs.lemmas.Option.{none-some, same_Some}
 use Rattle.circuit_theory.specs.Asked.{AskedPair, AreEqual, AreDifferent}
 use Rattle.circuit_theory.specs.Query.{Variable, AreLeaves}
 use Rattle.circuit_theory.specs.Tree.{Tree, tree_value}
-use Rattle.circuit_theory.proofs.Lists.{Contains-map, length-map}
+use Rattle.circuit_theory.proofs.Lists.{Contains-map, length-map, of_at}
 use Rattle.aig.specs.Builds.{TakesBits, HasValueOf}
 use Rattle.aig.specs.Table.{AreDistinct}
 use Rattle.obligations.specs.aig.Node.{Node}
@@ -22,7 +22,7 @@ use Rattle.obligations.specs.outcome.Queries.{IsSame, assigned_to}
 use Rattle.swept_queries.specs.InStead.{IsInStead, DecidesInStead}
 use Rattle.obligations.specs.declared.obligation.Obligation.{Obligation}
 use Rattle.obligations.specs.Decided.{AnswerIs}
-use Rattle.obligations.specs.Found.{Differ}
+use Rattle.obligations.specs.Found.{Differ, IsFirstOpen}
 use Rattle.obligations.specs.Fits.{IsUndecided, AnswerFits, AreEqualBefore, AnswersFit}
 
 -- The query asks about the pair: its literals have the values of the two functions and of the care, where the table tells which input at which
@@ -131,6 +131,33 @@ module _ {L : Type 0} {x : AskedPair L} {g : List Node} {places : List (ℕ × L
     answer_fits answer.NotShown (Some proof) h = absurd h
     answer_fits answer.Limit None h = absurd h
     answer_fits answer.Limit (Some proof) h = undecided conflicts proof (subst (λ (r : Query). DecidesInStead g r conflicts (decision.Limit proof)) (only_query q o.queries h.place h.query only h.first.at) h.limit)
+
+-- What is asked of a pair several times is answered by the first query that isn't the same. `asks` tells what each query asks about, and
+-- there is one for each place up to the last.
+module _ {L : Type 0} (asked : ℕ → AskedPair L) (g : List Node) (places : List (ℕ × L)) (name : ℕ → Variable L) (spread : Query → List Bool → ℕ → L → Bool) (o : Obligation) (last : ℕ)
+    (asks : (t : ℕ) (q : Query) → slice_get o.queries t ≡ Some q → (t ≤ last) × AsksPair (asked t) g places name (spread q) q) (each : (t : ℕ) → t ≤ last → (q : Query) × (slice_get o.queries t ≡ Some q)) where
+  -- both functions agree where the query is same
+  agree_at : (t : ℕ) → t ≤ last → ((q : Query) → slice_get o.queries t ≡ Some q → IsSame g q) → AreEqual (asked t)
+  agree_at t le same = let q = each t le in equal (asks t q.0 q.1).1 (same q.0 q.1)
+
+  pub agree_before : (t : ℕ) (q : Query) → IsFirstOpen g o.queries t q → AreEqualBefore asked t
+  agree_before t q first s below = agree_at s (let le = (asks t q first.at).0 in omega (arith, below, le)) (λ r at. first.earlier s r below at)
+
+  pub answers_fit : o.decisive ≡ true → (conflicts : ℕ) (y : PairAnswer) (proof : Option Proof) → AnswerIs g conflicts o y proof → AnswersFit asked conflicts last y proof
+  answers_fit decisive conflicts answer.Equal None h = λ t le. agree_at t le (λ q at. All-contains (IsSame g) o.queries q h (of_at o.queries t q at))
+  answers_fit decisive conflicts answer.Equal (Some proof) h = h
+  answers_fit decisive conflicts answer.Different None h =
+      let d = h.1 in
+      let first = d.is.first in
+      let a = asks d.place d.is.query first.at in
+      (d.place, a.0, agree_before d.place d.is.query first, different a.1 d.bits d.is.differs)
+  answers_fit decisive conflicts answer.Different (Some proof) h = h
+  answers_fit decisive conflicts answer.NotShown None h = absurd (let z : true ≡ false = sym decisive ∙ h.0 in cc)
+  answers_fit decisive conflicts answer.NotShown (Some proof) h = h
+  answers_fit decisive conflicts answer.Limit None h = h
+  answers_fit decisive conflicts answer.Limit (Some proof) h =
+      let a = asks h.place h.query h.first.at in
+      (h.place, a.0, agree_before h.place h.query h.first, undecided a.1 conflicts proof h.limit)
 
 -- what an answer that fits says, answer by answer
 module _ {L : Type 0} (x : AskedPair L) (IsDecisive : Type 0) (conflicts : ℕ) where

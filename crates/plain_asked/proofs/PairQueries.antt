@@ -1,222 +1,29 @@
--- The query of two functions on one graph and table, and what its answers say of their trees.
-use Rattle.std.proofs.Common.{◌≡◌, ◌≢◌, ℕ, ◌^◌, ◌<◌, Bool, true, List, [], ◌∷◌, map, length, get_or, slice_get, Some, refl, sym, ◌∙◌, ap, subst, arith, inl, inr}
-use Rattle.std.specs.Prelude.{◌⊎◌}
-use Rattle.std.specs.List.{All, AllPairs, AllZip, Contains}
-use Rattle.std.proofs.lemmas.List.Elements.{All-nil, All-cons}
-use Rattle.std.proofs.lemmas.List.Kept.{AllPairs-cons}
-use Rattle.std.proofs.lemmas.Option.{slice_get_within, get_or_from_slice_get}
-use Rattle.circuit_theory.specs.Tree.{Tree, tree_value}
-use Rattle.circuit_theory.specs.Query as query
-use Rattle.circuit_theory.specs.Query.{Variable, AreVariables, ShiftBefore, HasLeaf, same_shift, pair_query, bits_of}
-use Rattle.circuit_theory.proofs.Lists.{Contains-head, Contains-tail, Contains-cases, Contains-map, Contains-map_from, All-from_each, length-map}
-use Rattle.circuit_theory.proofs.Sums.{AllPairs-head, AllPairs-tail}
-use Rattle.base_tables.specs.Table.{AreDistinct}
+-- The query of two functions on one graph and table. What its answers say of their trees is said of both orders of variables.
+use Rattle.std.proofs.Common.{◌≢◌, ℕ, List}
+use Rattle.std.specs.List.{AllPairs}
+use Rattle.circuit_theory.specs.Query.{ShiftBefore}
 use Rattle.flat_net.specs.View.{NetView}
-use Rattle.aig.specs.declared.node.Lit.{Lit}
 use Rattle.aig.specs.declared.node.Node.{Node}
-use Rattle.aig.specs.declared.node.Node.TheVariants.{Input}
-use Rattle.aig.specs.Graph.{IsGraph}
-use Rattle.aig.specs.Cone.{IsReached}
-use Rattle.aig.specs.Values.{value}
-use Rattle.aig.specs.Builds.{HasTreeValues, HasValueOf}
-use Rattle.aig.proofs.CoverMeaning.{value-one}
 use Rattle.cbf_unfold.specs.declared.unfold_places.signal_function.Unfolded.{Unfolded}
-use Rattle.cbf_unfold.specs.unfold_places.Growing.{IsNumberOf}
-use Rattle.cbf_unfold.proofs.Cone.{covers_cone, reached_one, constant_reaches}
-use Rattle.cbf_unfold.proofs.unfold_places.Lists.{pairs_map}
+use Rattle.cbf_unfold.proofs.Cone.{unfolded_function}
+use Rattle.cbf_unfold.proofs.shift_variables.ShiftOrder.{shift_apart}
+use Rattle.cbf_unfold.proofs.shift_variables.TwoFunctions.{AsksTwo, asks_query, function_in_order, pairs_apart}
+pub use Rattle.cbf_unfold.proofs.shift_variables.TwoFunctions.{merge_in_order, variables_are, left_tree, right_tree, query_in_order, are_variables, each_variable, left_value, right_value, care_holds, takes_bits, left_at_bits, right_at_bits, trees_differ, variables_long, least_is}
 use Rattle.pair_decide.specs.declared.query.Query.{Query}
-use Rattle.pair_decide.specs.Queries.{IsQuery, IsLeast, Distinguishes, assigned_to, roots_of}
+use Rattle.pair_decide.specs.Queries.{IsQuery}
 use Rattle.plain_asked.specs.Pairs.{IsFunctionOf}
-use Rattle.plain_asked.specs.Sequences.{bits_at}
-use Rattle.plain_asked.specs.Variables.{variable_of, variables_of, GoesBefore, AreInOrder, IsMergeOf, IsPairQuery}
-use Rattle.cbf_unfold.proofs.shift_variables.MergeLists.{shift_apart}
-use Rattle.cbf_unfold.proofs.shift_variables.Assignments.{assigned_alike}
-
--- the number of a variable in the table is that of the variable
-variable_is : (places : List (ℕ × ℕ)) (v : ℕ) (x : Variable ℕ) → IsNumberOf places v x → variable_of places v ≡ x
-variable_is places v x at =
-    let e : get_or places v (0, 0) ≡ (x.input, x.at) = get_or_from_slice_get places v (x.input, x.at) (0, 0) at in
-    λ i. record { input = (e i).0; at = (e i).1 }
-
-pub variables_are : (places : List (ℕ × ℕ)) (vars : List ℕ) (variables : List (Variable ℕ)) → AllZip (IsNumberOf places) vars variables → variables_of places vars ≡ variables
-variables_are places [] [] h = refl
-variables_are places [] (x ∷ variables) h = absurd h
-variables_are places (v ∷ vars) [] h = absurd h
-variables_are places (v ∷ vars) (x ∷ variables) h =
-    let head : variable_of places v ≡ x = variable_is places v x h.0 in
-    let tail : variables_of places vars ≡ variables = variables_are places vars variables h.1 in
-    cc
-
-numbers_within : (places : List (ℕ × ℕ)) (vars : List ℕ) (variables : List (Variable ℕ)) → AllZip (IsNumberOf places) vars variables → All (λ v. v < length places) vars
-numbers_within places [] [] h = All-nil (λ v. v < length places)
-numbers_within places [] (x ∷ variables) h = absurd h
-numbers_within places (v ∷ vars) [] h = absurd h
-numbers_within places (v ∷ vars) (x ∷ variables) h =
-    All-cons (λ v. v < length places) v vars (slice_get_within places v (x.input, x.at) h.0) (numbers_within places vars variables h.1)
-
--- pairs of a list that a function gives
-pairs_from_map : {X Y : Type 0} (f : X → Y) (R : Y → Y → Type 0) (xs : List X) → AllPairs R (map f xs) → AllPairs (λ x y. R (f x) (f y)) xs
-pairs_from_map f R [] h = λ i j d l m. absurd (omega arith)
-pairs_from_map f R (x ∷ xs) h =
-    AllPairs-cons (λ x y. R (f x) (f y)) x xs (All-from_each (λ y. R (f x) (f y)) xs (λ y k. AllPairs-head R (f x) (map f xs) h (f y) (Contains-map f xs y k)))
-    (pairs_from_map f R xs (AllPairs-tail R (f x) (map f xs) h))
+use Rattle.plain_asked.specs.Variables.{GoesBefore, AreInOrder}
 
 -- the variables of a function are in order
 pub in_order : (n : NetView) (order : List ℕ) (g : List Node) (places : List (ℕ × ℕ)) (s : ℕ) (u : Unfolded) → IsFunctionOf n order g places s u → AreInOrder places u.vars
-in_order n order g places s u f = record {
-  within = numbers_within places u.vars f.variables f.numbered;
-  ordered = pairs_from_map (variable_of places) ShiftBefore u.vars (subst (AllPairs ShiftBefore) (sym (variables_are places u.vars f.variables f.numbered)) f.are_variables.in_order);
-}
-
--- a merge has numbers of the table, in order
-pub merge_in_order : (places : List (ℕ × ℕ)) (left right merged : List ℕ) → AreInOrder places left → AreInOrder places right → IsMergeOf places left right merged → AreInOrder places merged
-merge_in_order places left right merged l r m = record { within = All-from_each (λ v. v < length places) merged (λ v h. from v ((m.exactly v).0 h)); ordered = m.ordered }
-  where
-    from : (v : ℕ) → Contains left v ⊎ Contains right v → v < length places
-    from v (inl h) = subst (λ k. k < length places) h.2 (l.within h.0 v h.1)
-    from v (inr h) = subst (λ k. k < length places) h.2 (r.within h.0 v h.1)
+in_order n order g places s u f = function_in_order (unfolded_function f)
 
 pub numbers_apart : (places : List (ℕ × ℕ)) (vars : List ℕ) → AllPairs (GoesBefore places) vars → AllPairs (λ u v. u ≢ v) vars
-numbers_apart places vars ordered i j d below within same =
-    shift_apart (variable_of places (get_or vars i d)) (variable_of places (get_or vars j d)) (ordered i j d below within) (ap (variable_of places) same)
-
--- a list of one tree has no other
-only_one : (tree other : Tree ℕ) → Contains (tree ∷ []) other → other ≡ tree
-only_one tree other k = elim (Contains-cases tree other [] k) [ inl same ↦ sym same | inr n ↦ absurd (omega (arith, n.1)) ]
+numbers_apart = pairs_apart ShiftBefore shift_apart
 
 -- a query of two functions on one graph and table
-pub record AsksPair (a b : NetView) (left right : List ℕ) (g : List Node) (places : List (ℕ × ℕ)) (s t : ℕ) (l r : Unfolded) (q : Query) : Type 0 where
-  pub graph : IsGraph g
-  pub distinct : AreDistinct places
-  pub values : HasTreeValues g
-  pub left_is : IsFunctionOf a left g places s l
-  pub right_is : IsFunctionOf b right g places t r
-  pub asks : IsPairQuery places l r q
+abbrev pub AsksPair : (a b : NetView) (left right : List ℕ) (g : List Node) (places : List (ℕ × ℕ)) (s t : ℕ) (l r : Unfolded) → Query → Type 0
+AsksPair a b left right g places s t l r q = AsksTwo ShiftBefore g places l r q (λ (f : IsFunctionOf a left g places s l). unfolded_function f) (λ (f : IsFunctionOf b right g places t r). unfolded_function f)
 
-module _ {a b : NetView} {left right : List ℕ} {g : List Node} {places : List (ℕ × ℕ)} {s t : ℕ} {l r : Unfolded} {q : Query} (x : AsksPair a b left right g places s t l r q) where
-  abbrev pub left_tree : Tree ℕ
-  left_tree = x.left_is.tree
-
-  abbrev pub right_tree : Tree ℕ
-  right_tree = x.right_is.tree
-
-  pub query_in_order : AreInOrder places q.vars
-  query_in_order = merge_in_order places l.vars r.vars q.vars (in_order a left g places s l x.left_is) (in_order b right g places t r x.right_is) x.asks.variables_are
-
-  left_lit : q.left.0 ≡ l.lit.0
-  left_lit = ap (λ (y : Lit). y.0) x.asks.left_is
-
-  right_lit : q.right.0 ≡ r.lit.0
-  right_lit = ap (λ (y : Lit). y.0) x.asks.right_is
-
-  -- the variables of both trees
-  variables_from : (y : Variable ℕ) (v : ℕ) → variable_of places v ≡ y → Contains l.vars v ⊎ Contains r.vars v → (tree : Tree ℕ) × Contains (left_tree ∷ right_tree ∷ []) tree × HasLeaf y tree
-  variables_from y v e (inl h) =
-      let here : Contains x.left_is.variables y =
-      subst (λ (ys : List (Variable ℕ)). Contains ys y) (variables_are places l.vars x.left_is.variables x.left_is.numbered) (subst (Contains (variables_of places l.vars)) e (Contains-map (variable_of places) l.vars v h)) in
-      let leaf = (x.left_is.are_variables.exactly y).0 here in
-      (left_tree, Contains-head left_tree (right_tree ∷ []), subst (HasLeaf y) (only_one left_tree leaf.0 leaf.1) leaf.2)
-  variables_from y v e (inr h) =
-      let here : Contains x.right_is.variables y =
-      subst (λ (ys : List (Variable ℕ)). Contains ys y) (variables_are places r.vars x.right_is.variables x.right_is.numbered) (subst (Contains (variables_of places r.vars)) e (Contains-map (variable_of places) r.vars v h)) in
-      let leaf = (x.right_is.are_variables.exactly y).0 here in
-      (right_tree, Contains-tail left_tree right_tree (right_tree ∷ []) (Contains-head right_tree []), subst (HasLeaf y) (only_one right_tree leaf.0 leaf.1) leaf.2)
-
-  variables_to : (y : Variable ℕ) (tree : Tree ℕ) → (left_tree ≡ tree) ⊎ Contains (right_tree ∷ []) tree → HasLeaf y tree → (v : ℕ) × Contains q.vars v × (variable_of places v ≡ y)
-  variables_to y tree (inl same) is_leaf =
-      let here : Contains x.left_is.variables y = (x.left_is.are_variables.exactly y).1 (left_tree, Contains-head left_tree [], subst (HasLeaf y) (sym same) is_leaf) in
-      let v = Contains-map_from (variable_of places) l.vars y (subst (λ (ys : List (Variable ℕ)). Contains ys y) (sym (variables_are places l.vars x.left_is.variables x.left_is.numbered)) here) in
-      (v.0, (x.asks.variables_are.exactly v.0).1 (inl v.1), v.2)
-  variables_to y tree (inr k) is_leaf =
-      let here : Contains x.right_is.variables y = (x.right_is.are_variables.exactly y).1 (tree, k, is_leaf) in
-      let v = Contains-map_from (variable_of places) r.vars y (subst (λ (ys : List (Variable ℕ)). Contains ys y) (sym (variables_are places r.vars x.right_is.variables x.right_is.numbered)) here) in
-      (v.0, (x.asks.variables_are.exactly v.0).1 (inr v.1), v.2)
-
-  pub are_variables : AreVariables ShiftBefore (left_tree ∷ right_tree ∷ []) (variables_of places q.vars)
-  are_variables = record {
-    in_order = pairs_map (variable_of places) (GoesBefore places) ShiftBefore q.vars (λ u v hu hv before. before) x.asks.variables_are.ordered;
-    exactly = λ y. (
-      λ h. let v = Contains-map_from (variable_of places) q.vars y h in variables_from y v.0 v.2 ((x.asks.variables_are.exactly v.0).0 v.1),
-      λ h. let v = variables_to y h.0 (Contains-cases left_tree h.0 (right_tree ∷ []) h.1) h.2 in subst (Contains (variables_of places q.vars)) v.2 (Contains-map (variable_of places) q.vars v.0 v.1),
-    );
-  }
-
-  -- what holds of the leaves of both trees holds of each variable
-  pub each_variable : (F : Variable ℕ → Type 0) → ((y : Variable ℕ) → HasLeaf y left_tree → F y) → ((y : Variable ℕ) → HasLeaf y right_tree → F y) → (v : ℕ) → Contains q.vars v → F (variable_of places v)
-  each_variable F on_left on_right v h =
-      let leaf = variables_from (variable_of places v) v refl ((x.asks.variables_are.exactly v).0 h) in
-      go leaf.0 (Contains-cases left_tree leaf.0 (right_tree ∷ []) leaf.1) leaf.2
-    where
-      go : (tree : Tree ℕ) → (left_tree ≡ tree) ⊎ Contains (right_tree ∷ []) tree → HasLeaf (variable_of places v) tree → F (variable_of places v)
-      go tree (inl same) is_leaf = on_left (variable_of places v) (subst (HasLeaf (variable_of places v)) (sym same) is_leaf)
-      go tree (inr k) is_leaf = on_right (variable_of places v) (subst (HasLeaf (variable_of places v)) (only_one right_tree tree k) is_leaf)
-
-  -- the query is one of the graph
-  covers : (k v : ℕ) → IsReached g (roots_of q) k → slice_get g k ≡ Some (Input v) → Contains q.vars v
-  covers k v reached at = go (reached_one g (roots_of q) k reached)
-    where
-      left_covers : (y : ℕ) → y ≡ l.lit.0 → IsReached g (y ∷ []) k → Contains q.vars v
-      left_covers y e h = (x.asks.variables_are.exactly v).1 (inl ((covers_cone a left g places s l.lit.0 l.vars x.graph x.distinct x.left_is).1 k v (subst (λ z. IsReached g (z ∷ []) k) e h) at))
-
-      right_covers : (y : ℕ) → y ≡ r.lit.0 → IsReached g (y ∷ []) k → Contains q.vars v
-      right_covers y e h = (x.asks.variables_are.exactly v).1 (inr ((covers_cone b right g places t r.lit.0 r.vars x.graph x.distinct x.right_is).1 k v (subst (λ z. IsReached g (z ∷ []) k) e h) at))
-
-      care_small : (y : ℕ) → (q.care.0 ≡ y) ⊎ Contains [] y → y < 2
-      care_small y (inl e) = omega (arith, e, x.asks.care_is)
-      care_small y (inr n) = absurd (omega (arith, n.1))
-
-      last : (y : ℕ) → (q.right.0 ≡ y) ⊎ Contains (q.care.0 ∷ []) y → IsReached g (y ∷ []) k → Contains q.vars v
-      last y (inl e) h = right_covers y (sym e ∙ right_lit) h
-      last y (inr c) h = absurd (constant_reaches g y x.graph (care_small y (Contains-cases q.care.0 y [] c)) k v h at)
-
-      first : (y : ℕ) → (q.left.0 ≡ y) ⊎ Contains (q.right.0 ∷ q.care.0 ∷ []) y → IsReached g (y ∷ []) k → Contains q.vars v
-      first y (inl e) h = left_covers y (sym e ∙ left_lit) h
-      first y (inr c) h = last y (Contains-cases q.right.0 y (q.care.0 ∷ []) c) h
-
-      go : (y : ℕ) × Contains (roots_of q) y × IsReached g (y ∷ []) k → Contains q.vars v
-      go (y, c, h) = first y (Contains-cases q.left.0 y (q.right.0 ∷ q.care.0 ∷ []) c) h
-
-  pub is_query : IsQuery g q
-  is_query = record {
-    left = omega (arith, left_lit, x.left_is.within);
-    right = omega (arith, right_lit, x.right_is.within);
-    care = omega (arith, x.asks.care_is, slice_get_within g 0 _ x.graph.constant);
-    distinct = numbers_apart places q.vars x.asks.variables_are.ordered;
-    covers = covers;
-  }
-
-  pub left_value : HasValueOf g places q.left.0 (λ bits. tree_value bits left_tree)
-  left_value bits y takes = ap (value g y) left_lit ∙ x.values places bits y left_tree l.lit.0 takes x.left_is.builds
-
-  pub right_value : HasValueOf g places q.right.0 (λ bits. tree_value bits right_tree)
-  right_value bits y takes = ap (value g y) right_lit ∙ x.values places bits y right_tree r.lit.0 takes x.right_is.builds
-
-  pub care_holds : (y : ℕ → Bool) → value g y q.care.0 ≡ true
-  care_holds y = ap (value g y) x.asks.care_is ∙ value-one g x.graph y
-
-  -- the bits of the query's variables, as those of inputs at shifts
-  pub takes_bits : (bits : List Bool) (v : ℕ) (p : ℕ × ℕ) → slice_get places v ≡ Some p → assigned_to q.vars bits v ≡ bits_at places q.vars bits p.0 p.1
-  takes_bits bits v p at = assigned_alike places q.vars bits x.distinct query_in_order.within v p at
-
-  pub left_at_bits : (bits : List Bool) → value g (assigned_to q.vars bits) q.left.0 ≡ tree_value (bits_at places q.vars bits) left_tree
-  left_at_bits bits = left_value (bits_at places q.vars bits) (assigned_to q.vars bits) (takes_bits bits)
-
-  pub right_at_bits : (bits : List Bool) → value g (assigned_to q.vars bits) q.right.0 ≡ tree_value (bits_at places q.vars bits) right_tree
-  right_at_bits bits = right_value (bits_at places q.vars bits) (assigned_to q.vars bits) (takes_bits bits)
-
-  pub trees_differ : (bits : List Bool) → Distinguishes g q (assigned_to q.vars bits) → query.Distinguishes (pair_query left_tree right_tree) (bits_at places q.vars bits)
-  trees_differ bits d = record { care = refl; differs = λ e. d.differ (left_at_bits bits ∙ (e ∙ sym (right_at_bits bits))) }
-
-  lits_differ : (bits : List Bool) → query.Distinguishes (pair_query left_tree right_tree) (bits_at places q.vars bits) → Distinguishes g q (assigned_to q.vars bits)
-  lits_differ bits d = record { care = care_holds (assigned_to q.vars bits); differ = λ e. d.differs (sym (left_at_bits bits) ∙ (e ∙ right_at_bits bits)) }
-
-  pub variables_long : length (variables_of places q.vars) ≡ length q.vars
-  variables_long = length-map (variable_of places) q.vars
-
-  -- the least number is least for the trees
-  pub least_is : (number : ℕ) → IsLeast g q number → query.IsLeast same_shift (pair_query left_tree right_tree) (variables_of places q.vars) number
-  least_is number h = record {
-    in_range = subst (λ n. number < 2 ^ n) (sym variables_long) h.in_range;
-    distinguishes = subst (λ n. query.Distinguishes (pair_query left_tree right_tree) (bits_at places q.vars (bits_of number n))) (sym variables_long) (trees_differ (bits_of number (length q.vars)) h.distinguishes);
-    least = λ m below d. h.least m below (lits_differ (bits_of m (length q.vars)) (subst (λ n. query.Distinguishes (pair_query left_tree right_tree) (bits_at places q.vars (bits_of m n))) variables_long d));
-  }
+pub is_query : {a b : NetView} {left right : List ℕ} {g : List Node} {places : List (ℕ × ℕ)} {s t : ℕ} {l r : Unfolded} {q : Query} → AsksPair a b left right g places s t l r q → IsQuery g q
+is_query x = asks_query x shift_apart

@@ -111,13 +111,15 @@ module _ (s : Setup) (b : Bases) (f : Functions) (h : AreSound s b f) where
         let k = asks_at s b f h.functions z.0 first.obligation z.2 d.query first.differs.query at in
         let q = is_query k.2 in
         record {
-          obligation = first.obligation;
-          query = first.differs.query;
-          at = record { asked_at = first.asked_at; query_at = at };
-          left = q.left;
-          right = q.right;
-          each = first.differs.differs.each;
-          in_order = query_in_order k.2;
+          shown = record {
+            obligation = first.obligation;
+            query = first.differs.query;
+            at = record { asked_at = first.asked_at; query_at = at };
+            left = q.left;
+            right = q.right;
+            each = first.differs.differs.each;
+            in_order = query_in_order k.2;
+          };
           cycle = place_within s b f h.functions z.0 first.obligation z.2 d.query first.differs.query at;
         }
 

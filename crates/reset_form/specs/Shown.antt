@@ -19,8 +19,8 @@ use Rattle.reset_form.specs.reset_asked.Sequences.{IsQueryAt, IsSequenceOf}
 use Rattle.reset_form.specs.declared.reset_asked.findings.ResetVerdict.{ResetVerdict}
 use Rattle.reset_form.specs.declared.reset_asked.findings.ResetVerdict.TheVariants as verdict
 
--- its bits give a sequence and a power-up
-pub record IsShowable (f : Functions) (asked : List Obligation) (d : Difference) : Type 0 where
+-- the bits of a difference give a sequence and power-ups
+pub record IsShowableIn (f : Functions) (asked : List Obligation) (d : Difference) : Type 0 where
   pub obligation : Obligation
   pub query : Query
   pub at : IsQueryAt asked d obligation query
@@ -28,7 +28,11 @@ pub record IsShowable (f : Functions) (asked : List Obligation) (d : Difference)
   pub right : query.right.0 < 2 * length f.aig
   pub each : length d.bits ≡ length query.vars
   pub in_order : AreInCycles f.places query.vars
-  pub cycle : d.query ≤ obligation.size
+
+-- its query's place is its cycle
+pub record IsShowable (f : Functions) (asked : List Obligation) (d : Difference) : Type 0 where
+  pub shown : IsShowableIn f asked d
+  pub cycle : d.query ≤ shown.obligation.size
 
 abbrev pub CanBeShown : Functions → List Obligation → List PairResult → VerdictAt → Type 0
 CanBeShown f asked results at.Equal = Unit {0}
@@ -42,12 +46,16 @@ pub record IsWitnessOf (s : Setup) (b : Bases) (f : Functions) (q : Query) (bits
   pub left_power_is : w.left_power ≡ powers (circuit_of s.left.now) b.left (bits_at f.places q.vars bits)
   pub right_power_is : w.right_power ≡ powers (circuit_of s.right.now) b.right (bits_at f.places q.vars bits)
 
--- those of a difference: its query's place is its cycle
-pub record IsWitnessAt (s : Setup) (b : Bases) (f : Functions) (asked : List Obligation) (d : Difference) (w : ResetWitness) : Type 0 where
+-- those of a difference in the cycle
+pub record IsWitnessIn (s : Setup) (b : Bases) (f : Functions) (asked : List Obligation) (cycle : ℕ) (d : Difference) (w : ResetWitness) : Type 0 where
   pub obligation : Obligation
   pub query : Query
   pub at : IsQueryAt asked d obligation query
-  pub is : IsWitnessOf s b f query d.bits obligation.name d.query w
+  pub is : IsWitnessOf s b f query d.bits obligation.name cycle w
+
+-- those of a difference whose query's place is its cycle
+abbrev pub IsWitnessAt : Setup → Bases → Functions → List Obligation → Difference → ResetWitness → Type 0
+IsWitnessAt s b f asked d w = IsWitnessIn s b f asked d.query d w
 
 abbrev pub IsShown : Setup → Bases → Functions → List Obligation → List PairResult → VerdictAt → ResetVerdict → Type 0
 IsShown s b f asked results at.Equal v = v ≡ verdict.Equal

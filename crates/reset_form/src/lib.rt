@@ -12,3 +12,4 @@ mod witness;
 pub use crate::reset_functions::{Bases, ResetError};
 pub use comparison::compare_reset;
 pub use reset_asked::{ResetFindings, ResetVerdict};
+pub use witness::witness_in;

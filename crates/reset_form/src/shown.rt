@@ -6,7 +6,7 @@ ghost use Rattle.reset_form.specs.Shown.{CanBeShown, IsShowable, IsShown, IsWitn
 
 use crate::reset_asked::ResetVerdict;
 use crate::reset_functions::{Bases, Functions};
-use crate::witness::witness_of;
+use crate::witness::witness_in;
 use obligations::outcome::{PairResult, ResetWitness};
 use obligations::{Difference, Obligation, VerdictAt, copy_name};
 use sec_base::NoMemory;
@@ -55,18 +55,8 @@ fn witness_at(
     ensures { IfOk result (IsWitnessAt setup.now bases functions.now asked.now difference.now) }
 {
     let obligation = &asked[difference.pair];
-    let query = &obligation.queries.as_slice()[difference.query];
     let cycle = cycle_of(difference.query, obligation.size);
-    witness_of(
-        alloc,
-        setup,
-        bases,
-        functions,
-        query,
-        &difference.bits,
-        &obligation.name,
-        cycle,
-    )
+    witness_in(alloc, setup, bases, functions, asked, cycle, difference)
 }
 
 /// The cycle of the query at a place, which is at most the depth.

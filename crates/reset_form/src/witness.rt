@@ -3,20 +3,42 @@
 ghost use Rattle.std.specs.Prelude.{◌≡◌, ◌*◌, ◌<◌, length, IfOk};
 ghost use Rattle.base_tables.specs.Table.{AreDistinct};
 ghost use Rattle.cbf_unfold.specs.shift_variables.cycle_variables.Cycles.{AreInCycles};
-ghost use Rattle.reset_form.specs.Shown.{IsWitnessOf};
+ghost use Rattle.reset_form.specs.Shown.{IsShowableIn, IsWitnessIn, IsWitnessOf};
 
 use crate::reset_asked::sequence_of;
 use crate::reset_functions::{Bases, Functions};
 use cbf_unfold::shift_variables::cycle_variables::power_up;
 use obligations::outcome::{PairName, ResetWitness};
+use obligations::{Difference, Obligation};
 use pair_decide::Query;
 use sec_base::{Bits, NoMemory};
 use sec_setup::Setup;
 use std::alloc::Global;
 
+/// The sequence of a difference, which ends in this cycle, with both power-ups.
+pub fn witness_in(
+    alloc: Global,
+    setup: &Setup<'_>,
+    bases: Bases,
+    functions: &Functions,
+    asked: &[Obligation],
+    cycle: u32,
+    difference: &Difference,
+) -> Result<ResetWitness, NoMemory>
+    requires shown { IsShowableIn functions.now asked.now difference.now }
+    requires distinct { AreDistinct setup.now.columns }
+    ensures { IfOk result (IsWitnessIn setup.now bases functions.now asked.now cycle difference.now) }
+{
+    let obligation = &asked[difference.pair];
+    let query = &obligation.queries.as_slice()[difference.query];
+    let bits = &difference.bits;
+    let name = &obligation.name;
+    witness_of(alloc, setup, bases, functions, query, bits, name, cycle)
+}
+
 /// The sequence of a pair of this name that ends in the cycle `last`, with the power-ups of both circuits: the bit of an input in a
 /// cycle stands there, at the input's place among the names, the bit of a latch at the latch, and all else is 0.
-pub(crate) fn witness_of(
+fn witness_of(
     alloc: Global,
     setup: &Setup<'_>,
     bases: Bases,
@@ -36,15 +58,9 @@ pub(crate) fn witness_of(
     let places = &functions.places;
     let vars = query.vars.as_slice();
     let witness = sequence_of(alloc, functions, query, bits, name, last, &setup.columns)?;
-    let left_power = power_up(alloc, setup.left, bases.left, places, vars, bits.as_slice())?;
-    let right_power = power_up(
-        alloc,
-        setup.right,
-        bases.right,
-        places,
-        vars,
-        bits.as_slice(),
-    )?;
+    let bits = bits.as_slice();
+    let left_power = power_up(alloc, setup.left, bases.left, places, vars, bits)?;
+    let right_power = power_up(alloc, setup.right, bases.right, places, vars, bits)?;
     Ok(ResetWitness {
         witness,
         left_power,

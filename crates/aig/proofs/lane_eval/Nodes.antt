@@ -1,13 +1,12 @@
 -- Blocks of nodes, one after the other.
-use Rattle.std.proofs.Common.{◌≡◌, ℕ, ◌+◌, ◌*◌, ◌%◌, ◌<◌, ◌≤◌, max, Bool, false, List, [], ◌∷◌, ◌++◌, length, take, set, get_or, slice_get, Some, sym, ◌∙◌, ap, arith, subst}
+use Rattle.std.proofs.Common.{◌≡◌, ℕ, ◌+◌, ◌%◌, ◌<◌, ◌≤◌, max, Bool, false, List, [], ◌∷◌, ◌++◌, length, take, set, get_or, slice_get, Some, sym, ◌∙◌, ap, arith, subst}
 use Rattle.std.specs.Prelude.{All, replicate}
 use Rattle.std.proofs.lemmas.List.{get_or-map, map-append, take_more_set}
 use Rattle.std.proofs.lemmas.List.Elements.{All-push}
 use Rattle.aig.proofs.TableLemmas.{take-push}
-use Rattle.aig.specs.declared.node.Lit.{Lit}
 use Rattle.aig.specs.declared.node.Node.{Node}
-use Rattle.aig.specs.declared.node.Node.TheVariants.{Constant, Input, And}
-use Rattle.aig.specs.Graph.{vars_of, IsAbove}
+use Rattle.aig.specs.declared.node.Node.TheVariants.{Constant, Input}
+use Rattle.aig.specs.Graph.{vars_of}
 use Rattle.aig.specs.Values.{node_bit, node_bits, assigned}
 use Rattle.aig.proofs.Meaning.{node_bits-push}
 use Rattle.aig.specs.lane_eval.Blocks.{block_bit, IsBlock, lane}

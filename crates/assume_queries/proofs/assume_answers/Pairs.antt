@@ -17,7 +17,7 @@ use Rattle.pair_decide.specs.Queries.{IsQuery, IsSame, IsLeast, Distinguishes, a
 use Rattle.pair_decide.specs.Answers.{IsDifference}
 use Rattle.cbf_unfold.specs.unfold_places.Growing.{TakesBits}
 use Rattle.cbf_unfold.proofs.unfold_places.Lists.{pairs_map}
-use Rattle.assume_queries.proofs.assume_functions.cbf_unfold.Cone.{reached_one}
+use Rattle.aig.proofs.Supports.{reached_one}
 use Rattle.cbf_unfold.specs.shift_variables.Variables.{variable_of, variables_of}
 use Rattle.cbf_unfold.proofs.shift_variables.Assignments.{assigned_alike}
 use Rattle.cbf_unfold.specs.shift_variables.query_places.Places.{place_of}

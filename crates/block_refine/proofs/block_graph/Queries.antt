@@ -19,7 +19,7 @@ use Rattle.pair_decide.specs.declared.query.Query.{Query}
 use Rattle.pair_decide.specs.Queries.{IsQuery, roots_of}
 use Rattle.block_refine.specs.declared.latch_blocks.variables.Variables.{Variables}
 use Rattle.block_refine.specs.latch_blocks.Signals.{variable_of, variable_at, AreMerged}
-use Rattle.block_refine.proofs.latch_blocks.Supports.{reached_one}
+use Rattle.aig.proofs.Supports.{reached_one}
 use Rattle.block_refine.specs.declared.block_graph.nets.BlockNets.{BlockNets}
 use Rattle.block_refine.specs.declared.block_graph.graph.BlockGraph.{BlockGraph}
 use Rattle.block_refine.specs.block_graph.Graph.{AreBelow, IsBlockGraph}

@@ -23,7 +23,7 @@ use Rattle.flat_net.specs.Weights.{gate_weight}
 use Rattle.flat_net.proofs.Drivers.{gate_equation_stands, gate_out}
 use Rattle.block_refine.specs.declared.latch_blocks.variables.Variables.{Variables}
 use Rattle.block_refine.specs.latch_blocks.Signals.{variable_at, IsLeaf, IsVariableLit, IsSignalLit, AreSignalLits, lit_at, IsGateLit}
-use Rattle.block_refine.proofs.latch_blocks.Supports.{From, from_one, to_from, AllSupport, supports_input, supports_cover}
+use Rattle.aig.proofs.Supports.{From, from_one, to_from, AllSupport, supports_input, supports_cover}
 use Rattle.block_refine.proofs.latch_blocks.Growing.{lits_grow}
 
 -- the literal of a variable

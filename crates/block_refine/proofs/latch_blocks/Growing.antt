@@ -14,7 +14,7 @@ use Rattle.aig.proofs.Meaning.{value-grows}
 use Rattle.flat_net.specs.View.{NetView, circuit_of}
 use Rattle.block_refine.specs.declared.latch_blocks.variables.Variables.{Variables}
 use Rattle.block_refine.specs.latch_blocks.Signals.{IsVariableLit, IsSignalLit, AreSignalLits}
-use Rattle.block_refine.proofs.latch_blocks.Supports.{old_reached, old_node}
+use Rattle.aig.proofs.Supports.{old_reached, old_node}
 
 module _ (n : NetView) (w : Variables) where
   pub lit_grows : (g h : List Node) → IsGraph g → Grows g h → (s : ℕ) (x : Lit) → IsSignalLit n w g s x → IsSignalLit n w h s x

@@ -12,12 +12,12 @@ use Rattle.circuit_theory.proofs.Lists.{All-from_each, Contains-map_from, at_of,
 use Rattle.circuit_theory.proofs.Sums.{AllPairs-head, AllPairs-tail}
 use Rattle.base_tables.proofs.TableLemmas.{slice_get-take}
 use Rattle.latch_graph.proofs.Trails.{slice_get-drop}
-use Rattle.cbf_unfold.proofs.unfold_places.Lists.{pairs_at}
+use Rattle.aig.proofs.Lists.{pairs_at}
 use Rattle.flat_net.proofs.Places.{All-at}
 use Rattle.pair_decide.specs.Queries.{assigned_to}
 use Rattle.cbf_unfold.specs.shift_variables.Variables.{variable_of, variables_of, GoesBefore}
 use Rattle.cbf_unfold.specs.shift_variables.Sequences.{bits_at, IsSequence, EndsShift}
-use Rattle.cbf_unfold.proofs.shift_variables.MergeLists.{pairs_drop}
+use Rattle.aig.proofs.MergeLists.{pairs_drop}
 use Rattle.cbf_unfold.proofs.shift_variables.Assignments.{length_take, assigned_in_shift, front_left_out, back_left_out}
 
 -- one row more

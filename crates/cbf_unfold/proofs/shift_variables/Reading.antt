@@ -1,7 +1,6 @@
 -- What stands at a place of a slice that is read.
-use Rattle.std.proofs.Common.{◌≡◌, ◌+◌, ◌-◌, ◌<◌, ◌≤◌, ◌∙◌, ℕ, List, length, take, drop, get_or, slice_get, Some, sym, ap, arith, length-drop}
+use Rattle.std.proofs.Common.{◌≡◌, ◌+◌, ◌<◌, ◌∙◌, ℕ, List, length, get_or, slice_get, Some, sym, ap, arith}
 use Rattle.std.specs.Prelude.{◌⊎◌}
-use Rattle.std.proofs.lemmas.List.{take_all}
 use Rattle.std.proofs.lemmas.Option.{slice_get-get_or, get_or_from_slice_get}
 use Rattle.circuit_theory.specs.Query.{Variable}
 use Rattle.cbf_unfold.specs.shift_variables.Variables.{variable_of}
@@ -9,14 +8,6 @@ use Rattle.cbf_unfold.specs.shift_variables.Variables.{variable_of}
 -- the element that a loop is at
 pub item_at : {X : Type 0} (xs ys : List X) (i : ℕ) (x : X) → ys ≡ xs → i < length ys → x ≡ get_or ys i x → slice_get xs i ≡ Some x
 item_at xs ys i x same h is = ap (λ zs. slice_get zs i) (sym same) ∙ (slice_get-get_or ys i x h ∙ ap Some (sym is))
-
--- the number at an index
-pub number_at : (xs : List ℕ) (i d : ℕ) → i < length xs → slice_get xs i ≡ Some (get_or xs i d)
-number_at xs i d h = slice_get-get_or xs i d h
-
--- what is left from a place on
-pub rest_from : {X : Type 0} (xs : List X) (i : ℕ) → take (length xs - i) (drop i xs) ≡ drop i xs
-rest_from xs i = take_all (length xs - i) (drop i xs) (omega (arith, length-drop i xs))
 
 pub below_or_here : (k i : ℕ) → k < i + 1 → (k < i) ⊎ (k ≡ i)
 below_or_here k i h = grind arith
@@ -29,16 +20,3 @@ pair_is places v p at = let e = get_or_from_slice_get places v p (0, 0) at in λ
 pub shift_at : (places : List (ℕ × ℕ)) (vars : List ℕ) (k v : ℕ) (p : ℕ × ℕ) → slice_get vars k ≡ Some v → slice_get places (get_or vars k 0) ≡ Some p → (variable_of places v).at ≡ p.1
 shift_at places vars k v p at there =
     ap (λ u. (variable_of places u).at) (sym (get_or_from_slice_get vars k v 0 at)) ∙ ap (λ (x : Variable ℕ). x.at) (pair_is places (get_or vars k 0) p there)
-
--- two places, one or both of which go on
-pub left_on : (i j : ℕ) → i + j < (i + 1) + j
-left_on i j = omega arith
-
-pub right_on : (i j : ℕ) → i + j < i + (j + 1)
-right_on i j = omega arith
-
-pub both_on : (i j : ℕ) → i + j < (i + 1) + (j + 1)
-both_on i j = omega arith
-
-pub next_in : (i n : ℕ) → i < n → i + 1 ≤ n
-next_in i n h = omega arith

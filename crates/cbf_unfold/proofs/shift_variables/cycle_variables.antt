@@ -1,4 +1,4 @@
-pub mod MergeCycles
+pub mod CycleOrder
 pub mod CycleWindows
 pub mod PowerUps
 pub mod Writing

@@ -13,10 +13,10 @@ use Rattle.aig.specs.Rules.{cover_room}
 use Rattle.aig.specs.Builds.{Builds}
 use Rattle.aig.proofs.Growth.{Grows-refl, Builds-grows}
 use Rattle.flat_net.specs.Weights.{gate_weight}
-use Rattle.cbf_unfold.specs.unfold_places.Reach.{Adds}
+use Rattle.aig.specs.Adds.{Adds}
 use Rattle.cbf_unfold.specs.unfold_places.Growing.{HasGrown}
-use Rattle.cbf_unfold.proofs.unfold_places.Lists.{adds_none, adds_weaker}
-use Rattle.cbf_unfold.proofs.unfold_places.Table.{interned}
+use Rattle.aig.proofs.Lists.{adds_none, adds_weaker}
+use Rattle.aig.proofs.Interned.{interned}
 
 -- whatever is added
 abbrev pub Any : ℕ × ℕ → Type 0

@@ -18,7 +18,7 @@ use Rattle.flat_net.specs.Table.{AreDistinct}
 use Rattle.flat_net.proofs.TableLemmas.{slice_get-take}
 use Rattle.cbf_unfold.specs.unfold_places.Places.{PlaceBefore}
 use Rattle.cbf_unfold.specs.unfold_places.Reach.{AreInputsOf, AreInputsAt}
-use Rattle.cbf_unfold.proofs.unfold_places.Lists.{pairs_at, pairs_map}
+use Rattle.aig.proofs.Lists.{pairs_at, pairs_map}
 use Rattle.cbf_unfold.proofs.unfold_places.Order.{differ_permuted}
 use Rattle.cbf_unfold.proofs.unfold_places.Over.{pairs_differ}
 

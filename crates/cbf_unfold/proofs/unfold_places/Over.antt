@@ -10,7 +10,7 @@ use Rattle.flat_net.specs.View.{NetView, circuit_of}
 use Rattle.flat_net.specs.Sound.{IsSound}
 use Rattle.cbf_unfold.specs.unfold_places.Places.{IsVisited}
 use Rattle.flat_net.specs.Weights.{weight_at}
-use Rattle.cbf_unfold.proofs.unfold_places.Lists.{pairs_map, sum_by-map}
+use Rattle.aig.proofs.Lists.{pairs_map, sum_by-map}
 use Rattle.flat_net.proofs.Drivers.{weighs}
 
 -- distinct elements differ in pairs

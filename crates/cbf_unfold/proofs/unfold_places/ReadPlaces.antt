@@ -10,8 +10,10 @@ use Rattle.flat_net.specs.View.{NetView, circuit_of}
 use Rattle.flat_net.specs.Sound.{IsSound}
 use Rattle.cbf_unfold.specs.unfold_places.Places.{Steps}
 use Rattle.aig.specs.declared.node.Lit.{Lit}
-use Rattle.cbf_unfold.specs.unfold_places.Reach.{Adds, IsThere}
-use Rattle.cbf_unfold.proofs.unfold_places.Lists.{adds_trans, adds_weaker, there_later}
+use Rattle.aig.specs.Adds.{Adds}
+use Rattle.cbf_unfold.specs.unfold_places.Reach.{IsThere}
+use Rattle.aig.proofs.Lists.{adds_trans, adds_weaker}
+use Rattle.cbf_unfold.proofs.unfold_places.Lists.{there_later}
 use Rattle.cbf_unfold.proofs.unfold_places.Steps.{gate_steps_to, gate_steps_from, latch_steps_to, latch_steps_from}
 
 -- the place of one of these fan-ins

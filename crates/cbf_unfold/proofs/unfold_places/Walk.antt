@@ -15,9 +15,11 @@ use Rattle.flat_net.proofs.Places.{All-at, one_at}
 use Rattle.flat_net.specs.Weights.{weight_at}
 use Rattle.cbf_unfold.specs.unfold_places.Places.{Steps}
 use Rattle.aig.specs.declared.node.Lit.{Lit}
-use Rattle.cbf_unfold.specs.unfold_places.Reach.{Adds, IsThere}
+use Rattle.aig.specs.Adds.{Adds}
+use Rattle.cbf_unfold.specs.unfold_places.Reach.{IsThere}
 use Rattle.cbf_unfold.specs.unfold_places.Walk.{Comes, AreWalked, IsTooLong}
-use Rattle.cbf_unfold.proofs.unfold_places.Lists.{adds_at, adds_cases, adds_length, adds_take, there_later}
+use Rattle.aig.proofs.Lists.{adds_at, adds_cases, adds_length, adds_take}
+use Rattle.cbf_unfold.proofs.unfold_places.Lists.{there_later}
 use Rattle.flat_net.proofs.Drivers.{weight_positive}
 use Rattle.cbf_unfold.proofs.unfold_places.Steps.{step_within}
 use Rattle.cbf_unfold.proofs.unfold_places.Over.{pairs_differ, distinct_front}

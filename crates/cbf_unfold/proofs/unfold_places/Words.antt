@@ -11,7 +11,7 @@ use Rattle.circuit_theory.proofs.Sums.{same_or_not}
 use Rattle.circuit_theory.proofs.Numbers.{slice_get-map}
 use Rattle.aig.specs.declared.node.Lit.{Lit}
 use Rattle.cbf_unfold.specs.unfold_places.Visitors.{IsSet, Gives, has_bit}
-use Rattle.cbf_unfold.proofs.unfold_places.Lists.{pairs_at}
+use Rattle.aig.proofs.Lists.{pairs_at}
 
 max_one : (x y : ℕ) → x < 2 → max x y ≡ 1 → (x ≡ 1) ⊎ (y ≡ 1)
 max_one x y small h = elim (cases_lt x 1) [ inl l ↦ inr (omega (arith, h, l)) | inr l ↦ inl (omega (arith, small, l)) ]

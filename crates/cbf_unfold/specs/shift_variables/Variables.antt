@@ -1,9 +1,8 @@
 -- Variables: inputs at shifts, by their numbers in a table.
-use Rattle.std.specs.Prelude.{◌≡◌, ◌⊎◌, ◌↔◌, ℕ, ◌<◌, List, length, map, slice_index_or}
-use Rattle.std.specs.List.{All, AllPairs, Contains}
+use Rattle.std.specs.Prelude.{ℕ, List, length, map, slice_index_or}
 use Rattle.circuit_theory.specs.Query.{Variable, ShiftBefore}
 use Rattle.std.specs.declared.cmp.Ordering.{Ordering}
-use Rattle.std.specs.declared.cmp.Ordering.TheVariants as ordering
+use Rattle.aig.specs.Merged.{StandsBy, AreOrdered, IsMergeBy}
 
 -- the variable with this number
 abbrev pub variable_of : List (ℕ × ℕ) → ℕ → Variable ℕ
@@ -18,16 +17,12 @@ GoesBefore places u v = ShiftBefore (variable_of places u) (variable_of places v
 
 -- how the variables of two numbers stand to each other
 abbrev pub Stands : List (ℕ × ℕ) → ℕ → ℕ → Ordering → Type 0
-Stands places u v ordering.Less = GoesBefore places u v
-Stands places u v ordering.Equal = u ≡ v
-Stands places u v ordering.Greater = GoesBefore places v u
+Stands places = StandsBy (GoesBefore places)
 
 -- numbers of the table, in the order of their variables
-pub record AreInOrder (places : List (ℕ × ℕ)) (vars : List ℕ) : Type 0 where
-  pub within : All (λ v. v < length places) vars
-  pub ordered : AllPairs (GoesBefore places) vars
+abbrev pub AreInOrder : List (ℕ × ℕ) → List ℕ → Type 0
+AreInOrder places = AreOrdered (length places) (GoesBefore places)
 
 -- the numbers that one of two lists has, in the order of their variables
-pub record IsMergeOf (places : List (ℕ × ℕ)) (left right merged : List ℕ) : Type 0 where
-  pub ordered : AllPairs (GoesBefore places) merged
-  pub exactly : (v : ℕ) → Contains merged v ↔ (Contains left v ⊎ Contains right v)
+abbrev pub IsMergeOf : List (ℕ × ℕ) → List ℕ → List ℕ → List ℕ → Type 0
+IsMergeOf places = IsMergeBy (GoesBefore places)

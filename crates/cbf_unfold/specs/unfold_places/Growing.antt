@@ -4,7 +4,7 @@ use Rattle.circuit_theory.specs.Query.{Variable}
 use Rattle.aig.specs.declared.node.Node.{Node}
 pub use Rattle.aig.specs.Builds.{TakesBits}
 use Rattle.aig.specs.Graph.{Grows}
-use Rattle.cbf_unfold.specs.unfold_places.Reach.{Adds}
+use Rattle.aig.specs.Adds.{Adds}
 
 -- the graph and the table have grown by so much at most
 pub record HasGrown (g h : List Node) (places more : List (ℕ × ℕ)) (room : ℕ) : Type 0 where

@@ -1,17 +1,12 @@
 -- Which places the unfolding of a signal visits, as a list in an order of evaluation.
-use Rattle.std.specs.Prelude.{◌≡◌, ◌≢◌, ◌⊎◌, ℕ, ◌-◌, ◌<◌, ◌≤◌, List, ◌++◌, All, Contains}
+use Rattle.std.specs.Prelude.{◌≡◌, ◌≢◌, ◌⊎◌, ℕ, ◌-◌, ◌<◌, ◌≤◌, List, All, Contains}
 use Rattle.std.specs.List.{AllPairs}
 use Rattle.circuit_theory.specs.Circuit.{Circuit}
 use Rattle.circuit_theory.specs.Tree.{IsInputNumber}
 use Rattle.circuit_theory.specs.Sizes.{Visits}
 use Rattle.aig.specs.declared.node.Lit.{Lit}
+pub use Rattle.aig.specs.Adds.{Adds}
 use Rattle.cbf_unfold.specs.unfold_places.Places.{Steps, PlaceBefore}
-
--- the list with more behind it, and what holds of each of those
-pub record Adds {X : Type 0} (P : X → Type 0) (old new : List X) : Type 0 where
-  pub more : List X
-  pub is : new ≡ old ++ more
-  pub each : All P more
 
 -- the place has been met
 abbrev pub IsMet : List ((ℕ × ℕ) × Lit) → ℕ × ℕ → Type 0

@@ -5,7 +5,8 @@ ghost use Rattle.flat_net.specs.View.{circuit_of};
 ghost use Rattle.flat_net.specs.declared.signals.Signal.{Signal};
 ghost use Rattle.cbf_unfold.specs.unfold_places.Places.{Steps};
 ghost use Rattle.flat_net.specs.Weights.{weight_at};
-ghost use Rattle.cbf_unfold.specs.unfold_places.Reach.{Adds, IsThere};
+ghost use Rattle.aig.specs.Adds.{Adds};
+ghost use Rattle.cbf_unfold.specs.unfold_places.Reach.{IsThere};
 
 use crate::unfold_places::memo::Memo;
 use flat_net::{Driver, Net, NoMemory, PlaceTable, Signal, gate_of, latch_of};

@@ -25,7 +25,7 @@ use Rattle.event_nodes.specs.View.{EventCircuitView, IsEventCircuit, side_of, En
 use Rattle.edbf_unfold.specs.event_literals.Known.{IsKnownAt, IsEnableLit}
 use Rattle.edbf_unfold.specs.Care.{IsCareLit, IsEnableOnward, IsAndOfAll}
 use Rattle.event_nodes.specs.event_variables.Variables.{variable_of}
-use Rattle.event_nodes.proofs.event_variables.Cones.{From, Supports, supports_tree, supports_flip, supports_and_of, supports_constant, reached_one, from_one}
+use Rattle.aig.proofs.Supports.{From, Supports, supports_tree, supports_flip, supports_and_of, supports_constant, reached_one, from_one}
 use Rattle.event_classes.proofs.event_functions.Shortening.{supports_short_or}
 use Rattle.event_nodes.proofs.event_variables.Named.{named_distinct}
 use Rattle.event_nodes.specs.event_variables.Inputs.{AreVisitedInputs}

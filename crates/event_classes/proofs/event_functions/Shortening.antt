@@ -4,7 +4,7 @@ use Rattle.event_nodes.specs.event_variables.aig.Node.{Node}
 use Rattle.event_nodes.specs.event_variables.aig.Node.TheVariants.{And}
 use Rattle.event_nodes.specs.event_variables.aig.Cone.{Reads}
 use Rattle.event_nodes.specs.event_variables.aig.Graph.{IsGraph, flip}
-use Rattle.event_nodes.proofs.event_variables.Cones.{From, Supports, supports_constant, supports_flip, supports_and_of}
+use Rattle.aig.proofs.Supports.{From, Supports, supports_constant, supports_flip, supports_and_of}
 use Rattle.edbf_unfold.specs.event_literals.ShortOr.{short_and, IsShortOr}
 use Rattle.edbf_unfold.proofs.event_literals.OrKeeping.{IsKept, short_keeps}
 

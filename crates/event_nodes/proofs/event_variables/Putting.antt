@@ -17,7 +17,7 @@ use Rattle.flat_net.proofs.Places.{one_at}
 use Rattle.event_nodes.specs.Nodes.{EventGraphView, GrowsEvents}
 use Rattle.event_nodes.specs.View.{EventCircuitView, IsEventCircuit}
 use Rattle.flat_net.proofs.Drivers.{input_owner}
-use Rattle.event_nodes.proofs.Lists.{adds_at}
+use Rattle.aig.proofs.Lists.{adds_at}
 use Rattle.event_nodes.specs.event_variables.Inputs.{IsVariableAt, IsVariablePut}
 
 module _ (e : EventCircuitView) (sound : IsSound e.net) (n : NetView) (same : n ≡ e.net) (p : ℕ) (d : Driver) (at : slice_get n.drivers p ≡ Some d) where

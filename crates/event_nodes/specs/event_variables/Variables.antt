@@ -1,8 +1,8 @@
 -- Variables of event queries: inputs at event nodes, by their numbers in an event graph.
-use Rattle.std.specs.Prelude.{◌≡◌, ◌⊎◌, ◌↔◌, ℕ, ◌<◌, List, [], length, map, reverse, slice_index_or}
-use Rattle.std.specs.List.{All, AllPairs, Contains}
+use Rattle.std.specs.Prelude.{◌≡◌, ◌⊎◌, ℕ, ◌<◌, List, [], length, map, reverse, slice_index_or}
 use Rattle.std.specs.declared.cmp.Ordering.{Ordering}
 use Rattle.std.specs.declared.cmp.Ordering.TheVariants as ordering
+use Rattle.aig.specs.Merged.{StandsBy, AreOrdered, IsMergeBy}
 use Rattle.circuit_theory.specs.Names.{ListBefore}
 use Rattle.circuit_theory.specs.Query.{Variable}
 use Rattle.circuit_theory.specs.Frame.{NodeBefore}
@@ -21,9 +21,7 @@ GoesBefore w u v = NodeBefore (variable_of w u) (variable_of w v)
 
 -- how the variables of two numbers stand to each other
 abbrev pub Stands : EventGraphView → ℕ → ℕ → Ordering → Type 0
-Stands w u v ordering.Less = GoesBefore w u v
-Stands w u v ordering.Equal = u ≡ v
-Stands w u v ordering.Greater = GoesBefore w v u
+Stands w = StandsBy (GoesBefore w)
 
 -- how two paths of one length stand to each other, read from the root; each has its last step first
 abbrev pub PathsStand : List ℕ → List ℕ → Ordering → Type 0
@@ -42,11 +40,9 @@ NodesStand children m n ordering.Equal = path_of children m ≡ path_of children
 NodesStand children m n ordering.Greater = PathBefore (path_of children n) (path_of children m)
 
 -- numbers of variables, in the order of the variables
-pub record AreInOrder (w : EventGraphView) (vars : List ℕ) : Type 0 where
-  pub within : All (λ v. v < length w.places) vars
-  pub ordered : AllPairs (GoesBefore w) vars
+abbrev pub AreInOrder : EventGraphView → List ℕ → Type 0
+AreInOrder w = AreOrdered (length w.places) (GoesBefore w)
 
 -- the numbers that one of two lists has, in the order of their variables
-pub record IsMergeOf (w : EventGraphView) (left right merged : List ℕ) : Type 0 where
-  pub ordered : AllPairs (GoesBefore w) merged
-  pub exactly : (v : ℕ) → Contains merged v ↔ (Contains left v ⊎ Contains right v)
+abbrev pub IsMergeOf : EventGraphView → List ℕ → List ℕ → List ℕ → Type 0
+IsMergeOf w = IsMergeBy (GoesBefore w)

@@ -26,10 +26,10 @@ use Rattle.aig.specs.graph_copy.graph_clone.Twins.{AreTwins, IsTwinOf, twin_in}
 use Rattle.aig.proofs.graph_copy.graph_clone.Twins.{twin_grows, twin_there}
 use Rattle.pair_decide.specs.declared.query.Query.{Query}
 use Rattle.pair_decide.specs.Queries.{IsQuery, roots_of}
-use Rattle.cbf_unfold.specs.unfold_places.Reach.{Adds}
+use Rattle.aig.specs.Adds.{Adds}
 use Rattle.cbf_unfold.specs.shift_variables.Variables.{variable_of, variables_of}
 use Rattle.cbf_unfold.proofs.shift_variables.Reading.{pair_is}
-use Rattle.cbf_unfold.proofs.unfold_places.Lists.{pairs_map}
+use Rattle.aig.proofs.Lists.{pairs_map}
 use Rattle.cbf_unfold.specs.shift_variables.query_places.Places.{place_of}
 use Rattle.assume_laws.specs.Assume.{Assumption, RowMeets, HasVariableAtNode, HasCareUnder}
 use Rattle.assume_laws.specs.Sequences.{IsPairTreeUnder, IsSideTree}
@@ -38,7 +38,7 @@ use Rattle.assume_queries.specs.declared.assume_answers.order.VariableOrder.TheV
 use Rattle.assume_queries.specs.assume_answers.Under.{IsUnder, MeetsAtEach, ReadsAtOne}
 use Rattle.event_nodes.specs.Nodes.{EventGraphView, IsEventGraph, named_places, path_of}
 use Rattle.event_nodes.specs.event_variables.Variables as event_variables
-use Rattle.event_nodes.proofs.event_variables.Cones.{reached_one, reached_among}
+use Rattle.aig.proofs.Supports.{reached_one, reached_among}
 use Rattle.event_nodes.proofs.event_variables.Named.{named_distinct}
 use Rattle.event_form.specs.event_agreement.Queries.{AsksEventPair}
 use Rattle.event_form.proofs.event_agreement.PairQueries as pair_query

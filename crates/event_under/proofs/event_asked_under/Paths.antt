@@ -14,7 +14,7 @@ use Rattle.event_nodes.specs.Nodes.{IsTree, path_of}
 use Rattle.event_nodes.proofs.OnePath.{one_node}
 use Rattle.event_nodes.specs.event_variables.Variables.{PathBefore}
 use Rattle.event_nodes.proofs.event_variables.Climbing.{root_path, parent_child}
-use Rattle.event_nodes.proofs.event_variables.MergeLists.{node_trans}
+use Rattle.event_nodes.proofs.event_variables.NodeOrder.{node_trans}
 use Rattle.event_nodes.specs.event_variables.ranked_nodes.Ranks.{AreRanked}
 use Rattle.event_nodes.specs.declared.event_variables.ranked_nodes.ranks.RankedNodes.{RankedNodes}
 use Rattle.event_nodes.proofs.event_variables.ranked_nodes.Zeros.{nodes_apart, path_irreflexive}

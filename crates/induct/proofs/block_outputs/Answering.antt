@@ -19,7 +19,7 @@ use Rattle.pair_decide.specs.Queries.{IsQuery, IsSame, roots_of, assigned_to}
 use Rattle.pair_decide.specs.Answers.{Decides, IsDifference}
 use Rattle.block_refine.specs.latch_blocks.Readings.{AreRead}
 use Rattle.block_refine.proofs.latch_blocks.Readings.{readings_are_values}
-use Rattle.block_refine.proofs.latch_blocks.Supports.{reached_among}
+use Rattle.aig.proofs.Supports.{reached_among}
 use Rattle.block_refine.specs.declared.block_graph.nets.BlockNets.{BlockNets}
 use Rattle.block_refine.specs.declared.block_graph.graph.BlockGraph.{BlockGraph}
 use Rattle.block_refine.specs.declared.block_graph.compare.Comparison.{Comparison}

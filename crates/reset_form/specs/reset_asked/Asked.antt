@@ -8,17 +8,15 @@ use Rattle.pair_decide.specs.declared.query.Query.{Query}
 use Rattle.obligations.specs.declared.obligation.Obligation.{Obligation}
 use Rattle.sec_setup.specs.declared.ports.pairs.SignalPair.{SignalPair}
 use Rattle.sec_setup.specs.declared.setup.Setup.{Setup}
-use Rattle.cbf_unfold.specs.shift_variables.cycle_variables.Cycles.{IsCycleMerge}
+use Rattle.cbf_unfold.specs.shift_variables.Queries.{IsQueryBy}
+use Rattle.cbf_unfold.specs.shift_variables.cycle_variables.Cycles.{GoesFirst}
 use Rattle.reset_form.specs.declared.reset_functions.bases.Bases.{Bases}
 use Rattle.reset_form.specs.declared.reset_functions.functions.Functions.{Functions}
 use Rattle.reset_form.specs.reset_functions.Pairs.{AreCyclesOf}
 
 -- the query of two functions: do they agree always? Its variables are those of both.
-pub record IsCycleQuery (places : List (ℕ × ℕ)) (left right : Unfolded) (q : Query) : Type 0 where
-  pub left_is : q.left ≡ left.lit
-  pub right_is : q.right ≡ right.lit
-  pub care_is : q.care.0 ≡ 1
-  pub variables_are : IsCycleMerge places left.vars right.vars q.vars
+abbrev pub IsCycleQuery : List (ℕ × ℕ) → Unfolded → Unfolded → Query → Type 0
+IsCycleQuery places = IsQueryBy (GoesFirst places)
 
 -- one for each cycle, in order
 pub record AreCycleQueries (places : List (ℕ × ℕ)) (left right : List Unfolded) (queries : List Query) : Type 0 where

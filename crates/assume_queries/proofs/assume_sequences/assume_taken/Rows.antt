@@ -21,7 +21,8 @@ use Rattle.aig.specs.Graph.{IsGraph}
 use Rattle.aig.specs.Values.{value}
 use Rattle.aig.proofs.CoverMeaning.{value-zero, value-one}
 use Rattle.assume_queries.specs.assume_functions.cbf_unfold.Unfolded.{IsNumberOf}
-use Rattle.assume_queries.proofs.assume_functions.cbf_unfold.Cone.{covers_cone, reached_one, constant_reaches}
+use Rattle.aig.proofs.Supports.{reached_one, constant_reaches}
+use Rattle.assume_queries.proofs.assume_functions.cbf_unfold.Cone.{covers_cone}
 use Rattle.pair_decide.specs.Queries.{IsQuery, IsSame, roots_of, assigned_to}
 use Rattle.pair_decide.specs.Answers.{IsDifference}
 use Rattle.cbf_unfold.specs.shift_variables.Variables.{variable_of, variables_of, AreInOrder}

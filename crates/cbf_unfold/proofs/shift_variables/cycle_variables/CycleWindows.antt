@@ -8,12 +8,12 @@ use Rattle.std.proofs.lemmas.Option.{slice_get_within, slice_get-get_or}
 use Rattle.circuit_theory.specs.Query.{Variable, assigned, same_shift}
 use Rattle.circuit_theory.specs.Sequence.{sequence_row}
 use Rattle.circuit_theory.proofs.Lists.{Contains-map_from, of_at, length-map}
-use Rattle.cbf_unfold.proofs.unfold_places.Lists.{pairs_at}
+use Rattle.aig.proofs.Lists.{pairs_at}
 use Rattle.pair_decide.specs.Queries.{assigned_to}
 use Rattle.circuit_laws.specs.reset_laws.Reset.{CycleBefore}
 use Rattle.cbf_unfold.specs.shift_variables.Variables.{variable_of, variables_of}
 use Rattle.cbf_unfold.specs.shift_variables.Sequences.{bits_at, EndsShift}
-use Rattle.cbf_unfold.proofs.shift_variables.MergeLists.{pairs_drop}
+use Rattle.aig.proofs.MergeLists.{pairs_drop}
 use Rattle.cbf_unfold.proofs.shift_variables.Assignments.{length_take, assigned_in_shift, front_left_out, back_left_out}
 use Rattle.cbf_unfold.proofs.shift_variables.CycleRows.{part, split, in_front, in_back, in_part, pairs_take, below_or_not, le_true, row_by_bits}
 use Rattle.cbf_unfold.specs.shift_variables.cycle_variables.Cycles.{number_of, GoesFirst, AreInCycles}

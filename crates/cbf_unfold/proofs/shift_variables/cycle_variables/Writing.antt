@@ -6,7 +6,7 @@ use Rattle.std.proofs.lemmas.List.{map-append}
 use Rattle.circuit_theory.proofs.Lists.{Contains-map_from, at_of, length-map}
 use Rattle.circuit_theory.proofs.Sums.{same_or_not}
 use Rattle.base_tables.proofs.TableLemmas.{slice_get-take}
-use Rattle.cbf_unfold.proofs.unfold_places.Lists.{pairs_at}
+use Rattle.aig.proofs.Lists.{pairs_at}
 use Rattle.pair_decide.specs.Queries.{assigned_to}
 use Rattle.cbf_unfold.proofs.shift_variables.Assignments.{take_next, assigned_new, assigned_old, length_take}
 use Rattle.cbf_unfold.specs.shift_variables.cycle_variables.Cycles.{number_of}

@@ -6,7 +6,7 @@ use Rattle.std.proofs.lemmas.Option.{same_Some}
 use Rattle.circuit_theory.specs.Query.{Variable, ShiftBefore}
 use Rattle.circuit_laws.specs.reset_laws.Reset.{CycleBefore}
 use Rattle.cbf_unfold.specs.shift_variables.Variables.{variable_of}
-use Rattle.cbf_unfold.proofs.unfold_places.Lists.{pairs_at}
+use Rattle.aig.proofs.Lists.{pairs_at}
 use Rattle.cbf_unfold.specs.shift_variables.query_places.Places.{place_of, AreGrouped}
 use Rattle.cbf_unfold.specs.shift_variables.query_places.Laws.{VariablesAreGrouped}
 

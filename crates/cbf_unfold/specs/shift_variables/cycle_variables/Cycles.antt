@@ -1,12 +1,11 @@
 -- Variables: inputs in cycles, and latches in cycle 0, by their numbers in a table.
-use Rattle.std.specs.Prelude.{◌≡◌, ◌⊎◌, ◌↔◌, ℕ, ◌<◌, Bool, true, false, List, length, Some, slice_get, slice_index_or}
-use Rattle.std.specs.List.{All, AllPairs, Contains}
+use Rattle.std.specs.Prelude.{◌≡◌, ℕ, Bool, true, false, List, length, Some, slice_get, slice_index_or}
 use Rattle.std.specs.declared.cmp.Ordering.{Ordering}
-use Rattle.std.specs.declared.cmp.Ordering.TheVariants as ordering
 use Rattle.circuit_theory.specs.Circuit.{Circuit}
 use Rattle.circuit_theory.specs.Cone.{latches_of}
 use Rattle.sec_base.specs.declared.basics.Init.{Init}
 use Rattle.sec_base.specs.declared.basics.Init.TheVariants as init
+use Rattle.aig.specs.Merged.{StandsBy, AreOrdered, IsMergeBy}
 use Rattle.circuit_laws.specs.reset_laws.Reset.{CycleBefore, power_of, start_at}
 use Rattle.cbf_unfold.specs.shift_variables.Variables.{variable_of}
 
@@ -20,19 +19,15 @@ GoesFirst places u v = CycleBefore (variable_of places u) (variable_of places v)
 
 -- how the variables of two numbers stand to each other
 abbrev pub Stands : List (ℕ × ℕ) → ℕ → ℕ → Ordering → Type 0
-Stands places u v ordering.Less = GoesFirst places u v
-Stands places u v ordering.Equal = u ≡ v
-Stands places u v ordering.Greater = GoesFirst places v u
+Stands places = StandsBy (GoesFirst places)
 
 -- numbers of the table, in the order of their variables
-pub record AreInCycles (places : List (ℕ × ℕ)) (vars : List ℕ) : Type 0 where
-  pub within : All (λ v. v < length places) vars
-  pub ordered : AllPairs (GoesFirst places) vars
+abbrev pub AreInCycles : List (ℕ × ℕ) → List ℕ → Type 0
+AreInCycles places = AreOrdered (length places) (GoesFirst places)
 
 -- the numbers that one of two lists has, in the order of their variables
-pub record IsCycleMerge (places : List (ℕ × ℕ)) (left right merged : List ℕ) : Type 0 where
-  pub ordered : AllPairs (GoesFirst places) merged
-  pub exactly : (v : ℕ) → Contains merged v ↔ (Contains left v ⊎ Contains right v)
+abbrev pub IsCycleMerge : List (ℕ × ℕ) → List ℕ → List ℕ → List ℕ → Type 0
+IsCycleMerge places = IsMergeBy (GoesFirst places)
 
 -- the initial value where it is 0 or 1, and else the bit
 abbrev pub start_or : Init → Bool → Bool

@@ -8,7 +8,7 @@ use Rattle.event_nodes.specs.event_variables.flat_net.Sound.{IsSound}
 use Rattle.event_nodes.specs.Nodes.{EventGraphView, IsEventGraph}
 use Rattle.event_nodes.specs.View.{EventCircuitView, IsEventCircuit, side_of, Enabled}
 use Rattle.event_nodes.specs.event_variables.Inputs.{AreVisitedInputs}
-use Rattle.event_nodes.proofs.event_variables.Cones.{Supports}
+use Rattle.aig.proofs.Supports.{Supports}
 use Rattle.event_nodes.proofs.event_variables.Leaves.{put_latch}
 use Rattle.event_nodes.proofs.event_variables.Meaning.{own_leaf}
 use Rattle.edbf_unfold.specs.event_literals.event_walk.Walk.{enable_start}

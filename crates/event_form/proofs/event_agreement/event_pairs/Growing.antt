@@ -22,7 +22,7 @@ use Rattle.event_nodes.specs.Nodes.{EventGraphView, IsEventGraph, GrowsEvents, n
 use Rattle.event_nodes.proofs.OnePath.{one_node}
 use Rattle.event_nodes.proofs.Paths.{named_grows, path_grows}
 use Rattle.class_search.specs.event_variables.Variables.{variable_of, variables_of, GoesBefore, AreInOrder}
-use Rattle.class_search.proofs.event_variables.Cones.{reached_one, reached_among, old_node, old_reached}
+use Rattle.aig.proofs.Supports.{reached_one, reached_among, old_node, old_reached}
 use Rattle.class_search.proofs.event_variables.Named.{named_distinct}
 use Rattle.event_classes.proofs.event_functions.Known.{builds_later}
 use Rattle.event_classes.specs.declared.event_functions.signals.SignalFunction.{SignalFunction}

@@ -5,7 +5,7 @@ use Rattle.circuit_theory.proofs.Lists.{Contains-head, Contains-tail}
 use Rattle.aig.specs.declared.node.Node.{Node}
 use Rattle.aig.specs.Values.{value}
 use Rattle.class_search.specs.class_separations.cone_values.lane_eval.Tables.{Covers, assigned_to}
-use Rattle.event_nodes.proofs.event_variables.Cones.{reached_among}
+use Rattle.aig.proofs.Supports.{reached_among}
 use Rattle.obligations.specs.outcome.pair_decide.Query.{Query}
 use Rattle.obligations.specs.outcome.pair_decide.Queries.{IsQuery, roots_of}
 

@@ -12,9 +12,9 @@ use Rattle.circuit_theory.specs.Frame.{NodeBefore}
 use Rattle.flat_net.proofs.Growth.{slice_get-append}
 use Rattle.base_tables.specs.Table.{AreDistinct}
 use Rattle.base_tables.proofs.TableLemmas.{slice_get-take, take-push}
-use Rattle.event_nodes.specs.Adds.{Adds}
+use Rattle.aig.specs.Adds.{Adds}
 use Rattle.event_nodes.specs.Nodes.{EventGraphView, named_places, path_of}
-use Rattle.event_nodes.proofs.Lists.{pairs_at}
+use Rattle.aig.proofs.Lists.{pairs_at}
 use Rattle.event_nodes.specs.event_variables.Order.{IsOrderOf}
 use Rattle.event_nodes.specs.event_variables.Variables.{variable_of, GoesBefore, PathBefore, AreInOrder}
 use Rattle.flat_net.proofs.Places.{All-at}

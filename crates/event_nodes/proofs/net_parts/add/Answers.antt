@@ -1,6 +1,6 @@
 -- The place is there already, or it goes last.
 use Rattle.flat_net.proofs.circuit_theory.Lists.{of_at}
-use Rattle.event_nodes.proofs.Table.{interned}
+use Rattle.aig.proofs.Interned.{interned}
 use Rattle.event_nodes.proofs.net_parts.add.Goals as goal
 
 pub returns-clause-adds : goal.returns-clause-adds

@@ -1,7 +1,7 @@
 use Rattle.std.proofs.Common.{◌≡◌, ◌+◌, ◌≤◌, length, take}
 use Rattle.std.specs.List.{All, Contains}
 use Rattle.flat_net.specs.declared.signals.Signal.{Signal}
-use Rattle.event_nodes.specs.Adds.{Adds}
+use Rattle.aig.specs.Adds.{Adds}
 use Rattle.event_nodes.proofs.net_parts.add_fanins.Given as goal
 
 abbrev pub invariant-loop-fanin : goal.invariant-loop-fanin

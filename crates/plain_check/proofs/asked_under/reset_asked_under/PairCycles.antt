@@ -1,24 +1,26 @@
 -- What is found of a pair's queries under an assumption is what is said of the pair.
-use Rattle.std.proofs.Common.{◌≡◌, ℕ, ◌≤◌, true, false, slice_get, Option, Some, None, sym, ◌∙◌, subst, arith}
+use Rattle.std.proofs.Common.{◌≡◌, ℕ, ◌≤◌, slice_get, Some, sym, ◌∙◌, subst}
 use Rattle.std.specs.List.{All}
 use Rattle.circuit_theory.specs.Fits.{IsPairDepth}
 use Rattle.circuit_theory.proofs.Lists.{All-from_each, at_of, zip_right}
 use Rattle.flat_net.specs.View.{circuit_of}
-use Rattle.flat_net.proofs.Places.{All-at}
-use Rattle.sec_base.specs.declared.basics.PairAnswer.{PairAnswer}
-use Rattle.sec_base.specs.declared.basics.PairAnswer.TheVariants as answer
+use Rattle.cbf_unfold.specs.shift_variables.Sequences.{bits_at}
+use Rattle.cbf_unfold.specs.shift_variables.Variables.{variable_of}
 use Rattle.cbf_unfold.specs.declared.unfold_places.signal_function.Unfolded.{Unfolded}
 use Rattle.cbf_unfold.proofs.unfold_places.Zips.{zip_left}
 use Rattle.pair_decide.specs.declared.query.Query.{Query}
-use Rattle.pair_decide.specs.declared.query.Proof.{Proof}
-use Rattle.pair_decide.specs.Queries.{IsQuery, IsSame}
+use Rattle.pair_decide.specs.Queries.{IsQuery}
 use Rattle.obligations.specs.declared.outcome.verdict.PairResult.{PairResult}
 use Rattle.sec_setup.specs.declared.ports.pairs.SignalPair.{SignalPair}
 use Rattle.obligations.specs.declared.obligation.Obligation.{Obligation}
 use Rattle.obligations.specs.Found.{IsFirstOpen}
-use Rattle.obligations.specs.Decided.{AnswerIs, IsAnswered}
+use Rattle.obligations.specs.Decided.{IsAnswered}
 use Rattle.sec_setup.specs.declared.setup.Setup.{Setup}
 use Rattle.sec_setup.specs.ports.Pairs.{places_of}
+use Rattle.obligations.proofs.Fits as fits
+use Rattle.obligations.proofs.Fits.{AsksPair, answers_fit}
+use Rattle.outcome_fits.specs.ResetOutcome.{pair_at}
+use Rattle.assume_laws.specs.Assume as assume
 use Rattle.assume_laws.specs.Assume.{Assumption}
 use Rattle.assume_queries.specs.declared.assume_answers.order.VariableOrder.TheVariants as order
 use Rattle.assume_queries.specs.assume_answers.Under.{IsUnder, IsObligationUnder}
@@ -28,8 +30,8 @@ use Rattle.reset_form.specs.reset_asked.Asked.{AskedOf}
 use Rattle.reset_form.specs.reset_asked.Numbers.{numbered}
 use Rattle.reset_form.proofs.reset_asked.PairCycles.{AreSoundFunctions, AsksIn, asks_at, place_within, query_in}
 use Rattle.plain_check.specs.asked_under.reset_asked_under.Laws.{AsksCycle}
-use Rattle.plain_check.proofs.asked_under.reset_asked_under.CyclesUnder.{cycles_fit_under}
-use Rattle.plain_check.specs.under_base.under_fits.ResetVerdict.{AgreeAtUnder, AgreeBeforeUnder, AnswerFitsUnder, PairFitsUnder}
+use Rattle.plain_check.proofs.asked_under.reset_asked_under.CyclesUnder.{asks_pair, cycles_fit_under}
+use Rattle.plain_check.specs.under_base.under_fits.ResetVerdict.{AgreeBeforeUnder, AnswerFitsUnder, PairFitsUnder}
 
 -- the query of a pair in a cycle, without the assumption and under it
 pub record IsIn (c : Assumption) (s : Setup) (b : Bases) (f : Functions) (x : SignalPair) (o : Obligation) (t : ℕ) (r : Query) : Type 0 where
@@ -77,49 +79,24 @@ module _ (c : Assumption) (s : Setup) (b : Bases) (f : Functions) (sound : AreSo
       let y = is_in at.0 r at.1 in
       (cycles_fit_under c s.left.now s.right.now s.orders.left s.orders.right b.left b.right f.aig f.places x.left.0 x.right.0 at.0 y.sides r (as_asked c s b f x o at.0 r y) y.is).0)
 
-  -- both functions agree where the query is same
-  agree_at : (t : ℕ) → t ≤ o.size → ((r : Query) → slice_get u.queries t ≡ Some r → IsSame f.aig r) → AgreeAtUnder c (numbered s b) x.left.0 x.right.0 t
-  agree_at t le same =
-      let r = at_cycle t le in
-      let y = is_in t r.0 r.1 in
-      (cycles_fit_under c s.left.now s.right.now s.orders.left s.orders.right b.left b.right f.aig f.places x.left.0 x.right.0 t y.sides r.0 (as_asked c s b f x o t r.0 y) y.is).1 (same r.0 r.1)
+  -- so what is found of the queries is what is said of the pair
+  asks : (t : ℕ) (r : Query) → slice_get u.queries t ≡ Some r → (t ≤ o.size) × AsksPair (assume.under c (pair_at (numbered s b) x.left.0 x.right.0 t)) f.aig f.places (variable_of f.places) (bits_at f.places r.vars) r
+  asks t r at =
+      let y = is_in t r at in
+      (y.within, asks_pair c s.left.now s.right.now s.orders.left s.orders.right b.left b.right f.aig f.places x.left.0 x.right.0 t y.sides r (as_asked c s b f x o t r y) y.is)
 
   pub agree_before : (t : ℕ) (r : Query) → IsFirstOpen f.aig u.queries t r → AgreeBeforeUnder c (numbered s b) x.left.0 x.right.0 t
-  agree_before t r first j below = agree_at j (let le = (is_in t r first.at).within in omega (arith, below, le)) (λ y at. first.earlier j y below at)
+  agree_before = fits.agree_before (λ t. assume.under c (pair_at (numbered s b) x.left.0 x.right.0 t)) f.aig f.places (variable_of f.places) (λ q. bits_at f.places q.vars) u o.size asks at_cycle
 
   -- the result has the answer of the obligation
   pub pair_fits : (conflicts : ℕ) (result : PairResult) → IsAnswered f.aig conflicts u result → PairFitsUnder c (numbered s b) conflicts (places_of x) result
   pair_fits conflicts result found = record {
     name_is = found.name_is ∙ (under.name_is ∙ k.name_is);
     size_is = subst (IsPairDepth (circuit_of s.left.now) (circuit_of s.right.now) x.left.0 x.right.0) (sym size) k.size_is;
-    answer_is = subst (λ (n : ℕ). AnswerFitsUnder c (numbered s b) conflicts x.left.0 x.right.0 n result.answer result.proof) (sym size) (go result.answer result.proof found.answer_is);
+    answer_is =
+        subst (λ (n : ℕ). AnswerFitsUnder c (numbered s b) conflicts x.left.0 x.right.0 n result.answer result.proof) (sym size)
+        (answers_fit (λ t. assume.under c (pair_at (numbered s b) x.left.0 x.right.0 t)) f.aig f.places (variable_of f.places) (λ q. bits_at f.places q.vars) u o.size asks at_cycle (under.decisive_is ∙ k.decisive_is) conflicts result.answer result.proof found.answer_is);
   }
     where
       size : result.size ≡ o.size
       size = found.size_is ∙ under.size_is
-
-      no : true ≡ false → ⊥
-      no e = cc
-
-      go : (y : PairAnswer) (proof : Option Proof) → AnswerIs f.aig conflicts u y proof → AnswerFitsUnder c (numbered s b) conflicts x.left.0 x.right.0 o.size y proof
-      go answer.Equal None h = λ t le. agree_at t le (λ r at. All-at (IsSame f.aig) u.queries t r at h)
-      go answer.Equal (Some proof) h = h
-      go answer.Different None h =
-          let d = h.1 in
-          let y = is_in d.place d.is.query d.is.first.at in (
-            d.place,
-            y.within,
-            agree_before d.place d.is.query d.is.first,
-            (cycles_fit_under c s.left.now s.right.now s.orders.left s.orders.right b.left b.right f.aig f.places x.left.0 x.right.0 d.place y.sides d.is.query (as_asked c s b f x o d.place d.is.query y) y.is).2 d.bits d.is.differs,
-          )
-      go answer.Different (Some proof) h = h
-      go answer.NotShown None h = no (sym (under.decisive_is ∙ k.decisive_is) ∙ h.0)
-      go answer.NotShown (Some proof) h = h
-      go answer.Limit None h = h
-      go answer.Limit (Some proof) h =
-          let y = is_in h.place h.query h.first.at in (
-            h.place,
-            y.within,
-            agree_before h.place h.query h.first,
-            (cycles_fit_under c s.left.now s.right.now s.orders.left s.orders.right b.left b.right f.aig f.places x.left.0 x.right.0 h.place y.sides h.query (as_asked c s b f x o h.place h.query y) y.is).3 conflicts proof h.limit,
-          )

@@ -13,10 +13,10 @@ pub returns : goal.returns
 returns c =
     let s = c.args.setup.now in
     let places = c.args.functions.now.places in
+    let vars = c.as_slice-vars in
+    let bits = c.as_slice-bits in
     record {
       sequence = c.in_ok-witness.ensures;
-      left_power_is =
-          c.in_ok-left_power.ensures ∙ powers_as (circuit_of s.left.now) c.args.bases.left places c.as_slice-vars.result.now c.args.query.now.vars c.as_slice.result.now c.args.bits.now c.as_slice-vars.ensures c.as_slice.ensures;
-      right_power_is =
-          c.in_ok-right_power.ensures ∙ powers_as (circuit_of s.right.now) c.args.bases.right places c.as_slice-vars.result.now c.args.query.now.vars c.as_slice-2.result.now c.args.bits.now c.as_slice-vars.ensures c.as_slice-2.ensures;
+      left_power_is = c.in_ok-left_power.ensures ∙ powers_as (circuit_of s.left.now) c.args.bases.left places vars.result.now c.args.query.now.vars bits.result.now c.args.bits.now vars.ensures bits.ensures;
+      right_power_is = c.in_ok-right_power.ensures ∙ powers_as (circuit_of s.right.now) c.args.bases.right places vars.result.now c.args.query.now.vars bits.result.now c.args.bits.now vars.ensures bits.ensures;
     }

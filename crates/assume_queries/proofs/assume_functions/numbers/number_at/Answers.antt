@@ -2,7 +2,7 @@
 use Rattle.std.proofs.Common.{◌≡◌, ℕ, Some, refl, sym, ◌∙◌, ap, arith}
 use Rattle.std.proofs.lemmas.Option.{slice_get_within, same_Some}
 use Rattle.cbf_unfold.proofs.unfold_places.Lists.{adds_none, adds_weaker}
-use Rattle.cbf_unfold.proofs.unfold_places.Table.{interned}
+use Rattle.aig.proofs.Interned.{interned}
 use Rattle.assume_queries.proofs.assume_functions.numbers.number_at.Goals as goal
 
 pub returns-then-v-size-clause-here : goal.returns-then-v-size-clause-here

@@ -3,7 +3,7 @@ use Rattle.std.proofs.Common.{◌<◌, ◌∙◌, ℕ, List, sym, subst}
 use Rattle.std.specs.Prelude.{◌≢◌}
 use Rattle.std.specs.List.{All, AllPairs}
 use Rattle.std.proofs.lemmas.List.Elements.{All-map}
-use Rattle.cbf_unfold.proofs.unfold_places.Lists.{pairs_map}
+use Rattle.aig.proofs.Lists.{pairs_map}
 use Rattle.cbf_unfold.specs.shift_variables.Variables.{variable_of}
 use Rattle.cbf_unfold.proofs.shift_variables.rows.row_of.Goals as goal
 

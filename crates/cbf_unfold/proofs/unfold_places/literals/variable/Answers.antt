@@ -2,7 +2,7 @@
 use Rattle.std.proofs.Common.{arith}
 use Rattle.std.proofs.lemmas.Option.{slice_get_within}
 use Rattle.cbf_unfold.proofs.unfold_places.Growing.{grown_none, input_grown}
-use Rattle.cbf_unfold.proofs.unfold_places.Table.{interned}
+use Rattle.aig.proofs.Interned.{interned}
 use Rattle.cbf_unfold.proofs.unfold_places.PlaceLits.{variable_lit}
 use Rattle.cbf_unfold.proofs.unfold_places.literals.variable.Goals as goal
 

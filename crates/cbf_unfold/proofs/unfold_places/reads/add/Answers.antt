@@ -1,8 +1,8 @@
 -- The place has been met, it is in the table already, or it goes last.
 use Rattle.std.proofs.Common.{inl, inr, refl}
 use Rattle.circuit_theory.proofs.Lists.{of_at}
-use Rattle.cbf_unfold.proofs.unfold_places.Lists.{adds_none}
-use Rattle.cbf_unfold.proofs.unfold_places.Table.{interned}
+use Rattle.aig.proofs.Lists.{adds_none}
+use Rattle.aig.proofs.Interned.{interned}
 use Rattle.cbf_unfold.proofs.unfold_places.reads.add.Goals as goal
 
 pub returns-in-Some-clause-adds : goal.returns-in-Some-clause-adds

@@ -1,7 +1,8 @@
 use Rattle.std.proofs.Common.{◌≡◌, ◌+◌, ◌≤◌, length, take}
 use Rattle.std.specs.List.{All, Contains}
 use Rattle.flat_net.specs.declared.signals.Signal.{Signal}
-use Rattle.cbf_unfold.specs.unfold_places.Reach.{Adds, IsThere}
+use Rattle.aig.specs.Adds.{Adds}
+use Rattle.cbf_unfold.specs.unfold_places.Reach.{IsThere}
 use Rattle.cbf_unfold.proofs.unfold_places.reads.add_fanins.Given as goal
 
 abbrev pub invariant-loop-fanin : goal.invariant-loop-fanin

@@ -8,7 +8,7 @@ use Rattle.flat_net.specs.View.{circuit_of}
 use Rattle.flat_net.proofs.Growth.{length-push}
 use Rattle.aig.specs.declared.node.Lit.{Lit}
 use Rattle.cbf_unfold.specs.unfold_places.Visitors.{AreReads}
-use Rattle.cbf_unfold.proofs.unfold_places.Lists.{append_cases}
+use Rattle.aig.proofs.Lists.{append_cases}
 use Rattle.cbf_unfold.proofs.unfold_places.visitors.links_of.Goals as goal
 
 pub loop-number-init : goal.loop-number-init

@@ -1,11 +1,11 @@
 -- The place was there, or it goes last and adds to the weight.
 use Rattle.std.proofs.Common.{◌≡◌, ◌∙◌, ℕ, List, length, sym, subst, arith}
 use Rattle.flat_net.proofs.circuit_theory.Lists.{of_at}
-use Rattle.event_nodes.specs.Adds.{Adds}
+use Rattle.aig.specs.Adds.{Adds}
 use Rattle.event_nodes.specs.Visited.{CounterView, IsWeighed}
 use Rattle.event_nodes.proofs.Counting.{counted_cases, counted_old, counted_new, room_for_place, weight_fits, weighed_more, passed_weight, ok_apart, large_apart}
-use Rattle.event_nodes.proofs.Lists.{adds_none}
-use Rattle.event_nodes.proofs.Table.{interned}
+use Rattle.aig.proofs.Lists.{adds_none}
+use Rattle.aig.proofs.Interned.{interned}
 use Rattle.event_nodes.proofs.counter.Counter.count.Goals as goal
 
 pub intern-requires : goal.intern-requires

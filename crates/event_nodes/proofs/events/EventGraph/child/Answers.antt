@@ -1,11 +1,11 @@
 -- The child is the next one or one that was there.
 use Rattle.std.proofs.Common.{◌≡◌, ◌∙◌, ◌+◌, ◌^◌, ◌<◌, ◌≤◌, ℕ, List, length, refl, sym, ap, subst, arith}
-use Rattle.event_nodes.specs.Adds.{Adds}
+use Rattle.aig.specs.Adds.{Adds}
 use Rattle.event_nodes.specs.Nodes.{EventGraphView, GrowsEvents, IsEventGraph}
 use Rattle.event_nodes.proofs.Growing.{child_grows, grows_refl}
 use Rattle.event_nodes.proofs.Kept.{same_children, few_same, small_number, room_for_one, child_kept}
-use Rattle.event_nodes.proofs.Lists.{adds_none}
-use Rattle.event_nodes.proofs.Table.{interned}
+use Rattle.aig.proofs.Lists.{adds_none}
+use Rattle.aig.proofs.Interned.{interned}
 use Rattle.event_nodes.proofs.events.EventGraph.child.Goals as goal
 
 pub intern-requires : goal.intern-requires

@@ -4,7 +4,7 @@ use Rattle.aig.proofs.Growth.{Grows-refl}
 use Rattle.event_nodes.specs.Nodes.{EventGraphView, GrowsEvents, IsEventGraph}
 use Rattle.event_nodes.proofs.Growing.{place_grows, grows_refl}
 use Rattle.event_nodes.proofs.Kept.{same_places, few_same, variable_kept}
-use Rattle.event_nodes.proofs.Table.{interned}
+use Rattle.aig.proofs.Interned.{interned}
 use Rattle.event_nodes.proofs.events.EventGraph.number.Goals as goal
 
 pub intern-requires : goal.intern-requires

@@ -1,7 +1,7 @@
 -- One place more.
 use Rattle.std.proofs.Common.{◌<◌, length, get_or, arith}
 use Rattle.std.proofs.lemmas.Option.{slice_get-get_or}
-use Rattle.event_nodes.proofs.Table.{interned}
+use Rattle.aig.proofs.Interned.{interned}
 use Rattle.event_under.proofs.event_shown_under.Shifts.{next_put}
 use Rattle.event_under.proofs.event_shown_under.steps.shifts_at.Goals as goal
 

@@ -1,11 +1,9 @@
 -- A twin of each kind of node.
-use Rattle.std.proofs.Common.{◌≡◌, ℕ, ◌*◌, ◌/◌, ◌<◌, Bool, ◌&&◌, List, length, slice_get, Some, ap, ◌∙◌, sym, subst, arith}
+use Rattle.std.proofs.Common.{◌≡◌, ℕ, ◌*◌, ◌/◌, ◌<◌, List, length, slice_get, Some, ap, ◌∙◌, sym, subst, arith}
 use Rattle.std.proofs.lemmas.Option.{slice_get_within, same_Some}
 use Rattle.aig.specs.declared.node.Lit.{Lit}
 use Rattle.aig.specs.declared.node.Node.{Node}
-use Rattle.aig.specs.declared.node.Node.TheVariants.{Constant, Input, And}
-use Rattle.aig.specs.Rules.{IsAndOf}
-use Rattle.aig.specs.Values.{value}
+use Rattle.aig.specs.declared.node.Node.TheVariants.{Constant, Input}
 use Rattle.aig.specs.graph_copy.graph_clone.Twins.{IsTwinOf, AreTwins, twin_in}
 use Rattle.aig.proofs.graph_copy.graph_clone.Twins.{twins_push, twins_grow, twin_zero, twin_input, twin_and, twin_there}
 use Rattle.aig.proofs.graph_copy.graph_clone.copies.copy_node.Goals as goal

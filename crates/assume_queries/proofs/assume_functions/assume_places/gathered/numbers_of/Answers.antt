@@ -5,7 +5,7 @@ use Rattle.std.proofs.lemmas.List.Elements.{All-nil, All-push, All-weaker}
 use Rattle.std.proofs.lemmas.Option.{slice_get_within, slice_get-get_or}
 use Rattle.circuit_theory.proofs.Lists.{of_at}
 use Rattle.cbf_unfold.proofs.unfold_places.Lists.{adds_none, adds_trans, adds_weaker, adds_length}
-use Rattle.cbf_unfold.proofs.unfold_places.Table.{interned}
+use Rattle.aig.proofs.Interned.{interned}
 use Rattle.assume_queries.specs.assume_functions.assume_places.Gathered.{IsAmong, place_at}
 use Rattle.assume_queries.proofs.assume_functions.assume_places.Gathering.{numbers_more}
 use Rattle.assume_queries.proofs.assume_functions.assume_places.gathered.numbers_of.Goals as goal

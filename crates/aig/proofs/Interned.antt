@@ -1,12 +1,11 @@
 -- What a table of places has after a place was put into it.
-use Rattle.std.proofs.Common.{◌≡◌, ◌≢◌, ◌+◌, ◌≤◌, ℕ, List, [], ◌∷◌, ◌++◌, length, refl, ap, subst, arith, inl, inr}
+use Rattle.std.proofs.Common.{◌≡◌, ◌≢◌, ◌+◌, ◌≤◌, ℕ, List, [], ◌∷◌, ◌++◌, length, length-append, refl, ap, subst, arith, inl, inr}
 use Rattle.std.specs.Prelude.{◌⊎◌}
 use Rattle.std.specs.List.{Contains}
 use Rattle.circuit_theory.proofs.Lists.{Contains-head, Contains-tail, Contains-cases}
 use Rattle.circuit_theory.proofs.Sums.{same_or_not}
-use Rattle.flat_net.proofs.Growth.{length-push}
-use Rattle.cbf_unfold.specs.unfold_places.Reach.{Adds}
-use Rattle.cbf_unfold.proofs.unfold_places.Lists.{adds_none, adds_push}
+use Rattle.aig.specs.Adds.{Adds}
+use Rattle.aig.proofs.Lists.{adds_none, adds_push}
 
 -- two places are one or not
 pub same_place_or_not : (p q : ℕ × ℕ) → (p ≡ q) ⊎ (p ≢ q)
@@ -32,4 +31,4 @@ interned old new p known added = go (there_or_not old p)
   where
     go : Contains old p ⊎ (Contains old p → ⊥) → Adds (λ q. q ≡ p) old new × (length new ≤ length old + 1)
     go (inl h) = (adds_none (λ q. q ≡ p) old new (known h), omega (arith, ap length (known h)))
-    go (inr n) = (adds_push (λ q. q ≡ p) old new p (added n) refl, omega (arith, ap length (added n), length-push old p))
+    go (inr n) = (adds_push (λ q. q ≡ p) old new p (added n) refl, omega (arith, ap length (added n), length-append old (p ∷ [])))

@@ -9,9 +9,8 @@ use Rattle.cbf_unfold.specs.shift_variables.cycle_variables.Cycles.{AreInCycles}
 use Rattle.reset_form.specs.declared.reset_functions.bases.Bases.{Bases}
 use Rattle.reset_form.specs.declared.reset_functions.functions.Functions.{Functions}
 use Rattle.obligations.specs.declared.outcome.verdict.ResetWitness.{ResetWitness}
-use Rattle.reset_form.specs.Shown.{IsWitnessOf}
-use Rattle.cycle_search.specs.Shown.{IsShowableIn, IsWitnessIn}
-use Rattle.cycle_search.proofs.shown.witness_at.Goals as goal
+use Rattle.reset_form.specs.Shown.{IsShowableIn, IsWitnessIn, IsWitnessOf}
+use Rattle.reset_form.proofs.witness.witness_in.Goals as goal
 
 module _ (f : Functions) (asked : List Obligation) (d : Difference) (shown : IsShowableIn f asked d) (o : Obligation) (o_is : slice_get asked d.pair ≡ Some shown.obligation → o ≡ shown.obligation) (queries : List Query) (queries_are : queries ≡ o.queries) (q : Query)
     (q_is : slice_get queries d.query ≡ Some shown.query → q ≡ shown.query) where

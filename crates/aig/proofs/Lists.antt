@@ -3,15 +3,14 @@ use Rattle.std.proofs.Common.{◌≡◌, ◌∙◌, ◌+◌, ◌<◌, ◌≤◌,
 use Rattle.std.specs.Prelude.{◌⊎◌}
 use Rattle.std.specs.List.{AllPairs, Contains, sum_by}
 use Rattle.std.proofs.lemmas.List.{take-append-le}
-use Rattle.std.proofs.lemmas.List.Elements.{All-nil, All-append, All-push, All-weaker, All-map, Contains-append_left}
+use Rattle.std.proofs.lemmas.List.Elements.{All-nil, All-append, All-push, All-weaker, All-map, All-contains, Contains-append_left}
 use Rattle.std.proofs.lemmas.List.Kept.{AllPairs-cons}
 use Rattle.std.proofs.lemmas.List.Sums.{sum_by-cons}
 use Rattle.std.proofs.lemmas.Option.{slice_get_within, same_Some}
-use Rattle.flat_net.proofs.circuit_theory.Lists.{Contains-head, Contains-tail, Contains-cases, All-from_each, at_of, of_at}
-use Rattle.flat_net.proofs.circuit_theory.Sums.{AllPairs-head, AllPairs-tail}
-use Rattle.event_nodes.specs.Adds.{Adds}
-use Rattle.flat_net.proofs.Growth.{slice_get-append}
-use Rattle.flat_net.proofs.Places.{All-at}
+use Rattle.circuit_theory.proofs.Lists.{Contains-head, Contains-tail, Contains-cases, All-from_each, at_of, of_at}
+use Rattle.circuit_theory.proofs.Sums.{AllPairs-head, AllPairs-tail}
+use Rattle.aig.specs.Adds.{Adds}
+use Rattle.aig.proofs.Growth.{slice_get-append}
 
 pub adds_none : {X : Type 0} (P : X → Type 0) (xs ys : List X) → ys ≡ xs → Adds P xs ys
 adds_none P xs ys same = record { more = []; is = same ∙ sym (append-nil xs); each = All-nil P }
@@ -49,7 +48,7 @@ adds_cases P xs ys i x a h = go (append_cases xs a.more i x (ap (λ l. slice_get
   where
     go : (slice_get xs i ≡ Some x) ⊎ ((length xs ≤ i) × Contains a.more x) → (slice_get xs i ≡ Some x) ⊎ ((length xs ≤ i) × P x)
     go (inl e) = inl e
-    go (inr e) = let at = at_of a.more x e.1 in inr (e.0, All-at P a.more at.0 x at.1 a.each)
+    go (inr e) = inr (e.0, All-contains P a.more x a.each e.1)
 
 -- an element of the longer list is one of the shorter or has the property
 pub adds_from : {X : Type 0} (P : X → Type 0) (xs ys : List X) (x : X) → Adds P xs ys → Contains ys x → Contains xs x ⊎ P x

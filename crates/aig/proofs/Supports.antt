@@ -1,24 +1,23 @@
--- The variables in the cones of literals: of the and of two of them, of a tree's literal, and while the graph grows.
-use Rattle.std.proofs.Common.{◌≡◌, ◌≢◌, ◌∙◌, ◌*◌, ◌/◌, ◌<◌, ◌++◌, ℕ, Bool, true, false, List, [], ◌∷◌, length, slice_get, Option, Some, None, refl, sym, ap, subst, arith, inl, inr, nat_lt, ◌==◌, if◌then◌else◌}
+-- The variables in the cones of literals: of the and of two of them, of a cover of literals, of a tree's literal, and while the graph
+-- grows.
+use Rattle.std.proofs.Common.{◌≡◌, ◌∙◌, ◌*◌, ◌/◌, ◌<◌, ℕ, Bool, true, false, List, [], ◌∷◌, length, get_or, slice_get, Option, Some, None, refl, sym, ap, subst, arith, inl, inr, nat_lt, ◌==◌, if◌then◌else◌}
 use Rattle.std.specs.Prelude.{◌⊎◌}
 use Rattle.std.specs.List.{Contains}
-use Rattle.std.proofs.lemmas.Option.{same_Some, slice_get_within}
+use Rattle.std.proofs.lemmas.Option.{same_Some, slice_get-get_or}
 use Rattle.circuit_theory.specs.Cover.{Cover}
 use Rattle.circuit_theory.specs.Tree.{Tree, Trees, Leaf, Fixed, Branch, Nil, Cons}
 use Rattle.circuit_theory.specs.Query.{Variable, HasLeaf, HasLeafIn}
 use Rattle.circuit_theory.proofs.Lists.{Contains-cases, Contains-head, Contains-tail, only}
-use Rattle.flat_net.proofs.Nets.{some_at}
-use Rattle.flat_net.proofs.Places.{one_at}
-use Rattle.event_nodes.specs.Lit.{Lit}
-use Rattle.event_nodes.specs.Node.{Node}
-use Rattle.event_nodes.specs.Node.TheVariants.{Constant, Input, And}
-use Rattle.event_nodes.specs.Graph.{IsGraph, IsAbove, IsLitOf, Grows, flip}
-use Rattle.event_nodes.specs.Rules.{IsAndBy, IsAndOf, IsOrOf, place_lit, IsPlaceOf, IsCubeOf, AreRowsOf, IsCoverOf}
-use Rattle.event_nodes.specs.Builds.{Builds, BuildsAll}
-use Rattle.event_nodes.specs.Cone.{Reads, IsReached}
-use Rattle.event_nodes.proofs.CoverMeaning.{Simple, simple}
-use Rattle.event_nodes.proofs.Growth.{slice_get-append}
-use Rattle.event_nodes.proofs.Literals.{flip-half}
+use Rattle.aig.specs.declared.node.Lit.{Lit}
+use Rattle.aig.specs.declared.node.Node.{Node}
+use Rattle.aig.specs.declared.node.Node.TheVariants.{Constant, Input, And}
+use Rattle.aig.specs.Graph.{IsGraph, IsAbove, IsLitOf, Grows, flip}
+use Rattle.aig.specs.Rules.{IsAndBy, IsAndOf, IsOrOf, place_lit, IsPlaceOf, IsCubeOf, AreRowsOf, IsCoverOf}
+use Rattle.aig.specs.Builds.{Builds, BuildsAll}
+use Rattle.aig.specs.Cone.{Reads, IsReached}
+use Rattle.aig.proofs.CoverMeaning.{Simple, simple}
+use Rattle.aig.proofs.Growth.{slice_get-grows}
+use Rattle.aig.proofs.Literals.{flip-half}
 
 -- what is reached from one node
 pub data From (g : List Node) (m : ℕ) : ℕ → Type 0 where
@@ -63,7 +62,7 @@ module _ (g : List Node) (graph : IsGraph g) (V : ℕ → Type 0) where
   at_lit : (node : Node) (x : ℕ) → IsLitOf g node x → slice_get g (x / 2) ≡ Some node
   at_lit node x (n, e, at) = ap (slice_get g) (let h : x / 2 ≡ n = omega arith in h) ∙ at
 
-  supports_input : (v x : ℕ) → IsLitOf g (Input v) x → V v → Supports x
+  pub supports_input : (v x : ℕ) → IsLitOf g (Input v) x → V v → Supports x
   supports_input v x lit has k w from at = go (onward g (x / 2) from)
     where
       go : (x / 2 ≡ k) ⊎ Onward g (x / 2) k → V w
@@ -130,7 +129,7 @@ module _ (g : List Node) (graph : IsGraph g) (V : ℕ → Type 0) where
           supports_and_of from (if place == 49 then f else (if place == 48 then flip f else 0)) y e start
           (supports_choice (place == 49) f (if place == 48 then flip f else 0) fan (supports_choice (place == 48) (flip f) 0 (supports_flip f fan) (supports_constant 0 (omega arith))))
 
-  abbrev AllSupport : List ℕ → Type 0
+  abbrev pub AllSupport : List ℕ → Type 0
   AllSupport fs = (f : ℕ) → Contains fs f → Supports f
 
   supports_cube : (from : ℕ) (places fs : List ℕ) (x : ℕ) → IsCubeOf g from places fs x → Supports from → AllSupport fs → Supports x
@@ -145,7 +144,7 @@ module _ (g : List Node) (graph : IsGraph g) (V : ℕ → Type 0) where
   supports_rows from (row ∷ rows) fs x (y, (z, cube, or), rest) start all =
       supports_rows y rows fs x rest (supports_or_of from z y or start (supports_cube 1 row fs z cube (supports_constant 1 (omega arith)) all)) all
 
-  supports_cover : (cover : Cover) (fs : List ℕ) (x : ℕ) → IsCoverOf g cover fs x → AllSupport fs → Supports x
+  pub supports_cover : (cover : Cover) (fs : List ℕ) (x : ℕ) → IsCoverOf g cover fs x → AllSupport fs → Supports x
   supports_cover cover fs x (y, rows, e) all =
       let inner = supports_rows 0 cover.rows fs y rows (supports_constant 0 (omega arith)) all in
       supports_as (if cover.on then y else flip y) x e (supports_choice cover.on y (flip y) inner (supports_flip y inner))
@@ -177,6 +176,10 @@ pub reached_one : (g : List Node) (roots : List ℕ) (k : ℕ) → IsReached g r
 reached_one g roots k (IsReached.root x h) = (x, h, IsReached.root x (Contains-head x []))
 reached_one g roots k (IsReached.operand n x node reached at reads) = let r = reached_one g roots n reached in (r.0, r.1, IsReached.operand n x node r.2 at reads)
 
+-- no variable is reached from a constant
+pub constant_reaches : (g : List Node) (x : ℕ) → IsGraph g → x < 2 → (k v : ℕ) → IsReached g (x ∷ []) k → slice_get g k ≡ Some (Input v) → ⊥
+constant_reaches g x graph small k v reached at = supports_constant g graph (λ w. ⊥) x small k v (from_one g x reached) at
+
 -- what is reached from a literal is reached from any roots that it is among
 pub reached_among : (g : List Node) (x : ℕ) (roots : List ℕ) → Contains roots x → {k : ℕ} → IsReached g (x ∷ []) k → IsReached g roots k
 reached_among g x roots member (IsReached.root y h) = IsReached.root y (subst (Contains roots) (only x y h) member)
@@ -195,9 +198,8 @@ module _ (g h : List Node) (graph : IsGraph g) (grows : Grows g h) where
 
   pub old_node : (n : ℕ) (node : Node) → n < length g → slice_get h n ≡ Some node → slice_get g n ≡ Some node
   old_node n node inside at =
-      let own = some_at g n inside in
-      let there : slice_get h n ≡ Some own.0 = ap (λ (xs : List Node). slice_get xs n) grows.1 ∙ slice_get-append g grows.0 n own.0 own.1 in
-      subst (λ (z : Node). slice_get g n ≡ Some z) (one_at h n own.0 node there at) own.1
+      let own = slice_get-get_or g n node inside in
+      own ∙ ap Some (same_Some (get_or g n node) node (sym (slice_get-grows g h grows n (get_or g n node) own) ∙ at))
 
   -- a literal of the smaller graph reaches there what it reaches in the greater one
   pub old_reached : (x : ℕ) → x < 2 * length g → {k : ℕ} → IsReached h (x ∷ []) k → (k < length g) × IsReached g (x ∷ []) k
