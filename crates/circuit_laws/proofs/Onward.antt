@@ -139,7 +139,7 @@ module _ {P Q : Type 0} (mode : Mode) (names : List (List ℕ)) (a : Circuit P) 
 pub pairs_agree_onward : {P Q : Type 0} (mode : Mode) (names : List (List ℕ)) (a : Circuit P) (b : Circuit Q) →
     ((name : List ℕ) (p : P) → Contains a.inputs (record { name = name; place = p }) → Contains names name → ⊥) → ((name : List ℕ) (q : Q) → Contains b.inputs (record { name = name; place = q }) → Contains names name → ⊥) →
     ((n : ℕ) (left : ℕ → P → Bool) (right : ℕ → Q → Bool) → AreAlike (cut names a) (cut names b) n left right → (t : ℕ) (p : P) (q : Q) → t < n → IsPair names a b p q →
-        IsSettled mode (cut names a) left t p → IsSettled mode (cut names b) right t q → left t p ≡ right t q) → AgreeOnward mode names a b
+    IsSettled mode (cut names a) left t p → IsSettled mode (cut names b) right t q → left t p ≡ right t q) → AgreeOnward mode names a b
 pairs_agree_onward mode names a b left_clear right_clear pair_same_at n left right alike =
     runs_agree_onward mode names a b left_clear right_clear n left right alike (λ k within cuts t p q h pair lm rm. pair_same_at k left right cuts t p q h pair lm rm)
 

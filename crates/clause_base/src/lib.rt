@@ -5,6 +5,6 @@ mod disjunction;
 mod merge;
 mod variables;
 
-pub use sec_base::{Bits, Ids, MAX_CONFLICTS, NoMemory, Seq};
 pub use disjunction::{Clause, ClauseError, Clauses};
+pub use sec_base::{Bits, Ids, MAX_CONFLICTS, NoMemory, Seq};
 pub use variables::{Literal, Literals};

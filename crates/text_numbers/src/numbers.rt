@@ -4,8 +4,8 @@ ghost use Rattle.std.specs.Prelude.{◌≡◌, true, false, IfOk, MatchOption};
 ghost use Rattle.std.specs.List.{before_first, after_first};
 ghost use Rattle.text_numbers.specs.Numbers.{size_of, number_of, numbers_of, is_zero, has_zero, IsRead};
 
-use sec_base::NoMemory;
 use crate::tokens::{Tokens, begins_with};
+use sec_base::NoMemory;
 
 /// A whole number of at most 9,223,372,036,854,775,807 in size.
 #[derive(Clone, Copy)]
