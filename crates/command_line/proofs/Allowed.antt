@@ -11,7 +11,7 @@ use Rattle.sec_base.specs.declared.settings.Settings.{Settings}
 use Rattle.command_line.specs.declared.task.Task.{Task}
 use Rattle.command_line.specs.declared.task.Task.TheVariants as task
 use Rattle.command_line.specs.command_words.Command.{sec_app, most_conflicts, most_cycles, any_number}
-use Rattle.command_line.specs.Jobs.{task_in, check_in, compared_in, checked_in, begun_in, graph_in, sim_in, replay_in, settle_in, gen_in, lrat_in, cert_in, induct_in, form_in, settings_in, conflicts_in, mode_in, mode_of, refuses_reset, number_of, is_set, with_word, inducted_in, tied_in}
+use Rattle.command_line.specs.Jobs.{task_in, check_in, compared_in, checked_in, begun_in, paired_in, stands_alone, graph_in, sim_in, replay_in, settle_in, gen_in, lrat_in, cert_in, induct_in, form_in, settings_in, conflicts_in, mode_in, mode_of, refuses_reset, number_of, is_set, with_word, inducted_in, tied_in}
 use Rattle.command_line.specs.Allowed.{IsAllowed, JobsAreAllowed}
 
 some_is : {X : Type 0} {x y : X} → Some x ≡ Some y → x ≡ y
@@ -129,16 +129,25 @@ allowed_begun settles a b s None (Some word) (Some z) allowed always job e =
     let cycles = map_some (λ n. task.After a b z n s.conflicts) (number_of most_cycles word) job set.1 in
     subst IsAllowed cycles.2 (allowed.0, few_cycles word cycles.0 cycles.1)
 
+-- or the comparison of the outputs of one name
+allowed_paired : (settles : Bool) (a b : Text) (s : Settings) (assumed cycles after pair : Option Text) → AreAllowed s → (settles ≡ true → s.reset ≡ false) → (job : Task) → paired_in settles a b s assumed cycles after pair ≡ Some job → IsAllowed job
+allowed_paired settles a b s assumed cycles after None allowed always job e = allowed_begun settles a b s assumed cycles after allowed always job e
+allowed_paired settles a b s assumed cycles after (Some pair) allowed always job e =
+    let made = where_true (stands_alone settles assumed cycles after) (Some (task.CheckPair a b pair s)) job e in
+    let here : IsAllowed (task.CheckPair a b pair s) = allowed in
+    subst IsAllowed (some_is made.1) here
+
 allowed_check : (rows : List Row) (job : Task) → check_in rows ≡ Some job → IsAllowed job
 allowed_check rows job e =
     let assumed : Option Text = first_of (codes "assume") rows in
     let settles : Bool = is_set (codes "settles") rows in
     let cycles : Option Text = first_of (codes "cycles") rows in
     let after : Option Text = first_of (codes "after") rows in
-    let a = and_then_some (λ x. with_word (codes "b") rows (λ y. option_and_then (λ s. begun_in settles x y s assumed cycles after) (settings_in rows))) (first_of (codes "a") rows) job e in
-    let b = and_then_some (λ y. option_and_then (λ s. begun_in settles a.0 y s assumed cycles after) (settings_in rows)) (first_of (codes "b") rows) job a.2 in
-    let settings = and_then_some (λ s. begun_in settles a.0 b.0 s assumed cycles after) (settings_in rows) job b.2 in
-    allowed_begun settles a.0 b.0 settings.0 assumed cycles after (allowed_settings rows settings.0 settings.1) (settles_always rows settings.0 settings.1) job settings.2
+    let pair : Option Text = first_of (codes "pair") rows in
+    let a = and_then_some (λ x. with_word (codes "b") rows (λ y. option_and_then (λ s. paired_in settles x y s assumed cycles after pair) (settings_in rows))) (first_of (codes "a") rows) job e in
+    let b = and_then_some (λ y. option_and_then (λ s. paired_in settles a.0 y s assumed cycles after pair) (settings_in rows)) (first_of (codes "b") rows) job a.2 in
+    let settings = and_then_some (λ s. paired_in settles a.0 b.0 s assumed cycles after pair) (settings_in rows) job b.2 in
+    allowed_paired settles a.0 b.0 settings.0 assumed cycles after pair (allowed_settings rows settings.0 settings.1) (settles_always rows settings.0 settings.1) job settings.2
 
 allowed_graph : (rows : List Row) (job : Task) → graph_in rows ≡ Some job → IsAllowed job
 allowed_graph rows job e =

@@ -1,5 +1,5 @@
 -- The job of a command line.
-use Rattle.std.specs.Prelude.{ℕ, ◌==◌, ◌&&◌, ◌||◌, Bool, true, false, if◌then◌else◌, List, length, Option, Some, None, codes, bytes_eq, option_and_then, option_map}
+use Rattle.std.specs.Prelude.{ℕ, ◌==◌, ◌&&◌, ◌||◌, not, Bool, true, false, if◌then◌else◌, List, length, Option, Some, None, is_some, codes, bytes_eq, option_and_then, option_map}
 use Rattle.std.specs.Str.Parse.{digits_value, without_leading_plus}
 use Rattle.circuit_theory.specs.declared.Mode.{Mode}
 use Rattle.circuit_theory.specs.declared.Mode.TheVariants.{Plain, Event}
@@ -74,9 +74,18 @@ abbrev pub begun_in : Bool → Text → Text → Settings → Option Text → Op
 begun_in settles a b settings assumed cycles None = checked_in settles a b settings assumed cycles
 begun_in settles a b settings assumed cycles (Some s) = after_in a b s settings assumed cycles
 
+-- none of `--settles`, `--assume`, `--cycles` and `--after` is given
+abbrev pub stands_alone : Bool → Option Text → Option Text → Option Text → Bool
+stands_alone settles assumed cycles after = not (settles || (is_some assumed || (is_some cycles || is_some after)))
+
+-- the comparison of the outputs of one name, where one is named; it stands beside none of these
+abbrev pub paired_in : Bool → Text → Text → Settings → Option Text → Option Text → Option Text → Option Text → Option Task
+paired_in settles a b settings assumed cycles after None = begun_in settles a b settings assumed cycles after
+paired_in settles a b settings assumed cycles after (Some pair) = if stands_alone settles assumed cycles after then Some (task.CheckPair a b pair settings) else None
+
 abbrev pub check_in : List Row → Option Task
 check_in rows =
-    with_word (codes "a") rows (λ a. with_word (codes "b") rows (λ b. option_and_then (λ settings. begun_in (is_set (codes "settles") rows) a b settings (first_of (codes "assume") rows) (first_of (codes "cycles") rows) (first_of (codes "after") rows)) (settings_in rows)))
+    with_word (codes "a") rows (λ a. with_word (codes "b") rows (λ b. option_and_then (λ settings. paired_in (is_set (codes "settles") rows) a b settings (first_of (codes "assume") rows) (first_of (codes "cycles") rows) (first_of (codes "after") rows) (first_of (codes "pair") rows)) (settings_in rows)))
 
 abbrev pub graph_in : List Row → Option Task
 graph_in rows = with_word (codes "a") rows (λ a. option_map (λ mode. task.Graph a mode) (mode_in rows))
@@ -142,6 +151,6 @@ task_in name rows =
     else None
 
 -- The job of the words: where `clap`'s own definition for the command takes them, the mode or the form is known, and nothing refuses
--- `--reset` or `--cycles`.
+-- `--reset`, `--cycles` or `--pair`.
 abbrev pub job_of : List Text → Option Task
 job_of words = if length (fault_of sec_app words) == 0 then option_and_then (λ met. task_in met.0 met.1) (subcommand_of sec_app words) else None

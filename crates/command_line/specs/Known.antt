@@ -3,7 +3,7 @@ use Rattle.std.specs.Prelude.{◌≡◌, ◌||◌, ◌&&◌, not, Bool, true, fa
 use Rattle.circuit_theory.specs.declared.Mode.TheVariants.{Plain, Event}
 use Rattle.clap.specs.Words.{Row, Text, fault_of, first_of, subcommand_of}
 use Rattle.command_line.specs.command_words.Command.{sec_app}
-use Rattle.command_line.specs.Jobs.{job_of, mode_in, form_in, is_set}
+use Rattle.command_line.specs.Jobs.{job_of, mode_in, form_in, is_set, stands_alone}
 use Rattle.command_line.specs.declared.task.Task.TheVariants as task
 
 -- the cycles aren't given, or `--reset` is, and `--assume` isn't
@@ -19,15 +19,19 @@ cycles_fit rows = cycles_given rows (first_of (codes "cycles") rows)
 abbrev pub after_fits : List Row → Bool
 after_fits rows = not (is_some (first_of (codes "after") rows)) || is_some (first_of (codes "cycles") rows)
 
+-- `--pair` isn't given, or stands beside none of `--settles`, `--assume`, `--cycles` and `--after`
+abbrev pub pair_fits : List Row → Bool
+pair_fits rows = not (is_some (first_of (codes "pair") rows)) || stands_alone (is_set (codes "settles") rows) (first_of (codes "assume") rows) (first_of (codes "cycles") rows) (first_of (codes "after") rows)
+
 -- `--after` isn't given, or stands beside `--signals`
 abbrev pub tied_fits : List Row → Bool
 tied_fits rows = not (is_some (first_of (codes "after") rows)) || is_set (codes "signals") rows
 
 -- The mode among the subcommand's matches is one of the two, and `--reset` may stand beside it; `gen`, `lrat` and `induct` have none, and
--- `cert` has a form in its place. Nothing refuses the cycles of `check`, nor its stimulus, nor that of `induct`.
+-- `cert` has a form in its place. Nothing refuses the cycles of `check`, nor its stimulus, nor its one name, nor the stimulus of `induct`.
 abbrev pub mode_fits : Text → List Row → Bool
 mode_fits name rows =
-    bytes_eq name (codes "gen") || (bytes_eq name (codes "lrat") || (if bytes_eq name (codes "induct") then tied_fits rows else if bytes_eq name (codes "cert") then is_some (form_in rows) else if bytes_eq name (codes "check") then is_some (mode_in rows) && (cycles_fit rows && after_fits rows) else is_some (mode_in rows)))
+    bytes_eq name (codes "gen") || (bytes_eq name (codes "lrat") || (if bytes_eq name (codes "induct") then tied_fits rows else if bytes_eq name (codes "cert") then is_some (form_in rows) else if bytes_eq name (codes "check") then is_some (mode_in rows) && (cycles_fit rows && (after_fits rows && pair_fits rows)) else is_some (mode_in rows)))
 
 -- the mode of the subcommand that the words name is one of the two, and nothing refuses `--reset`
 abbrev pub HasFitMode : List Text → Type 0
@@ -160,3 +164,16 @@ AfterIsNoJob =
     × AreNoJob (codes "check" ∷ codes "a" ∷ codes "b" ∷ codes "--cycles" ∷ codes "20" ∷ codes "--after" ∷ codes "s" ∷ [])
     × AreNoJob (codes "check" ∷ codes "a" ∷ codes "b" ∷ codes "--reset" ∷ codes "--cycles" ∷ codes "20" ∷ codes "--after" ∷ codes "s" ∷ codes "--assume" ∷ codes "c" ∷ [])
     × AreNoJob (codes "induct" ∷ codes "a" ∷ codes "b" ∷ codes "--after" ∷ codes "s" ∷ [])
+
+-- words with `--pair`, and what they ask for
+abbrev pub PairIsTaken : Type 0
+PairIsTaken =
+    AreTaken (codes "check" ∷ codes "a" ∷ codes "b" ∷ codes "--expose" ∷ codes "--pair" ∷ codes "y" ∷ [])
+    × (job_of (codes "check" ∷ codes "--pair" ∷ codes "y" ∷ codes "a" ∷ codes "b" ∷ codes "--reset" ∷ []) ≡ Some (task.CheckPair (codes "a") (codes "b") (codes "y") (record { mode = Plain; expose = false; conflicts = 20000; reset = true })))
+
+-- since `--pair` stands with `--settles`, `--assume` or `--cycles`
+abbrev pub PairIsNoJob : Type 0
+PairIsNoJob =
+    AreNoJob (codes "check" ∷ codes "a" ∷ codes "b" ∷ codes "--pair" ∷ codes "y" ∷ codes "--settles" ∷ [])
+    × AreNoJob (codes "check" ∷ codes "a" ∷ codes "b" ∷ codes "--pair" ∷ codes "y" ∷ codes "--assume" ∷ codes "c" ∷ [])
+    × AreNoJob (codes "check" ∷ codes "a" ∷ codes "b" ∷ codes "--pair" ∷ codes "y" ∷ codes "--reset" ∷ codes "--cycles" ∷ codes "20" ∷ [])

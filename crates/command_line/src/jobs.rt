@@ -1,12 +1,12 @@
 //! From the words to the job.
 
-ghost use Rattle.std.specs.Prelude.{◌≡◌, map, string_bytes, option_map, IfOk, IfSome, IfNone, IsErrOf, None, Some, Option, option_and_then, []};
+ghost use Rattle.std.specs.Prelude.{◌≡◌, map, string_bytes, option_map, IfOk, IfSome, IfNone, IsErrOf, None, Some, Option, option_and_then, [], codes};
 ghost use Rattle.std.specs.Str.Parse.{digits_value, without_leading_plus};
 ghost use Rattle.clap.specs.Words.{fault_of, first_of, found_of, rows_of, subcommand_of, subcommand_rows_of, IsUnsignedIn};
 ghost use Rattle.clap.specs.ValueTests.{accepts};
 ghost use Rattle.clap.specs.declared.builder.value_parser.ValueParser.TheVariants as parser;
 ghost use Rattle.command_line.specs.command_words.Command.{sec_app};
-ghost use Rattle.command_line.specs.Jobs.{job_of, task_in, check_in, compared_in, graph_in, sim_in, replay_in, settle_in, gen_in, lrat_in, cert_in, induct_in, form_in, mode_of, mode_in, refuses_reset, is_set, number_of, conflicts_in, settings_in, checked_in, search_in, after_in, inducted_in, tied_in};
+ghost use Rattle.command_line.specs.Jobs.{job_of, task_in, check_in, compared_in, graph_in, sim_in, replay_in, settle_in, gen_in, lrat_in, cert_in, induct_in, form_in, mode_of, mode_in, refuses_reset, is_set, number_of, conflicts_in, settings_in, checked_in, paired_in, stands_alone, search_in, after_in, inducted_in, tied_in};
 
 use crate::command_words::sec_command;
 use crate::task::Task;
@@ -21,8 +21,8 @@ use std::alloc::{AllocError, Global};
 pub enum WordsError {
     /// `clap`'s definition for the command doesn't take the words, the mode is neither `plain` nor `event`, `--reset` stands with
     /// `event`, with `--expose` or with `--settles`, `--cycles` stands without `--reset` or with
-    /// `--assume`, `--after` without `--cycles` or `--signals`, or the form of a certificate is
-    /// neither `cnf` nor `lrat`.
+    /// `--assume`, `--after` without `--cycles` or `--signals`, `--pair` with `--settles`, `--assume`, `--cycles` or
+    /// `--after`, or the form of a certificate is neither `cnf` nor `lrat`.
     Refused,
     /// Memory was wanted and couldn't be had.
     NoMemory,
@@ -172,6 +172,9 @@ fn check_in(alloc: Global, matches: &ArgMatches<'_>) -> Result<Option<Task>, NoM
     let Some(settings) = settings_in(matches) else {
         return Ok(None);
     };
+    if let Some(pair) = word(matches, "pair") {
+        return paired_in(alloc, matches, a, b, pair, settings);
+    }
     let assumed = word(matches, "assume");
     match word(matches, "after") {
         Some(stimulus) => {
@@ -183,6 +186,40 @@ fn check_in(alloc: Global, matches: &ArgMatches<'_>) -> Result<Option<Task>, NoM
             None => checked_in(alloc, a, b, settings, assumed, is_set(matches, "settles")),
         },
     }
+}
+
+/// Whether none of `--settles`, `--assume`, `--cycles` and `--after` stands.
+fn stands_alone(matches: &ArgMatches<'_>) -> bool
+    ensures { result ≡ stands_alone (is_set (codes "settles") (rows_of (found_of matches.now))) (first_of (codes "assume") (rows_of (found_of matches.now))) (first_of (codes "cycles") (rows_of (found_of matches.now))) (first_of (codes "after") (rows_of (found_of matches.now))) }
+{
+    !(is_set(matches, "settles")
+        || word(matches, "assume").is_some()
+        || word(matches, "cycles").is_some()
+        || word(matches, "after").is_some())
+}
+
+/// The comparison of the outputs of one name. It stands beside none of `--settles`, `--assume`, `--cycles` and `--after`.
+fn paired_in(
+    alloc: Global,
+    matches: &ArgMatches<'_>,
+    a: &str,
+    b: &str,
+    pair: &str,
+    settings: Settings,
+) -> Result<Option<Task>, NoMemory>
+    ensures { IfOk result (λ task. task ≡ paired_in (is_set (codes "settles") (rows_of (found_of matches.now))) a.now b.now settings (first_of (codes "assume") (rows_of (found_of matches.now))) (first_of (codes "cycles") (rows_of (found_of matches.now))) (first_of (codes "after") (rows_of (found_of matches.now))) (Some pair.now)) }
+{
+    if !stands_alone(matches) {
+        return Ok(None);
+    }
+    let pair = Seq::from_vec(pair.as_bytes().to_vec(alloc)?);
+    let (a, b) = paths_of(alloc, a, b)?;
+    Ok(Some(Task::CheckPair {
+        a,
+        b,
+        pair,
+        settings,
+    }))
 }
 
 /// The search behind the rows of the stimulus, up to the cycle that the word spells. It stands only beside `--reset` and `--cycles`, and
@@ -547,7 +584,7 @@ fn matches_of<'a>(alloc: Global, words: &'a [String]) -> Result<ArgMatches<'a>, 
 
 /// The job of the words behind the program's name. `Refused` comes exactly where `clap`'s definition for the command
 /// doesn't take them, the mode is neither `plain` nor `event`, `--reset` stands with `event`, with `--expose` or with `--settles`, `--cycles`
-/// stands without `--reset` or with `--assume`, or the form of a certificate is neither `cnf` nor `lrat`.
+/// stands without `--reset` or with `--assume`, `--pair` with `--settles`, `--assume`, `--cycles` or `--after`, or the form of a certificate is neither `cnf` nor `lrat`.
 pub fn job(alloc: Global, words: &[String]) -> Result<Task, WordsError>
     ensures job { IfOk result (λ task. job_of (map (λ w. string_bytes w) words.now) ≡ Some task) }
     ensures refused { IsErrOf result WordsError.Refused → job_of (map (λ w. string_bytes w) words.now) ≡ None }

@@ -1,10 +1,10 @@
 //! What follows for the words. The functions do nothing: each contract is a law.
 
 ghost use Rattle.command_line.specs.Allowed.{JobsAreAllowed};
-ghost use Rattle.command_line.specs.Known.{TakenWordsAreJob, CheckIsTaken, GraphIsTaken, SimIsTaken, ReplayIsTaken, SettleIsTaken, GenIsTaken, LratIsTaken, CertIsTaken, InductIsTaken, ResetIsTaken, CyclesAreTaken, AfterIsTaken, AssumedIsTaken, CheckSettlesIsTaken, ReplaySettlesIsTaken, SettlesIsRefused, AssumedIsRefused, OtherModeIsNoJob, OtherFormIsNoJob, ResetIsNoJob, CyclesAreNoJob, AfterIsNoJob, SignalsAreTaken};
+ghost use Rattle.command_line.specs.Known.{TakenWordsAreJob, CheckIsTaken, GraphIsTaken, SimIsTaken, ReplayIsTaken, SettleIsTaken, GenIsTaken, LratIsTaken, CertIsTaken, InductIsTaken, ResetIsTaken, CyclesAreTaken, AfterIsTaken, AssumedIsTaken, CheckSettlesIsTaken, ReplaySettlesIsTaken, SettlesIsRefused, AssumedIsRefused, OtherModeIsNoJob, OtherFormIsNoJob, ResetIsNoJob, CyclesAreNoJob, AfterIsNoJob, SignalsAreTaken, PairIsTaken, PairIsNoJob};
 
 /// Words that `clap`'s definition for the command takes are a job wherever their mode is `plain` or `event` and `--reset` stands
-/// neither with `event` nor with `--expose` or `--settles`, and `--cycles` only with `--reset` and without `--assume`, or they name the subcommand `gen`, `lrat` or `induct`, which have no mode, or `cert` with
+/// neither with `event` nor with `--expose` or `--settles`, and `--cycles` only with `--reset` and without `--assume`, and `--pair` without `--settles`, `--assume`, `--cycles` and `--after`, or they name the subcommand `gen`, `lrat` or `induct`, which have no mode, or `cert` with
 /// the form `cnf` or `lrat`. So `job` never refuses such words.
 pub fn taken_words_are_job()
     ensures { TakenWordsAreJob }
@@ -29,7 +29,7 @@ pub fn words_are_taken()
     ensures of_assumed { AssumedIsTaken }
 {}
 
-/// The same of `settle`, of `check` and `replay` with `--settles`, of `check` with `--cycles` and with `--after`, and of
+/// The same of `settle`, of `check` and `replay` with `--settles`, of `check` with `--cycles`, with `--after` and with `--pair`, and of
 /// `induct` with `--signals`.
 pub fn further_words_are_taken()
     ensures of_settle { SettleIsTaken }
@@ -38,6 +38,7 @@ pub fn further_words_are_taken()
     ensures of_cycles { CyclesAreTaken }
     ensures of_after { AfterIsTaken }
     ensures of_signals { SignalsAreTaken }
+    ensures of_pair { PairIsTaken }
 {}
 
 /// Words that `clap`'s definition doesn't take: `--assume` without a path behind it, or twice; `--settles` behind `settle`.
@@ -46,7 +47,7 @@ pub fn refused_words_are_no_job()
     ensures of_settles { SettlesIsRefused }
 {}
 
-/// Words that are taken and are no job: they have another mode or another form, or `--reset`, `--cycles` or `--after` beside what
+/// Words that are taken and are no job: they have another mode or another form, or `--reset`, `--cycles`, `--after` or `--pair` beside what
 /// refuses it.
 pub fn taken_words_are_no_job()
     ensures of_mode { OtherModeIsNoJob }
@@ -54,4 +55,5 @@ pub fn taken_words_are_no_job()
     ensures of_clash { ResetIsNoJob }
     ensures of_cycles { CyclesAreNoJob }
     ensures of_after { AfterIsNoJob }
+    ensures of_pair { PairIsNoJob }
 {}

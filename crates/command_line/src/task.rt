@@ -20,6 +20,13 @@ pub enum Task {
         settings: Settings,
         assumed: Option<FilePath>,
     },
+    /// Compare them with their outputs of this name alone.
+    CheckPair {
+        a: FilePath,
+        b: FilePath,
+        pair: Word,
+        settings: Settings,
+    },
     /// Print the latches of a circuit, their depths and a cycle.
     Graph {
         a: FilePath,
@@ -119,6 +126,12 @@ impl Drop for Task {
                 b: _,
                 settings: _,
                 assumed: _,
+            } => {}
+            Task::CheckPair {
+                a: _,
+                b: _,
+                pair: _,
+                settings: _,
             } => {}
             Task::Graph { a: _, mode: _ } => {}
             Task::Sim {

@@ -18,6 +18,9 @@ use Rattle.job_circuit.proofs.job_replay.Means.{replay_means}
 use Rattle.job_circuit.proofs.job_replay.CompleteReplays.{replay_complete}
 use Rattle.job_check.proofs.check_meaning.Complete.{check_complete}
 use Rattle.job_check.proofs.check_meaning.Means.{check_means}
+use Rattle.job_pair.proofs.Means.{pair_means}
+use Rattle.job_pair.proofs.Complete.{pair_complete}
+use Rattle.job_pair.specs.Found.{check_of}
 use Rattle.job_settles.proofs.Means.{settles_means, settles_complete}
 use Rattle.job_signals.proofs.Means.{signals_means}
 use Rattle.job_signals.proofs.job_tied.Means.{tied_means}
@@ -42,6 +45,7 @@ pub means : (held : Held) (job : Option Task) (before now : Option (List ℕ)) (
 means held None before now f proofs name found w = says_nothing before now f proofs name (subst (λ (g : Finding). SaysNothing (status_of g)) (sym found) tt) w
 means held (Some (task.Check a b settings assumed)) before now f proofs name found w = check_means held (record { left = a; right = b; settings = settings; assumed = assumed }) before now f proofs name found w
 means held (Some (task.CheckSettles a b settings assumed)) before now f proofs name found w = settles_means held (record { left = a; right = b; settings = settings; assumed = assumed }) before now f proofs name found w
+means held (Some (task.CheckPair a b pair settings)) before now f proofs name found w = pair_means held pair (check_of settings a b) before now proofs f name found w
 means held (Some (task.Graph a mode)) before now f proofs name found w = graph_means mode (held a) before now f proofs name found w
 means held (Some (task.Sim a s mode power reset)) before now f proofs name found w = sim_means mode (held a) (held s) power reset before now f proofs name found w
 means held (Some (task.Replay a b s mode settles)) before now f proofs name found w = replay_means (report_with settles) mode (held a) (held b) (held s) before now f proofs name found w
@@ -60,6 +64,7 @@ pub memory_means : (held : Held) (job : Option Task) (before now : Option (List 
 memory_means held None before now proofs = tt
 memory_means held (Some (task.Check a b settings assumed)) before now proofs = tt
 memory_means held (Some (task.CheckSettles a b settings assumed)) before now proofs = tt
+memory_means held (Some (task.CheckPair a b pair settings)) before now proofs = tt
 memory_means held (Some (task.Graph a mode)) before now proofs = tt
 memory_means held (Some (task.Sim a s mode power reset)) before now proofs = tt
 memory_means held (Some (task.Replay a b s mode settles)) before now proofs = tt
@@ -77,6 +82,7 @@ pub fault_means : (held : Held) (job : Option Task) (before now : Option (List �
 fault_means held None before now proofs = tt
 fault_means held (Some (task.Check a b settings assumed)) before now proofs = tt
 fault_means held (Some (task.CheckSettles a b settings assumed)) before now proofs = tt
+fault_means held (Some (task.CheckPair a b pair settings)) before now proofs = tt
 fault_means held (Some (task.Graph a mode)) before now proofs = tt
 fault_means held (Some (task.Sim a s mode power reset)) before now proofs = tt
 fault_means held (Some (task.Replay a b s mode settles)) before now proofs = tt
@@ -95,6 +101,7 @@ is_complete : (held : Held) (job : Option Task) (f : Finding) → IsFinding held
 is_complete held None f found = inl (ap status_of found)
 is_complete held (Some (task.Check a b settings assumed)) f found = check_complete held (record { left = a; right = b; settings = settings; assumed = assumed }) f found
 is_complete held (Some (task.CheckSettles a b settings assumed)) f found = settles_complete held (record { left = a; right = b; settings = settings; assumed = assumed }) f found
+is_complete held (Some (task.CheckPair a b pair settings)) f found = pair_complete held pair settings a b f found
 is_complete held (Some (task.Graph a mode)) f found = graph_complete mode (held a) f found
 is_complete held (Some (task.Sim a s mode power reset)) f found = sim_complete mode (held a) (held s) power reset f found
 is_complete held (Some (task.Replay a b s mode settles)) f found = replay_complete (report_with settles) mode (held a) (held b) (held s) f found
@@ -113,6 +120,7 @@ pub memory_is_complete : (held : Held) (job : Option Task) → IsComplete held j
 memory_is_complete held None = inr refl
 memory_is_complete held (Some (task.Check a b settings assumed)) = λ can. tt
 memory_is_complete held (Some (task.CheckSettles a b settings assumed)) = λ can. tt
+memory_is_complete held (Some (task.CheckPair a b pair settings)) = λ can. tt
 memory_is_complete held (Some (task.Graph a mode)) = λ can. tt
 memory_is_complete held (Some (task.Sim a s mode power reset)) = λ can. tt
 memory_is_complete held (Some (task.Replay a b s mode settles)) = λ can. tt

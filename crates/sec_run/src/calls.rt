@@ -22,6 +22,7 @@ use job_check::{Comparison, check};
 use job_circuit::job_replay::{Replay, ReplayReport, replay_files};
 use job_circuit::{Simulation, simulate, tell_graph};
 use job_gen::{Generation, compare_generated};
+use job_pair::{PairComparison, compare_pair};
 use job_settles::check_settles;
 use job_signals::job_tied::{TiedComparison, compare_tied};
 use job_signals::{SignalComparison, compare_by_signals};
@@ -68,6 +69,20 @@ fn find<S: Shelf>(alloc: Global, task: &Task, shelf: &mut S) -> Result<Finding, 
                 assumed: path_of(assumed),
             };
             check_settles(alloc, &comparison, shelf)
+        }
+        Task::CheckPair {
+            a,
+            b,
+            pair,
+            settings,
+        } => {
+            let comparison = PairComparison {
+                left: a.as_str(),
+                right: b.as_str(),
+                pair: pair.as_slice(),
+                settings: *settings,
+            };
+            compare_pair(alloc, &comparison, shelf)
         }
         Task::Graph { a, mode } => tell_graph(alloc, a.as_str(), *mode, shelf),
         Task::Sim {

@@ -77,6 +77,7 @@ fn words_of<'a>(which: Subcommand) -> (&'a str, &'a [Word<'a>])
                 Word::Flag("settles"),
                 Word::Cycles,
                 Word::Option("after"),
+                Word::Option("pair"),
             ],
         ),
         Subcommand::Graph => ("graph", &[Word::Place("a"), MODE]),

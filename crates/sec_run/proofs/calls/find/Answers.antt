@@ -14,6 +14,15 @@ use Rattle.sec_run.proofs.calls.find.Goals as goal
 pub check-requires-clause-uncut : goal.check-requires-clause-uncut
 check-requires-clause-uncut g c = (subst IsAllowed c.in-Check.is c.requires).1
 
+pub compare_pair-requires-clause-plain : goal.compare_pair-requires-clause-plain
+compare_pair-requires-clause-plain g c = (subst IsAllowed c.in-CheckPair.is c.requires).2
+
+pub compare_pair-requires-clause-uncut : goal.compare_pair-requires-clause-uncut
+compare_pair-requires-clause-uncut g c = (subst IsAllowed c.in-CheckPair.is c.requires).1
+
+pub compare_pair-requires-clause-conflicts : goal.compare_pair-requires-clause-conflicts
+compare_pair-requires-clause-conflicts g c = (subst IsAllowed c.in-CheckPair.is c.requires).0
+
 pub check_settles-requires-clause-always : goal.check_settles-requires-clause-always
 check_settles-requires-clause-always g c = (subst IsAllowed c.in-CheckSettles.is c.requires).1
 

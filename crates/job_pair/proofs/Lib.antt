@@ -1,0 +1,5 @@
+pub mod Alone
+pub mod Complete
+pub mod Finds
+pub mod Means
+pub mod Examples

@@ -1,0 +1,5 @@
+pub mod Found
+pub mod Ends
+pub mod Says
+pub mod Answer
+pub mod Examples

@@ -1,0 +1,42 @@
+use Rattle.std.proofs.Common.{◌≡◌, ◌∙◌, ◌+◌, ◌++◌, ℕ, suc, Bool, true, List, map, take, drop, set, replicate, length, slice_get, sym, ap, arith}
+use Rattle.std.proofs.lemmas.List.{length-map, take_all}
+use Rattle.std.proofs.lemmas.Option.{slice_get_within}
+use Rattle.flat_net.specs.declared.parts.LatchAt.{LatchAt}
+use Rattle.flat_net.specs.Makes.{MakerView, with_next}
+use Rattle.flat_net.specs.View.{NetView}
+use Rattle.net_assembly.proofs.Nexts.{set_more}
+use Rattle.net_names.specs.Fronts.{begun}
+use Rattle.net_names.proofs.Copies.{item_at, next_step}
+use Rattle.net_names.proofs.alone.set_nexts.Goals as goal
+
+latches_long : (ls : List LatchAt) → length (map begun (take (length ls) ls)) ≡ length ls
+latches_long ls = length-map (take (length ls) ls) begun ∙ ap length (take_all (length ls) ls (omega arith))
+
+pub set_next-requires-clause-within : goal.set_next-requires-clause-within
+set_next-requires-clause-within c =
+    let n = c.args.net.now in
+    let at = item_at n.latches _ c.loop-latch.latch-index c.latch-item.result c.latches-latch-items.ensures c.loop-latch-test.true c.latch-item.is in
+    let low = (c.keeps.ensures.sound.latches c.loop-latch.latch-index c.latch-item.result at).within in
+    let long = ap (λ (m : NetView). length m.drivers) (c.loop-latch.invariant.net) ∙ ap (λ (m : NetView). length m.drivers) c.requires.made ∙ ap length (take_all (length n.inputs + length n.latches + length n.gates) n.drivers (omega (arith, c.requires.whole))) in
+    omega (arith, low, long)
+
+pub loop-latch-preserved : goal.loop-latch-preserved
+loop-latch-preserved c =
+    let n = c.args.net.now in
+    let j = c.loop-latch.latch-index in
+    let first = c.args.maker.now in
+    let at = item_at n.latches _ j c.latch-item.result c.latches-latch-items.ensures c.loop-latch-test.true c.latch-item.is in
+    let within = slice_get_within n.latches j c.latch-item.result at in
+    let own = (c.keeps.ensures.sound.latches j c.latch-item.result at).owner in
+    let drivers = ap (λ (m : NetView). slice_get m.drivers c.latch-item.result.out.0) c.loop-latch.invariant.net ∙ ap (λ (m : NetView). slice_get m.drivers c.latch-item.result.out.0) c.requires.made
+    ∙ ap (λ ds. slice_get ds c.latch-item.result.out.0) (take_all (length n.inputs + length n.latches + length n.gates) n.drivers (omega (arith, c.requires.whole))) ∙ own in
+    let is = c.set_next.ensures j drivers in
+    let marks : length first.set ≡ length n.latches =
+    c.keeps-2.ensures.set ∙ ap (λ (m : NetView). length m.latches) c.requires.made ∙ latches_long n.latches in
+    let next : j + 1 ≡ suc j = omega arith in
+    record {
+      net = ap (λ (m : MakerView). m.net) is ∙ ap (λ (m : NetView). with_next m j c.latch-item.result.next) c.loop-latch.invariant.net
+          ∙ ap (λ (ls : List LatchAt). let m : NetView = record first.net { latches = ls } in m) (next_step n.latches j c.latch-item.result at ∙ ap (λ (k : ℕ). take k n.latches ++ map begun (drop k n.latches)) (sym next));
+      set = ap (λ (m : MakerView). m.set) is ∙ ap (λ (bs : List Bool). set bs j true) c.loop-latch.invariant.set ∙ set_more j first.set (omega (arith, within, marks)) ∙ ap (λ (k : ℕ). replicate k true ++ drop k first.set) (sym next);
+      few = omega (arith, within);
+    }
