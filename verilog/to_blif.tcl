@@ -1,7 +1,7 @@
 # What sec-verilog tells Yosys of a design, behind the lines that read its files and set `top`, `blif`, `facts`, `resets`,
 # `scratch`, `x`, `clocks`, `boxes`, `box_memories` and `flops`, the most bits that a memory may have.
 # It writes the design to the file `blif`, and to `facts` what it takes for granted: a line `x PLACE` for each place of the Verilog that
-# gives x or z, a line `undriven NET` for each bit that something reads and nothing drives, and lines `box CELL ..` for each cell that is a box.
+# gives x or z, `twice NET` for a net that is assigned twice, a line `undriven NET` for each bit that something reads and nothing drives, and lines `box CELL ..` for each cell that is a box.
 # Of a memory that is too large it writes `large ..` alone, and ends.
 
 # The lines of a text file.
@@ -109,6 +109,17 @@ proc expose_undriven {scratch} {
     lappend names $name
   }
   return $names
+}
+
+# The nets of a design without processes that are assigned twice as they stand, which Yosys makes one with what is assigned to them.
+proc assigned_twice {scratch} {
+  yosys tee -q -o $scratch dump
+  set found {}
+  foreach line [lines_of $scratch] {
+    if {![regexp {^  connect (\\\S+(?: \[[\d:]+\])?) } $line -> net]} continue
+    if {[incr count($net)] == 2} { lappend found [string map {" " ""} [string trimleft $net \\]] }
+  }
+  return $found
 }
 
 # The memories of a design, before they are mapped: for each its name, its width and its words.
@@ -236,6 +247,7 @@ keep_boxes $boxes
 yosys proc
 yosys flatten
 set out [open $facts w]
+foreach net [assigned_twice $scratch] { puts $out "twice $net" }
 set cells [cells_with_x $scratch]
 if {$x eq "0"} { yosys setundef -zero }
 if {$x eq "1"} { yosys setundef -one }
