@@ -84,6 +84,35 @@ tell_cone() {
   say "$pair depends on: ${told[0]}"
 }
 
+# The report of a frame with the run that it is as its verdict, as sec-waves draws it: as_run REPORT REPLAYED
+as_run() {
+  local name line
+  name=$(sed -n 's/^verdict not-shown events \([^ ]*\) values .*/\1/p' "$1" | tail -n 1)
+  line=$(NAME=$name awk '$1 == "cycle" && $3 == "pair" && $4 == ENVIRON["NAME"] { told = "verdict different " $4 " cycle " $2 " values " $6 " " $7 } END { print told }' "$2")
+  [ -n "$line" ] || return 1
+  sed -n '/^inputs [0-9]*$/p; /^latches /p; /^classes /p' "$1"
+  echo "$line"
+  cat "$folder/rows"
+}
+
+# Draws what a report shows, and makes a sequence shorter, where there is a folder for it: draw REPORT OLD NEW OF_STATUS
+draw() {
+  local told=$1
+  grep -q '^verdict different\|^verdict not-shown \(cut\|events\)' "$told" || return 0
+  if [ -z "$keep" ]; then
+    say "with --keep FOLDER the counterexample is drawn as waves, and made shorter"
+    return 0
+  fi
+  if [ "$told" != "$4" ]; then
+    as_run "$told" "$4" > "$scratch/as_run" && told=$scratch/as_run
+  elif grep -q '^verdict different' "$told" && shorten "$told" "$2" "$3"; then
+    say "$folder/rows: $(sed 's/^sec-shorten: //' "$scratch/shortened")"
+  fi
+  if command -v python3 >/dev/null; then
+    "$here/sec-waves" "$told" "$2" "$3" -o "$folder/waves.vcd"
+  fi
+}
+
 # Prints the reports, that of the status last, and what was taken for granted behind them, and ends.
 finish() {
   local index decides
@@ -103,18 +132,7 @@ finish() {
   case ${statuses[decides]} in
     [123]) tell_cone "$(shown_report "$decides")" "${files[2 * decides]}" "${files[2 * decides + 1]}" ;;
   esac
-  if grep -q '^verdict different\|^verdict not-shown cut' "${reports[decides]}"; then
-    if [ -z "$keep" ]; then
-      say "with --keep FOLDER the counterexample is drawn as waves, and made shorter"
-      exit "${statuses[decides]}"
-    fi
-    if grep -q '^verdict different' "${reports[decides]}" && shorten "${reports[decides]}" "${files[2 * decides]}" "${files[2 * decides + 1]}"; then
-      say "$folder/rows: $(sed 's/^sec-shorten: //' "$scratch/shortened")"
-    fi
-    if command -v python3 >/dev/null; then
-      "$here/sec-waves" "${reports[decides]}" "${files[2 * decides]}" "${files[2 * decides + 1]}" -o "$folder/waves.vcd"
-    fi
-  fi
+  draw "$(shown_report "$decides")" "${files[2 * decides]}" "${files[2 * decides + 1]}" "${reports[decides]}"
   exit "${statuses[decides]}"
 }
 

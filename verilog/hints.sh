@@ -73,6 +73,7 @@ hint() {
     'refused '?' TwoClocks '* | 'refused '?' TwoEdges '* | 'refused '?' GatedClock '* | 'refused '?' ClockRead '*)
       echo "sec-verilog --clocks compares designs with several clocks, both edges, gates before clocks, or a clock that is read"
       ;;
+    'refused '?' UnknownModel $mem'*) echo "a memory that Yosys doesn't map, as one that several clocks write: sec-verilog --box-memories 0 compares its pins, with --clocks where there are several" ;;
     'refused '?' UnknownModel '*) echo "a cell or a box: sec-verilog --cells or --liberty reads the models of cells, --box NAME leaves a box closed" ;;
     'refused '?' line '*' Unsupported .gate') echo "a mapped network: unmap in ABC before write_blif, or sec-verilog --liberty" ;;
     'refused '?' Undriven '*) echo "write_blif -noalias in Yosys writes no buffers of names that have lost their driver" ;;
