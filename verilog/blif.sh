@@ -53,7 +53,7 @@ script() {
   echo "set clocks {$is_clocked}"
   printf 'set boxes [list'
   for it in "${boxes[@]}"; do printf ' %s' "$(quoted "$it")"; done
-  printf ']\nset box_memories {%s}\nset flops %s\n' "$box_memories" "$most_flops"
+  printf ']\nset box_memories {%s}\nset flops %s\nset slow 8192\nset side {%s}\n' "$box_memories" "$most_flops" "${name%.x?}"
   echo "set scratch $(quoted "$scratch/yosys")"
   for it in resets.v blif:"$name.blif" facts:"$name.facts"; do
     echo "set ${it%%[.:]*} $(quoted "$folder/${it#*:}")"
@@ -142,13 +142,15 @@ look_at_boxes() {
 
 # Runs Yosys on one design, and tells what it warns of: by_yosys NAME TOP X FILE..
 by_yosys() {
-  local name=$1 at=$folder/$1 side=${1%.x?} is_large
+  local name=$1 at=$folder/$1 side=${1%.x?} is_large status
   script "$@" > "$at.tcl" || exit 73
   ticking "yosys on the $side design"
-  yosys -Q -T -c "$at.tcl" > "$at.log" 2>&1 < /dev/null
-  is_large=$?
+  yosys -Q -T -c "$at.tcl" 3>&2 > "$at.log" 2>&1 < /dev/null &
+  awaited $!
+  status=$?
   ticked
-  if [ "$is_large" -ne 0 ] || [ ! -s "$at.blif" ]; then
+  [ "$status" -lt 128 ] || interrupted "$status" /dev/null
+  if [ "$status" -ne 0 ] || [ ! -s "$at.blif" ]; then
     is_large=$(sed -n 's/^large //p' "$at.facts" 2>/dev/null)
     [ -z "$is_large" ] || stop 4 "refused: in the $side design memory $is_large flip-flops, above $most_flops; --box-memories N makes memories above N bits boxes"
     grep -h -B 1 '^ERROR\|: ERROR' "$at.log" | grep -v '^--$\|^$\|TCL interpreter' >&2 || tail -n 5 "$at.log" >&2
@@ -162,7 +164,7 @@ by_yosys() {
   ! grep -q '^box ' "$at.facts" || hide_box_clocks "$at"
   # What a selection doesn't find is no news, and what has no driver is told behind the report.
   grep -h '^Warning' "$at.log" | grep -v 'did not match any\|is used but has no driver' | awk '!seen[$0]++' | sed "s/^/sec-verilog: $side: /" >&2
-  sed -n "s/^twice \(.*\)/sec-verilog: $side: \1 is assigned twice/p" "$at.facts" >&2
+  sed -n "s/^twice \(.*\)/sec-verilog: $side: \1 is assigned twice/p; s/^formal \([1-9][0-9]*\)/sec-verilog: $side: \1 assertions, assumptions and the like aren't looked at/p" "$at.facts" >&2
   if grep -q '^Replacing .*([$]_\(DLATCH\|SR\|ALDFF\|DFFSR\)' "$at.log"; then
     say "$side: latches, or asynchronous loads, are compared at the clock's edges alone"
   elif [ -z "$is_clocked" ] && grep -q '^Using template .*reset_[PN][PN][01]' "$at.log"; then

@@ -29,17 +29,9 @@ interrupted() {
   exit "$1"
 }
 
-# Runs sec, or sec-pairs where the first word is `pairs`, which a signal to this script reaches as well: sec_to FILE WORDS..
-bound=() told_files=()
-sec_to() {
-  local file=$1 child status bounds=("${bound[@]}") tool
-  shift
-  tool=("$here/sec" "$@")
-  [ "$1" != pairs ] || tool=("$here/sec-pairs" "${@:2}")
-  [ -z "$seconds" ] || [ "${#bound[@]}" -gt 0 ] || bounds=(timeout "$seconds")
-  [ "$1" = pairs ] || ticking "$(asked_words "$@")"
-  "${bounds[@]}" "${tool[@]}" > "$file" < /dev/null &
-  child=$!
+# Waits for a child, which a signal to this script reaches as well: awaited CHILD
+awaited() {
+  local child=$1 status
   trap 'kill -TERM "$child" 2>/dev/null' TERM HUP INT
   wait "$child"
   status=$?
@@ -48,6 +40,21 @@ sec_to() {
     status=$?
   done
   trap - TERM HUP INT
+  return "$status"
+}
+
+# Runs sec, or sec-pairs where the first word is `pairs`, which a signal to this script reaches as well: sec_to FILE WORDS..
+bound=() told_files=()
+sec_to() {
+  local file=$1 status bounds=("${bound[@]}") tool
+  shift
+  tool=("$here/sec" "$@")
+  [ "$1" != pairs ] || tool=("$here/sec-pairs" "${@:2}")
+  [ -z "$seconds" ] || [ "${#bound[@]}" -gt 0 ] || bounds=(timeout "$seconds")
+  [ "$1" = pairs ] || ticking "$(asked_words "$@")"
+  "${bounds[@]}" "${tool[@]}" > "$file" < /dev/null &
+  awaited $!
+  status=$?
   ticked
   [ "$status" -lt 128 ] || interrupted "$status" "$file"
   if [ "$status" -eq 124 ] && [ "${#bound[@]}" -eq 0 ]; then
