@@ -56,6 +56,63 @@ deciding() {
   echo "$found"
 }
 
+# Tells what the pair of a verdict depends on in both files, and keeps it: tell_cone REPORT OLD NEW
+tell_cone() {
+  local pair name is_next='' exposed side file told=() only
+  pair=$(sed -n 's/^verdict different \([^ ]*\) .*/\1/p; s/^verdict not-shown \(cut\|events\) \(next [^ ]*\|[^ ]*\) .*/\2/p; s/^verdict limit \(next [^ ]*\|[^ ]*\) conflicts .*/\1/p' "$1" | tail -n 1)
+  case $pair in
+    '' | recover | class | assume | blocks) return 0 ;;
+    'next '*) is_next=1 ;;
+  esac
+  name=${pair#next } exposed=$(sed -n 's/^exposed [0-9]* //p' "$1" | tail -n 1)
+  for side in old new; do
+    file=$2
+    [ "$side" = old ] || file=$3
+    NAME=$name EXPOSED=$exposed awk -v is_next="$is_next" -f "$parts/cone.awk" -- "$file" > "$scratch/cone.$side" || exit 73
+    told+=("$(awk '{ if ($1 == "gates") gates = $2; else count[$1]++ } END { print count["input"] + 0 " inputs, " count["flip-flop"] + 0 " flip-flops, " gates " gates" }' "$scratch/cone.$side")")
+  done
+  {
+    grep -v '^gates ' "$scratch/cone.old" | sed 's/^/old /'
+    grep -v '^gates ' "$scratch/cone.new" | sed 's/^/new /'
+  } > "$folder/cone"
+  if [ "${told[0]}" = "${told[1]}" ]; then told=("old and new ${told[0]}"); else told=("old ${told[0]}; new ${told[1]}"); fi
+  for side in old new; do
+    only=$(comm "$([ "$side" = old ] && echo -23 || echo -13)" <(grep -v '^gates ' "$scratch/cone.old" | sort) <(grep -v '^gates ' "$scratch/cone.new" | sort) | sed 's/^input //; s/^flip-flop //')
+    # shellcheck disable=SC2086
+    [ -z "$only" ] || told[0]+="; in $side alone $(some $only)"
+  done
+  say "$pair depends on: ${told[0]}"
+}
+
+# The report of a frame with the run that it is as its verdict, as sec-waves draws it: as_run REPORT REPLAYED
+as_run() {
+  local name line
+  name=$(sed -n 's/^verdict not-shown events \([^ ]*\) values .*/\1/p' "$1" | tail -n 1)
+  line=$(NAME=$name awk '$1 == "cycle" && $3 == "pair" && $4 == ENVIRON["NAME"] { told = "verdict different " $4 " cycle " $2 " values " $6 " " $7 } END { print told }' "$2")
+  [ -n "$line" ] || return 1
+  sed -n '/^inputs [0-9]*$/p; /^latches /p; /^classes /p' "$1"
+  echo "$line"
+  cat "$folder/rows"
+}
+
+# Draws what a report shows, and makes a sequence shorter, where there is a folder for it: draw REPORT OLD NEW OF_STATUS
+draw() {
+  local told=$1
+  grep -q '^verdict different\|^verdict not-shown \(cut\|events\)' "$told" || return 0
+  if [ -z "$keep" ]; then
+    say "with --keep FOLDER the counterexample is drawn as waves, and made shorter"
+    return 0
+  fi
+  if [ "$told" != "$4" ]; then
+    as_run "$told" "$4" > "$scratch/as_run" && told=$scratch/as_run
+  elif grep -q '^verdict different' "$told" && shorten "$told" "$2" "$3"; then
+    say "$folder/rows: $(sed 's/^sec-shorten: //' "$scratch/shortened")"
+  fi
+  if command -v python3 >/dev/null; then
+    "$here/sec-waves" "$told" "$2" "$3" -o "$folder/waves.vcd"
+  fi
+}
+
 # Prints the reports, that of the status last, and what was taken for granted behind them, and ends.
 finish() {
   local index decides
@@ -68,20 +125,30 @@ finish() {
   } > "$folder/report" || exit 73
   notes "${pairs[decides]}" > "$folder/notes" || exit 73
   cat "$folder/report" || exit 7
+  case ${statuses[decides]} in
+    4 | 9) tell_next "$(head -n 1 "${reports[decides]}")" ;;
+  esac
   sed 's/^/sec-verilog: /' "$folder/notes" >&2
-  if grep -q '^verdict different\|^verdict not-shown cut' "${reports[decides]}"; then
-    if [ -z "$keep" ]; then
-      say "with --keep FOLDER the counterexample is drawn as waves, and made shorter"
-      exit "${statuses[decides]}"
-    fi
-    if grep -q '^verdict different' "${reports[decides]}" && shorten "${reports[decides]}" "${files[2 * decides]}" "${files[2 * decides + 1]}"; then
-      say "$folder/rows: $(sed 's/^sec-shorten: //' "$scratch/shortened")"
-    fi
-    if command -v python3 >/dev/null; then
-      "$here/sec-waves" "${reports[decides]}" "${files[2 * decides]}" "${files[2 * decides + 1]}" -o "$folder/waves.vcd"
-    fi
-  fi
+  case ${statuses[decides]} in
+    [123]) tell_cone "$(shown_report "$decides")" "${files[2 * decides]}" "${files[2 * decides + 1]}" ;;
+  esac
+  draw "$(shown_report "$decides")" "${files[2 * decides]}" "${files[2 * decides + 1]}" "${reports[decides]}"
   exit "${statuses[decides]}"
+}
+
+# Behind a refusal, what may be done next; of ports and names tell_alone has told it.
+tell_next() {
+  local it file=$a
+  case $1 in
+    'refused B '*) file=$b ;;
+    'refused Interface '* | 'unpaired '*) return 0 ;;
+  esac
+  hint "$1" " ${check[*]} " "$a" "$b" "$file" | while IFS= read -r it; do say "$it"; done
+}
+
+# The report that has what is shown: behind a frame that is a run the report of replay has no verdict, and the frame's is the one before.
+shown_report() {
+  if grep -q '^verdict' "${reports[$1]}" || [ "$1" -eq 0 ]; then echo "${reports[$1]}"; else echo "${reports[$1 - 1]}"; fi
 }
 
 # Tells of flip-flops that the last answer rests on.
@@ -138,6 +205,7 @@ compare() {
     [ "$(sum_of free)" -eq 0 ] || start+="; the $(sum_of free) flip-flops that have none begin with 0 or 1, each by itself"
   else
     from_any_power_up
+    look_at_simplest
     from=$(answer_of "$report")
     look_at_frame
     [ -z "$ran" ] || from="different ($ran)"

@@ -5,7 +5,7 @@
 clear_folder() {
   local name
   [ -d "$keep" ] || return 0
-  for name in {old,new}{,.x0,.x1}.{blif,tcl,log,facts} resets.v report rows notes waves.vcd waves.gtkw; do
+  for name in {old,new}{,.x0,.x1}.{blif,tcl,log,facts} resets.v assume.blif report rows notes cone waves.vcd waves.gtkw; do
     rm -f "$keep/$name"
   done
 }
@@ -53,12 +53,38 @@ script() {
   echo "set clocks {$is_clocked}"
   printf 'set boxes [list'
   for it in "${boxes[@]}"; do printf ' %s' "$(quoted "$it")"; done
-  printf ']\nset box_memories {%s}\nset flops %s\n' "$box_memories" "$most_flops"
+  printf ']\nset box_memories {%s}\nset flops %s\nset slow 8192\nset side {%s}\n' "$box_memories" "$most_flops" "${name%.x?}"
   echo "set scratch $(quoted "$scratch/yosys")"
   for it in resets.v blif:"$name.blif" facts:"$name.facts"; do
     echo "set ${it%%[.:]*} $(quoted "$folder/${it#*:}")"
   done
   cat "$parts/to_blif.tcl"
+}
+
+# An assumption in Verilog is brought to BLIF, and this file is the word of check. Its top module is the one that no other has as a part.
+take_assumption() {
+  local at it sv=''
+  for at in "${!check[@]}"; do
+    it=${check[at]}
+    case $it in
+      --assume=*.v | --assume=*.sv) it=${it#*=} ;;
+      *.v | *.sv) [ "$at" -gt 0 ] && [ "${check[at - 1]}" = --assume ] || continue ;;
+      *) continue ;;
+    esac
+    [ "${it##*.}" != sv ] || sv=' -sv'
+    {
+      echo "yosys read_verilog$sv $(quoted "$it")"
+      echo 'yosys hierarchy -check -auto-top'
+      echo 'yosys synth -flatten'
+      echo 'yosys opt_clean -purge'
+      echo "yosys write_blif -noalias $(quoted "$folder/assume.blif")"
+    } > "$scratch/assume.tcl"
+    if ! yosys -Q -T -c "$scratch/assume.tcl" > "$scratch/assume.log" 2>&1 < /dev/null || [ ! -s "$folder/assume.blif" ]; then
+      grep '^ERROR\|: ERROR' "$scratch/assume.log" | grep -v 'TCL interpreter' >&2
+      stop 65 "yosys refuses the assumption $it"
+    fi
+    if [ "$it" = "${check[at]}" ]; then check[at]=$folder/assume.blif; else check[at]=--assume=$folder/assume.blif; fi
+  done
 }
 
 # What the flip-flops of a BLIF file say: each clock with its edge, and how many have no clock, an initial value, or none.
@@ -116,21 +142,33 @@ look_at_boxes() {
 
 # Runs Yosys on one design, and tells what it warns of: by_yosys NAME TOP X FILE..
 by_yosys() {
-  local name=$1 at=$folder/$1 side=${1%.x?} is_large
+  local name=$1 at=$folder/$1 side=${1%.x?} is_large status
   script "$@" > "$at.tcl" || exit 73
-  if ! yosys -Q -T -c "$at.tcl" > "$at.log" 2>&1 < /dev/null || [ ! -s "$at.blif" ]; then
+  ticking "yosys on the $side design"
+  yosys -Q -T -c "$at.tcl" 3>&2 > "$at.log" 2>&1 < /dev/null &
+  awaited $!
+  status=$?
+  ticked
+  [ "$status" -lt 128 ] || interrupted "$status" /dev/null
+  if [ "$status" -ne 0 ] || [ ! -s "$at.blif" ]; then
     is_large=$(sed -n 's/^large //p' "$at.facts" 2>/dev/null)
     [ -z "$is_large" ] || stop 4 "refused: in the $side design memory $is_large flip-flops, above $most_flops; --box-memories N makes memories above N bits boxes"
     grep -h -B 1 '^ERROR\|: ERROR' "$at.log" | grep -v '^--$\|^$\|TCL interpreter' >&2 || tail -n 5 "$at.log" >&2
     rm -f "$at.blif" "$at.facts"
+    if [ -z "$sv" ] && grep -q "ERROR: syntax error\|resolve task name .*assert\|resolve task name .*assume" "$at.log"; then
+      say "a file is read as SystemVerilog with -sv, or where its name ends with .sv"
+    fi
     stop 65 "yosys refuses the $side design"
   fi
   mv "$scratch/yosys.names" "$scratch/$name.names" || exit 73
   ! grep -q '^box ' "$at.facts" || hide_box_clocks "$at"
   # What a selection doesn't find is no news, and what has no driver is told behind the report.
-  grep -h '^Warning' "$at.log" | grep -v 'did not match any\|is used but has no driver' | sed "s/^/sec-verilog: $side: /" >&2
+  grep -h '^Warning' "$at.log" | grep -v 'did not match any\|is used but has no driver' | awk '!seen[$0]++' | sed "s/^/sec-verilog: $side: /" >&2
+  sed -n "s/^twice \(.*\)/sec-verilog: $side: \1 is assigned twice/p; s/^formal \([1-9][0-9]*\)/sec-verilog: $side: \1 assertions, assumptions and the like aren't looked at/p" "$at.facts" >&2
   if grep -q '^Replacing .*([$]_\(DLATCH\|SR\|ALDFF\|DFFSR\)' "$at.log"; then
     say "$side: latches, or asynchronous loads, are compared at the clock's edges alone"
+  elif [ -z "$is_clocked" ] && grep -q '^Using template .*reset_[PN][PN][01]' "$at.log"; then
+    say "$side: asynchronous resets are compared at the clock's edges alone; --clocks lets them work at once"
   fi
 }
 

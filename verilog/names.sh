@@ -42,9 +42,15 @@ map_words='
     if (place < 0 || substr(rest, place + 1) != new_piece[line, count]) return ""
     return to substr(rest, 1, place) old_piece[line, count]
   }
-  function mapped(name,   line, to) {
+  function mapped(name,   line, to, suffix) {
     for (line = 1; line <= lines; line++)
       if ((to = by_line(line, name)) != "") { line_of = line; return to }
+    # What is said of a net is said of the flip-flop before its reset, too.
+    if (match(name, /\.flop\.[a-z_]+$/)) {
+      suffix = substr(name, RSTART)
+      to = mapped(substr(name, 1, RSTART - 1))
+      return to == "" ? "" : to suffix
+    }
     return ""
   }'
 
@@ -73,6 +79,29 @@ read_words='
   { copied = $1 == ".names" && NF == 3 ? $3 : ""; source = $2 }
   $1 ~ /^\./ { for (at = 2; at <= NF; at++) used[side, $at] = 1 }
   $1 == ".latch" { latches[side, ++count[side]] = $3 }
+  # A flip-flop that Yosys knows as a part of a cell, as `B.flop.kept` behind a reset, is so of each name of the net B.
+  function gather_parts(   at, name, base, suffix, of_base, suffixes, parts, it, known) {
+    for (at = 1; at <= count[side]; at++) {
+      name = latches[side, at]
+      if (!match(name, /\.flop\.[a-z_]+$/)) continue
+      base = root(side, substr(name, 1, RSTART - 1))
+      suffix = substr(name, RSTART)
+      suffixes[base] = suffixes[base] " " suffix
+      of_base[base, suffix] = name
+    }
+    known = alias_count[side]
+    for (at = 1; at <= known; at++) {
+      base = root(side, aliases[side, at])
+      if (aliases[side, at] ~ /^\$/ || !(base in suffixes)) continue
+      split(suffixes[base], parts, " ")
+      for (it in parts) {
+        name = aliases[side, at] parts[it]
+        if ((side, name) in named || (side, name) in used) continue
+        named[side, name] = of_base[base, parts[it]]
+        aliases[side, ++alias_count[side]] = name
+      }
+    }
+  }
   function gather(   it, at, name, latch) {
     split("old new", sides)
     for (it = 1; it <= 2; it++) {
@@ -84,6 +113,7 @@ read_words='
         latch = of[side, root(side, name)]
         if (latch != "" && name !~ /^\$/ && (!((side, name) in used) || copy[side, name] == latch)) named[side, name] = latch
       }
+      gather_parts()
     }
   }'
 

@@ -1,14 +1,37 @@
 # shellcheck shell=bash disable=SC2154
 # What is asked of two BLIF files, `$a` and `$b`. Read by sec-verilog.
 
-# Runs sec, which a signal to this script reaches as well: sec_to FILE WORDS..
-bound=()
-sec_to() {
-  local file=$1 child status bounds=("${bound[@]}")
-  shift
-  [ -z "$seconds" ] || [ "${#bound[@]}" -gt 0 ] || bounds=(timeout "$seconds")
-  "${bounds[@]}" "$here/sec" "$@" > "$file" < /dev/null &
-  child=$!
+# On a terminal: what takes how long, until `ticked`: ticking WHAT..
+ticker=''
+ticking() {
+  local begun=$SECONDS
+  [ -t 2 ] || return 0
+  while sleep 1; do
+    printf '\rsec-verilog: %.60s, %d s\033[K' "$*" "$((SECONDS - begun))" >&2
+  done &
+  ticker=$!
+}
+
+ticked() {
+  [ -n "$ticker" ] || return 0
+  kill "$ticker" 2>/dev/null
+  wait "$ticker" 2>/dev/null
+  ticker=''
+  printf '\r\033[K' >&2
+}
+
+# At an interrupt what was answered is kept, where a folder is: interrupted STATUS FILE
+interrupted() {
+  if [ -n "$keep" ]; then
+    cat "${told_files[@]}" "$2" > "$folder/report" 2>/dev/null
+    say "interrupted; $folder/report has what was answered until then"
+  fi
+  exit "$1"
+}
+
+# Waits for a child, which a signal to this script reaches as well: awaited CHILD
+awaited() {
+  local child=$1 status
   trap 'kill -TERM "$child" 2>/dev/null' TERM HUP INT
   wait "$child"
   status=$?
@@ -17,12 +40,43 @@ sec_to() {
     status=$?
   done
   trap - TERM HUP INT
-  [ "$status" -lt 128 ] || exit "$status"
+  return "$status"
+}
+
+# Runs sec, or sec-pairs where the first word is `pairs`, which a signal to this script reaches as well: sec_to FILE WORDS..
+bound=() told_files=()
+sec_to() {
+  local file=$1 status bounds=("${bound[@]}") tool
+  shift
+  tool=("$here/sec" "$@")
+  [ "$1" != pairs ] || tool=("$here/sec-pairs" "${@:2}")
+  [ -z "$seconds" ] || [ "${#bound[@]}" -gt 0 ] || bounds=(timeout "$seconds")
+  [ "$1" = pairs ] || ticking "$(asked_words "$@")"
+  "${bounds[@]}" "${tool[@]}" > "$file" < /dev/null &
+  awaited $!
+  status=$?
+  ticked
+  [ "$status" -lt 128 ] || interrupted "$status" "$file"
   if [ "$status" -eq 124 ] && [ "${#bound[@]}" -eq 0 ]; then
     say "sec $1 has no answer within $seconds seconds"
     status=3
   fi
+  case $1 in
+    check | pairs | induct) told_files+=("$file") ;;
+  esac
   return "$status"
+}
+
+# The command and its options, without the files.
+asked_words() {
+  local it told=''
+  for it in "$@"; do
+    case $it in
+      */*) ;;
+      *) told+=" $it" ;;
+    esac
+  done
+  echo "sec$told"
 }
 
 # Whether sec takes the words of check, which is asked before Yosys runs. The first call builds the program, and tells how far it is.
@@ -62,13 +116,23 @@ strength() {
 
 # Asks check, and whether each pair has what makes it settle, and sets `status` and `report`: ask NAME WORDS..
 ask() {
-  local words=("${check[@]}" "${@:2}")
+  local words=("${check[@]}" "${@:2}") by_solver=()
   case " ${words[*]} " in
     *' --settles '*) ;;
     *) words+=(--settles) ;;
   esac
+  # Certificates are of the plain form.
+  case " ${words[*]} " in
+    *' event '* | *=event' '* | *' --assume'*) ;;
+    *) by_solver=(${solver:+--solver "$solver"}) ;;
+  esac
   report=$scratch/$1.$number status=0
-  sec_to "$report" check "$a" "$b" "${words[@]}" || status=$?
+  printf '%s\n' "${words[@]}" > "$report.words"
+  if [ -n "$jobs$solver" ]; then
+    sec_to "$report" pairs "$a" "$b" "$scratch/pairs.$1.$number" "${words[@]}" ${jobs:+--jobs "$jobs"} "${by_solver[@]}" || status=$?
+  else
+    sec_to "$report" check "$a" "$b" "${words[@]}" || status=$?
+  fi
 }
 
 # Asks from any power-up. Where it is left to this script, --expose comes first, which mostly is quick, and then the event mode.
@@ -102,6 +166,27 @@ from_any_power_up() {
     say "${event[*]}: $second; the answer of --expose is taken"
     report=$scratch/expose.$number status=$first
   fi
+}
+
+# Of pairs that fail, the one with the least depth, or the fewest nodes, is asked by itself where the verdict has another that is no simpler: the
+# report has that verdict then.
+look_at_simplest() {
+  local name words=() told=$scratch/simplest.$number
+  [ -s "$report.words" ] || return 0
+  name=$(awk '
+    $1 == "pair" && $5 ~ /^(different|not-shown)$/ && ($3 == "depth" || $3 == "nodes") { if (best == "" || $4 < least) { best = $2; least = $4 }; size[$2] = $4 }
+    $1 == "next" && $5 == "not-shown" { size["next " $2] = $4 }
+    $1 == "verdict" && $2 == "different" { named = $3 }
+    $1 == "verdict" && $2 == "not-shown" && $3 ~ /^(cut|events)$/ { named = $4 == "next" ? "next " $5 : $4 }
+    END { if (named != "" && best != "" && best != named && least < size[named]) print best }' "$report")
+  [ -n "$name" ] || return 0
+  mapfile -t words < "$report.words"
+  one_output "$name" "$a" "$scratch/one.old.blif"
+  one_output "$name" "$b" "$scratch/one.new.blif"
+  sec_to "$told" check "$scratch/one.old.blif" "$scratch/one.new.blif" "${words[@]}"
+  [ $? -eq "$status" ] || return 0
+  { sed '/^verdict/,$d' "$report" && sed -n '/^verdict/,$p' "$told"; } > "$report.simplest" || exit 73
+  report=$report.simplest
 }
 
 # A file with the initial value 0 where a flip-flop has none: started FROM TO

@@ -1,7 +1,7 @@
 # What sec-verilog tells Yosys of a design, behind the lines that read its files and set `top`, `blif`, `facts`, `resets`,
-# `scratch`, `x`, `clocks`, `boxes`, `box_memories` and `flops`, the most bits that a memory may have.
+# `scratch`, `x`, `clocks`, `boxes`, `box_memories`, `side` and `flops`, the most bits that a memory may have; above `slow` bits it is told.
 # It writes the design to the file `blif`, and to `facts` what it takes for granted: a line `x PLACE` for each place of the Verilog that
-# gives x or z, a line `undriven NET` for each bit that something reads and nothing drives, and lines `box CELL ..` for each cell that is a box.
+# gives x or z, `twice NET` for a net that is assigned twice, `formal COUNT` of assertions and the like, which are left out, a line `undriven NET` for each bit that something reads and nothing drives, and lines `box CELL ..` for each cell that is a box.
 # Of a memory that is too large it writes `large ..` alone, and ends.
 
 # The lines of a text file.
@@ -109,6 +109,34 @@ proc expose_undriven {scratch} {
     lappend names $name
   }
   return $names
+}
+
+# The nets of a design without processes that are assigned twice as they stand, which Yosys makes one with what is assigned to them.
+proc assigned_twice {scratch} {
+  yosys tee -q -o $scratch dump
+  set found {}
+  foreach line [lines_of $scratch] {
+    if {![regexp {^  connect (\\\S+(?: \[[\d:]+\])?) } $line -> net]} continue
+    if {[incr count($net)] == 2} { lappend found [string map {" " ""} [string trimleft $net \\]] }
+  }
+  return $found
+}
+
+# How many cells there are of some selections.
+proc count_of {scratch args} {
+  yosys tee -q -o $scratch select -count {*}$args
+  regexp {(\d+) objects} [join [lines_of $scratch]] -> count
+  return $count
+}
+
+# Says something while Yosys runs, on the standard error of sec-verilog.
+proc tell {text} {
+  global side
+  catch {
+    set file [open /dev/fd/3 a]
+    puts $file "sec-verilog: $side: $text"
+    close $file
+  }
 }
 
 # The memories of a design, before they are mapped: for each its name, its width and its words.
@@ -236,6 +264,10 @@ keep_boxes $boxes
 yosys proc
 yosys flatten
 set out [open $facts w]
+# What is asserted or assumed in the Verilog is no part of the circuit.
+puts $out "formal [count_of $scratch {t:$assert} {t:$assume} {t:$live} {t:$fair} {t:$cover}]"
+yosys chformal -remove
+foreach net [assigned_twice $scratch] { puts $out "twice $net" }
 set cells [cells_with_x $scratch]
 if {$x eq "0"} { yosys setundef -zero }
 if {$x eq "1"} { yosys setundef -one }
@@ -248,6 +280,9 @@ foreach {name width size} [memories_of $scratch] {
     puts $out "large $name: $size x $width = [expr {$width * $size}]"
     close $out
     exit 1
+  }
+  if {$width * $size > $slow && ($box_memories eq "" || $width * $size <= $box_memories)} {
+    tell "memory $name becomes $size x $width = [expr {$width * $size}] flip-flops, which takes yosys a while; --box-memories N makes memories above N bits boxes"
   }
 }
 foreach line [expose_boxes $boxes $box_memories $scratch] { puts $out "box $line" }

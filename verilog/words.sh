@@ -1,7 +1,7 @@
 # shellcheck shell=bash disable=SC2034
 # The words of sec-verilog. Read by it.
 old=() new=() check=() parameters=() reading=() defines=() values=('') reset_inputs=() cells=() liberties=() boxes=()
-side=old cycles=20 top='' new_top='' sv='' keep='' map='' seconds='' box_memories='' is_clocked='' wrong='' any_clock='' any_start=''
+side=old cycles=20 top='' new_top='' sv='' keep='' map='' seconds='' jobs='' solver='' box_memories='' is_clocked='' wrong='' any_clock='' any_start=''
 
 # What is wrong first is told: complain WHY
 complain() {
@@ -36,7 +36,7 @@ read_words() {
         usage
         exit 0
         ;;
-      --top | --new-top | --keep | --map | --seconds | --box | --box-memories | --reset-input | --cells | --liberty | -P | -D | -I) value "$1" $# "${2:-}" ;;
+      --top | --new-top | --keep | --map | --seconds | --jobs | --solver | --box | --box-memories | --reset-input | --cells | --liberty | -P | -D | -I) value "$1" $# "${2:-}" ;;
     esac
     case $1 in
       --top) top=${2:-} && shift ;;
@@ -44,6 +44,8 @@ read_words() {
       --keep) keep=${2:-} && shift ;;
       --map) map=${2:-} && shift ;;
       --seconds) seconds=${2:-} && shift ;;
+      --jobs) jobs=${2:-} && shift ;;
+      --solver) solver=${2:-} && shift ;;
       --box) boxes+=("${2:-}") && shift ;;
       --box-memories) box_memories=${2:-} && shift ;;
       --reset-input) reset_inputs+=("${2:-}") && shift ;;
@@ -95,6 +97,13 @@ look_at_words() {
   esac
   case $seconds in
     *[!0-9]* | 0* | ????????*) complain "--seconds wants a number from 1 on, and not $seconds" ;;
+  esac
+  case $jobs in
+    *[!0-9]* | 0* | ?????*) complain "--jobs wants a number from 1 on, and not $jobs" ;;
+  esac
+  case $solver in
+    '' | cadical | kissat) ;;
+    *) complain "--solver wants cadical or kissat, and not $solver" ;;
   esac
   case $box_memories in
     *[!0-9]* | ????????????*) complain "--box-memories wants a number of bits, and not $box_memories" ;;
