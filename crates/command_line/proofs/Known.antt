@@ -42,17 +42,16 @@ not_holds true e = absurd (true≢false (sym e))
 not_holds false e = refl
 
 -- a check, or a search whose cycles fit
-checked_job : (settles : Bool) (a b : Text) (s : Settings) (assumed cycles : Option Text) → ((w : Text) → cycles ≡ Some w → (value_kinds false most_cycles w ≡ []) × (s.reset ≡ true) × (is_some assumed ≡ false)) → is_some (checked_in settles a b s assumed cycles) ≡ true
+checked_job : (settles : Bool) (a b : Text) (s : Settings) (assumed cycles : Option Text) → ((w : Text) → cycles ≡ Some w → (value_kinds false most_cycles w ≡ []) × (s.reset ≡ true)) → is_some (checked_in settles a b s assumed cycles) ≡ true
 checked_job settles a b s assumed None fits = refl
-checked_job settles a b s (Some c) (Some w) fits = absurd (true≢false (fits w refl).2)
-checked_job settles a b s None (Some w) fits = let f = fits w refl in let n = number_known most_cycles w f.0 in rw (f.1, n) refl
+checked_job settles a b s assumed (Some w) fits = let f = fits w refl in let n = number_known most_cycles w f.0 in rw (f.1, n) refl
 
--- the same behind the rows of a stimulus, which stands beside a number of cycles
-begun_job : (settles : Bool) (a b : Text) (s : Settings) (assumed cycles after : Option Text) → ((w : Text) → cycles ≡ Some w → (value_kinds false most_cycles w ≡ []) × (s.reset ≡ true) × (is_some assumed ≡ false)) →
-    (not (is_some after) || is_some cycles) ≡ true → is_some (begun_in settles a b s assumed cycles after) ≡ true
+-- the same behind the rows of a stimulus, which stands beside a number of cycles and without an assumption
+begun_job : (settles : Bool) (a b : Text) (s : Settings) (assumed cycles after : Option Text) → ((w : Text) → cycles ≡ Some w → (value_kinds false most_cycles w ≡ []) × (s.reset ≡ true)) →
+    (not (is_some after) || (is_some cycles && not (is_some assumed))) ≡ true → is_some (begun_in settles a b s assumed cycles after) ≡ true
 begun_job settles a b s assumed cycles None fits named = checked_job settles a b s assumed cycles fits
 begun_job settles a b s assumed None (Some z) fits named = absurd (true≢false (sym named))
-begun_job settles a b s (Some c) (Some w) (Some z) fits named = absurd (true≢false (fits w refl).2)
+begun_job settles a b s (Some c) (Some w) (Some z) fits named = absurd (true≢false (sym named))
 begun_job settles a b s None (Some w) (Some z) fits named = let f = fits w refl in let n = number_known most_cycles w f.0 in rw (f.1, n) refl
 
 -- or the comparison of the outputs of one name, which stands beside none of these
@@ -79,15 +78,12 @@ check_job rows a b n ea eb en passes few known = by (mode_in rows) refl both.0
     conflicts : conflicts_in rows ≡ Some (digits_value 10 (without_leading_plus n))
     conflicts = ap (option_and_then (number_of most_conflicts)) en ∙ number_known most_conflicts n passes
 
-    fits : (m : Mode) (w : Text) → first_of (codes "cycles") rows ≡ Some w → (value_kinds false most_cycles w ≡ []) × (is_set (codes "reset") rows ≡ true) × (is_some (first_of (codes "assume") rows) ≡ false)
-    fits m w e = (few w e, at.0, not_holds (is_some (first_of (codes "assume") rows)) at.1)
+    fits : (m : Mode) (w : Text) → first_of (codes "cycles") rows ≡ Some w → (value_kinds false most_cycles w ≡ []) × (is_set (codes "reset") rows ≡ true)
+    fits m w e = (few w e, given (first_of (codes "cycles") rows) e both.1)
       where
-        at : (is_set (codes "reset") rows ≡ true) × (not (is_some (first_of (codes "assume") rows)) ≡ true)
-        at = both_hold (is_set (codes "reset") rows) (not (is_some (first_of (codes "assume") rows))) (given (first_of (codes "cycles") rows) e both.1)
-          where
-            given : (o : Option Text) → o ≡ Some w → cycles_given rows o ≡ true → (is_set (codes "reset") rows && not (is_some (first_of (codes "assume") rows))) ≡ true
-            given None k h = absurd (cc)
-            given (Some x) k h = h
+        given : (o : Option Text) → o ≡ Some w → cycles_given rows o ≡ true → is_set (codes "reset") rows ≡ true
+        given None k h = absurd (cc)
+        given (Some x) k h = h
 
     by : (m : Option Mode) → mode_in rows ≡ m → is_some m ≡ true → is_some (check_in rows) ≡ true
     by None e h = absurd (true≢false (sym h))

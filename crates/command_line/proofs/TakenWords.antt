@@ -53,7 +53,7 @@ reset_is_taken = ((refl, refl), refl)
 
 pub cycles_are_taken : CyclesAreTaken
 unfolding clap_on_literals
-cycles_are_taken = ((refl, refl), refl)
+cycles_are_taken = ((refl, refl), refl, refl)
 
 pub after_is_taken : AfterIsTaken
 unfolding clap_on_literals

@@ -21,6 +21,7 @@ IsAllowed (task.Gen seed regroup conflicts) = conflicts ≤ MAX_CONFLICTS
 IsAllowed (task.Lrat f l) = Unit {0}
 IsAllowed (task.Cert a b pair lrat conflicts) = conflicts ≤ MAX_CONFLICTS
 IsAllowed (task.Search a b cycles conflicts) = (conflicts ≤ MAX_CONFLICTS) × (cycles ≤ 1000)
+IsAllowed (task.SearchUnder a b c cycles conflicts) = (conflicts ≤ MAX_CONFLICTS) × (cycles ≤ 1000)
 IsAllowed (task.After a b s cycles conflicts) = (conflicts ≤ MAX_CONFLICTS) × (cycles ≤ 1000)
 IsAllowed (task.Induct a b conflicts) = conflicts ≤ MAX_CONFLICTS
 IsAllowed (task.InductSignals a b conflicts) = conflicts ≤ MAX_CONFLICTS

@@ -52,10 +52,14 @@ abbrev pub compared_in : Bool → Text → Text → Settings → Option Text →
 compared_in false a b settings assumed = task.Check a b settings assumed
 compared_in true a b settings assumed = task.CheckSettles a b settings assumed
 
--- the search for a difference up to the cycle that the word spells; it stands only beside `--reset`, and without an assumption
+-- the search of these files for a difference up to a cycle, under an assumption where one is named
+abbrev pub searched_in : Text → Text → Option Text → ℕ → ℕ → Task
+searched_in a b None cycles conflicts = task.Search a b cycles conflicts
+searched_in a b (Some c) cycles conflicts = task.SearchUnder a b c cycles conflicts
+
+-- the search up to the cycle that the word spells; it stands only beside `--reset`
 abbrev pub search_in : Text → Text → Settings → Option Text → Text → Option Task
-search_in a b settings (Some assumed) word = None
-search_in a b settings None word = if settings.reset then option_map (λ cycles. task.Search a b cycles settings.conflicts) (number_of most_cycles word) else None
+search_in a b settings assumed word = if settings.reset then option_map (λ cycles. searched_in a b assumed cycles settings.conflicts) (number_of most_cycles word) else None
 
 -- the check of two circuits, or where a last cycle is named the search
 abbrev pub checked_in : Bool → Text → Text → Settings → Option Text → Option Text → Option Task

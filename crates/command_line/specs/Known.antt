@@ -6,18 +6,18 @@ use Rattle.command_line.specs.command_words.Command.{sec_app}
 use Rattle.command_line.specs.Jobs.{job_of, mode_in, form_in, is_set, stands_alone}
 use Rattle.command_line.specs.declared.task.Task.TheVariants as task
 
--- the cycles aren't given, or `--reset` is, and `--assume` isn't
+-- the cycles aren't given, or `--reset` is
 abbrev pub cycles_given : List Row → Option Text → Bool
 cycles_given rows None = true
-cycles_given rows (Some word) = is_set (codes "reset") rows && not (is_some (first_of (codes "assume") rows))
+cycles_given rows (Some word) = is_set (codes "reset") rows
 
--- `--cycles` isn't given, or stands beside `--reset` and without `--assume`
+-- `--cycles` isn't given, or stands beside `--reset`
 abbrev pub cycles_fit : List Row → Bool
 cycles_fit rows = cycles_given rows (first_of (codes "cycles") rows)
 
--- `--after` isn't given, or stands beside `--cycles`
+-- `--after` isn't given, or stands beside `--cycles` and without `--assume`
 abbrev pub after_fits : List Row → Bool
-after_fits rows = not (is_some (first_of (codes "after") rows)) || is_some (first_of (codes "cycles") rows)
+after_fits rows = not (is_some (first_of (codes "after") rows)) || (is_some (first_of (codes "cycles") rows) && not (is_some (first_of (codes "assume") rows)))
 
 -- `--pair` isn't given, or stands beside none of `--settles`, `--assume`, `--cycles` and `--after`
 abbrev pub pair_fits : List Row → Bool
@@ -92,6 +92,7 @@ abbrev pub CyclesAreTaken : Type 0
 CyclesAreTaken =
     AreTaken (codes "check" ∷ codes "a" ∷ codes "b" ∷ codes "--reset" ∷ codes "--cycles" ∷ codes "20" ∷ [])
     × (job_of (codes "check" ∷ codes "a" ∷ codes "b" ∷ codes "--reset" ∷ codes "--cycles" ∷ codes "20" ∷ []) ≡ Some (task.Search (codes "a") (codes "b") 20 20000))
+    × (job_of (codes "check" ∷ codes "a" ∷ codes "b" ∷ codes "--reset" ∷ codes "--cycles" ∷ codes "20" ∷ codes "--assume" ∷ codes "c" ∷ []) ≡ Some (task.SearchUnder (codes "a") (codes "b") (codes "c") 20 20000))
 
 -- words with `--assume`, and what they ask for
 abbrev pub AssumedIsTaken : Type 0
@@ -143,11 +144,11 @@ ResetIsNoJob =
     × AreNoJob (codes "check" ∷ codes "a" ∷ codes "b" ∷ codes "--mode" ∷ codes "event" ∷ codes "--reset" ∷ [])
     × AreNoJob (codes "sim" ∷ codes "a" ∷ codes "s" ∷ codes "--mode" ∷ codes "event" ∷ codes "--reset" ∷ [])
 
--- since `--cycles` stands without `--reset`, or with `--assume`, or `--reset` may not stand there
+-- since `--cycles` stands without `--reset`, also beside `--assume`, or `--reset` may not stand there
 abbrev pub CyclesAreNoJob : Type 0
 CyclesAreNoJob =
     AreNoJob (codes "check" ∷ codes "a" ∷ codes "b" ∷ codes "--cycles" ∷ codes "20" ∷ [])
-    × AreNoJob (codes "check" ∷ codes "a" ∷ codes "b" ∷ codes "--reset" ∷ codes "--cycles" ∷ codes "20" ∷ codes "--assume" ∷ codes "c" ∷ [])
+    × AreNoJob (codes "check" ∷ codes "a" ∷ codes "b" ∷ codes "--cycles" ∷ codes "20" ∷ codes "--assume" ∷ codes "c" ∷ [])
     × AreNoJob (codes "check" ∷ codes "a" ∷ codes "b" ∷ codes "--reset" ∷ codes "--expose" ∷ codes "--cycles" ∷ codes "20" ∷ [])
     × (job_of (codes "check" ∷ codes "a" ∷ codes "b" ∷ codes "--reset" ∷ codes "--cycles" ∷ codes "1001" ∷ []) ≡ None)
 

@@ -82,6 +82,14 @@ pub enum Task {
         cycles: u32,
         conflicts: u32,
     },
+    /// Search them so in the runs whose inputs make the output of a third file's circuit 1 in each cycle.
+    SearchUnder {
+        a: FilePath,
+        b: FilePath,
+        c: FilePath,
+        cycles: u32,
+        conflicts: u32,
+    },
     /// Search them for a difference behind the rows of a stimulus, whatever they power up with, in the cycles from 0 to a last one there.
     After {
         a: FilePath,
@@ -170,6 +178,13 @@ impl Drop for Task {
             Task::Search {
                 a: _,
                 b: _,
+                cycles: _,
+                conflicts: _,
+            } => {}
+            Task::SearchUnder {
+                a: _,
+                b: _,
+                c: _,
                 cycles: _,
                 conflicts: _,
             } => {}

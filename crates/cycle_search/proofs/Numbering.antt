@@ -66,7 +66,7 @@ module _ (a b : NetView) (s : Setup) (is : IsSettingOf a b s) (matches : Interfa
           omega (arith, are.right_is, own, same);
     }
 
-    numbering : IsNumbering a b (numbered s bases)
+    pub numbering : IsNumbering a b (numbered s bases)
     numbering = record {
       left_is = ap circuit_of is.left_is;
       right_is = ap circuit_of is.right_is;

@@ -60,7 +60,7 @@ nothing : {X : Type 0} {x : X} → None ≡ Some x → ⊥
 nothing q = cc
 
 -- lists of one length that fit at each place fit
-zip_from : {X Y : Type 0} (R : X → Y → Type 0) (xs : List X) (ys : List Y) → length xs ≡ length ys → ((i : ℕ) (x : X) (y : Y) → slice_get xs i ≡ Some x → slice_get ys i ≡ Some y → R x y) → AllZip R xs ys
+pub zip_from : {X Y : Type 0} (R : X → Y → Type 0) (xs : List X) (ys : List Y) → length xs ≡ length ys → ((i : ℕ) (x : X) (y : Y) → slice_get xs i ≡ Some x → slice_get ys i ≡ Some y → R x y) → AllZip R xs ys
 zip_from R [] [] e h = tt
 zip_from R [] (y ∷ ys) e h = absurd (omega (arith, e))
 zip_from R (x ∷ xs) [] e h = absurd (omega (arith, e))

@@ -53,14 +53,14 @@ module _ (s : Setup) (b : Bases) where
       go (inr e) = subst (AgreeAt (numbered s b) x.left x.right) (sym e) (all_agree (numbered s b) conflicts last (map places_of s.pairs) found.pairs is.pairs_fit all x h)
 
   -- the depths of both sides are those of the pairs
-  deep_all : (cycle : ℕ) → AreDeepUpTo s cycle → HaveDepthsUpTo (numbered s b) (map places_of s.pairs) cycle
+  pub deep_all : (cycle : ℕ) → AreDeepUpTo s cycle → HaveDepthsUpTo (numbered s b) (map places_of s.pairs) cycle
   deep_all cycle deep x h =
       let k = Contains-map_from places_of s.pairs x h in
       let d = deep k.0 k.1 in
       subst (λ (z : NamedPair ℕ ℕ). (e : ℕ) × IsPairDepth (circuit_of s.left.now) (circuit_of s.right.now) z.left z.right e × (e ≤ cycle)) k.2
       (max d.0.0 d.1.0, record { left = d.0.0; right = d.1.0; left_is = d.0.1; right_is = d.1.1; greater = refl }, omega (arith, d.0.2, d.1.2))
 
-  all_deep : (cycle : ℕ) → HaveDepthsUpTo (numbered s b) (map places_of s.pairs) cycle → AreDeepUpTo s cycle
+  pub all_deep : (cycle : ℕ) → HaveDepthsUpTo (numbered s b) (map places_of s.pairs) cycle → AreDeepUpTo s cycle
   all_deep cycle h y k =
       let d = h (places_of y) (Contains-map places_of s.pairs y k) in
       let e = d.1.greater in

@@ -1,5 +1,5 @@
 -- The pairs' signals of one circuit in cycles: what is unfolded, and a refusal because of it.
-use Rattle.std.proofs.Common.{◌≡◌, ℕ, ◌+◌, ◌<◌, List, Err, sym, subst, arith, inl, inr}
+use Rattle.std.proofs.Common.{◌≡◌, ℕ, ◌+◌, ◌<◌, List, [], Err, sym, subst, arith, inl, inr}
 use Rattle.std.specs.Prelude.{◌⊎◌}
 use Rattle.std.specs.List.{AllZip, Contains}
 use Rattle.circuit_theory.specs.declared.Side.{Side}
@@ -78,3 +78,10 @@ module _ (s : Setup) (setting : IsSetting s) (b : Bases) (cycle conflicts : ℕ)
       subst (λ (x : Side). IsOneTooLarge s.left.now s.right.now cycle x) (sym h.0)
       (large_as s.right.now m net (IsDoneOrIn B items cycle done) (IsOutputUpTo s.right.now cycle) (outputs_up_to B s.right.now cycle s.pairs items same (own_pairs s setting).right done before) h.1)
   right_refused m net items same done before refused.NoMemory h = tt
+
+-- before the first cycle nothing is unfolded
+pub none_before : (side : Side) (pairs : List SignalPair) (done : List (ℕ × ℕ)) → done ≡ [] → HasDoneBefore side pairs 0 done
+none_before side pairs done e p = (λ h. absurd (nothing (subst (λ (l : List (ℕ × ℕ)). Contains l p) e h)), λ h. absurd (omega (arith, h.0)))
+  where
+    nothing : Contains [] p → ⊥
+    nothing h = omega (arith, h.1)

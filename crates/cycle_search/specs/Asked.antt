@@ -17,7 +17,11 @@ pub record AskedIn (places : List (ℕ × ℕ)) (cycle : ℕ) (x : SignalPair) (
   pub decisive_is : o.decisive ≡ true
   pub queries_are : AreQueriesOf places left right o.queries
 
--- of each of these pairs, in order
-pub record AreAskedIn (places : List (ℕ × ℕ)) (cycle : ℕ) (pairs : List SignalPair) (left right : List Unfolded) (asked : List Obligation) : Type 0 where
+-- this is so of each of these pairs, of its two functions and of what is asked of it, in order
+pub record AreAskedBy (R : SignalPair → Unfolded → Unfolded → Obligation → Type 0) (pairs : List SignalPair) (left right : List Unfolded) (asked : List Obligation) : Type 0 where
   pub each : length asked ≡ length pairs
-  pub are : (i : ℕ) (x : SignalPair) (l r : Unfolded) (o : Obligation) → slice_get pairs i ≡ Some x → slice_get left i ≡ Some l → slice_get right i ≡ Some r → slice_get asked i ≡ Some o → AskedIn places cycle x l r o
+  pub are : (i : ℕ) (x : SignalPair) (l r : Unfolded) (o : Obligation) → slice_get pairs i ≡ Some x → slice_get left i ≡ Some l → slice_get right i ≡ Some r → slice_get asked i ≡ Some o → R x l r o
+
+-- that is asked of each of these pairs, in order
+abbrev pub AreAskedIn : List (ℕ × ℕ) → ℕ → List SignalPair → List Unfolded → List Unfolded → List Obligation → Type 0
+AreAskedIn places cycle pairs left right asked = AreAskedBy (AskedIn places cycle) pairs left right asked

@@ -43,10 +43,10 @@ impl Drop for Unfolding<'_> {
 
 /// What is found of the pairs in one cycle.
 #[derive(Drop)]
-pub(crate) struct InCycle {
+pub struct InCycle {
     /// One result for each pair, in order.
-    pub(crate) pairs: PairResults,
-    pub(crate) verdict: ResetVerdict,
+    pub pairs: PairResults,
+    pub verdict: ResetVerdict,
 }
 
 /// Both circuits before cycle 0: nothing is unfolded.

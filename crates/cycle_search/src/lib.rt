@@ -12,5 +12,9 @@ pub mod search_report;
 mod setting;
 mod shown;
 
+pub use cycle::InCycle;
 pub use found::{SearchError, SearchVerdict, Searched};
-pub use search::search_cycles;
+pub use outputs::unfold_side;
+pub use search::{ends, mismatch_of, search_cycles, searched_of};
+pub use setting::set_up_cycles;
+pub use shown::show;

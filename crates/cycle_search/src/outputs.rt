@@ -30,7 +30,7 @@ fn side_of(side: Side, pair: &SignalPair) -> Signal
 
 /// The signals of the pairs in one circuit, as functions in a cycle, in order. `TooLarge` comes exactly where all that was unfolded before
 /// weighs more than 2,000,000 together with these.
-pub(crate) fn unfold_side(
+pub fn unfold_side(
     alloc: Global,
     side: Side,
     pairs: &[SignalPair],

@@ -55,7 +55,7 @@ pub fn search_cycles(
 }
 
 /// The refusal of interfaces that don't match.
-fn mismatch_of(error: SetupError) -> SearchError
+pub fn mismatch_of(error: SetupError) -> SearchError
     ensures { result ≡ mismatch_of error }
 {
     match error {
@@ -94,7 +94,7 @@ fn search(
 }
 
 /// Whether the search ends in this cycle: some pair isn't equal there, or the cycle is as great as each pair's depth.
-fn ends(setup: &Setup<'_>, found: &InCycle, last: u32) -> bool
+pub fn ends(setup: &Setup<'_>, found: &InCycle, last: u32) -> bool
     requires { IsSetting setup.now }
     ensures goes_on { result ≡ false → found.now.verdict ≡ ResetVerdict.Equal }
     ensures deep { result ≡ true → found.now.verdict ≡ ResetVerdict.Equal → AreDeepUpTo setup.now last }
@@ -106,7 +106,7 @@ fn ends(setup: &Setup<'_>, found: &InCycle, last: u32) -> bool
 }
 
 /// What is found where this is found in the last cycle.
-fn searched_of(setup: &Setup<'_>, found: InCycle, last: u32, stopped: Option<Side>) -> Searched
+pub fn searched_of(setup: &Setup<'_>, found: InCycle, last: u32, stopped: Option<Side>) -> Searched
     requires { IsSetting setup.now }
     ensures pairs { result.pairs ≡ found.pairs }
     ensures last { result.last ≡ last }

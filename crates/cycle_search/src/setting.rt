@@ -16,7 +16,7 @@ use std::alloc::Global;
 
 /// What the nets are compared by, where their interfaces match and these are the names of the inputs that they share. No latch is cut
 /// open, and latches may lie on cycles.
-pub(crate) fn set_up_cycles<'a>(
+pub fn set_up_cycles<'a>(
     alloc: Global,
     nets: &Nets<'a>,
     shared: &NameTable,

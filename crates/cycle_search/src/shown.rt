@@ -13,7 +13,7 @@ use sec_setup::Setup;
 use std::alloc::Global;
 
 /// The verdict of the pairs in this cycle, with the sequence and the power-ups of a difference.
-pub(crate) fn show(
+pub fn show(
     alloc: Global,
     setup: &Setup<'_>,
     bases: Bases,

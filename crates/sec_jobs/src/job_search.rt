@@ -5,3 +5,4 @@ mod judging;
 pub mod search_meaning;
 
 pub use comparison::{CycleComparison, compare_in_cycles};
+pub use judging::{judgement_of, proofs_of};

@@ -23,6 +23,8 @@ use Rattle.job_pair.proofs.Complete.{pair_complete}
 use Rattle.job_pair.specs.Found.{check_of}
 use Rattle.job_settles.proofs.Means.{settles_means, settles_complete}
 use Rattle.job_signals.proofs.Means.{signals_means}
+use Rattle.job_under.proofs.Means.{under_means}
+use Rattle.job_under.proofs.Complete.{under_complete}
 use Rattle.job_signals.proofs.job_tied.Means.{tied_means}
 use Rattle.job_signals.proofs.Complete.{signals_complete}
 use Rattle.job_signals.proofs.job_tied.Complete.{tied_complete}
@@ -54,6 +56,7 @@ means held (Some (task.Gen seed regroup conflicts)) before now f proofs name fou
 means held (Some (task.Lrat f l)) before now found proofs name is w = lrat_means (held f) (held l) before now found proofs name is w
 means held (Some (task.Cert a b pair lrat conflicts)) before now f proofs name found w = cert_means (record { pair = pair; refuted = lrat; conflicts = conflicts }) (held a) (held b) before now f proofs name found w
 means held (Some (task.Search a b cycles conflicts)) before now f proofs name found w = search_means cycles conflicts (held a) (held b) before now f proofs name found w
+means held (Some (task.SearchUnder a b c cycles conflicts)) before now f proofs name found w = under_means cycles conflicts (held a) (held b) (held c) before now f proofs name found w
 means held (Some (task.After a b s cycles conflicts)) before now f proofs name found w = after_means cycles conflicts (held a) (held b) (held s) before now f proofs name found w
 means held (Some (task.Induct a b conflicts)) before now f proofs name found w = induct_means conflicts (held a) (held b) before now f proofs name found w
 means held (Some (task.InductSignals a b conflicts)) before now f proofs name found w = signals_means (held a) (held b) before now f proofs name found w
@@ -73,6 +76,7 @@ memory_means held (Some (task.Gen seed regroup conflicts)) before now proofs = t
 memory_means held (Some (task.Lrat f l)) before now proofs = tt
 memory_means held (Some (task.Cert a b pair lrat conflicts)) before now proofs = tt
 memory_means held (Some (task.Search a b cycles conflicts)) before now proofs = tt
+memory_means held (Some (task.SearchUnder a b c cycles conflicts)) before now proofs = tt
 memory_means held (Some (task.After a b s cycles conflicts)) before now proofs = tt
 memory_means held (Some (task.Induct a b conflicts)) before now proofs = tt
 memory_means held (Some (task.InductSignals a b conflicts)) before now proofs = tt
@@ -91,6 +95,7 @@ fault_means held (Some (task.Gen seed regroup conflicts)) before now proofs = tt
 fault_means held (Some (task.Lrat f l)) before now proofs = tt
 fault_means held (Some (task.Cert a b pair lrat conflicts)) before now proofs = tt
 fault_means held (Some (task.Search a b cycles conflicts)) before now proofs = tt
+fault_means held (Some (task.SearchUnder a b c cycles conflicts)) before now proofs = tt
 fault_means held (Some (task.After a b s cycles conflicts)) before now proofs = tt
 fault_means held (Some (task.Induct a b conflicts)) before now proofs = tt
 fault_means held (Some (task.InductSignals a b conflicts)) before now proofs = tt
@@ -110,6 +115,7 @@ is_complete held (Some (task.Gen seed regroup conflicts)) f found = gen_complete
 is_complete held (Some (task.Lrat f l)) found is = lrat_complete (held f) (held l) found is
 is_complete held (Some (task.Cert a b pair lrat conflicts)) f found = cert_complete (record { pair = pair; refuted = lrat; conflicts = conflicts }) (held a) (held b) f found
 is_complete held (Some (task.Search a b cycles conflicts)) f found = search_complete cycles conflicts (held a) (held b) f found
+is_complete held (Some (task.SearchUnder a b c cycles conflicts)) f found = under_complete cycles conflicts (held a) (held b) (held c) f found
 is_complete held (Some (task.After a b s cycles conflicts)) f found = after_complete cycles conflicts (held a) (held b) (held s) f found
 is_complete held (Some (task.Induct a b conflicts)) f found = induct_complete conflicts (held a) (held b) f found
 is_complete held (Some (task.InductSignals a b conflicts)) f found = signals_complete (held a) (held b) f found
@@ -129,6 +135,7 @@ memory_is_complete held (Some (task.Gen seed regroup conflicts)) = tt
 memory_is_complete held (Some (task.Lrat f l)) = λ can. inr refl
 memory_is_complete held (Some (task.Cert a b pair lrat conflicts)) = memory_cert (record { pair = pair; refuted = lrat; conflicts = conflicts }) (held a) (held b)
 memory_is_complete held (Some (task.Search a b cycles conflicts)) = λ can. tt
+memory_is_complete held (Some (task.SearchUnder a b c cycles conflicts)) = λ can. tt
 memory_is_complete held (Some (task.After a b s cycles conflicts)) = λ can. tt
 memory_is_complete held (Some (task.Induct a b conflicts)) = λ can. tt
 memory_is_complete held (Some (task.InductSignals a b conflicts)) = λ can. tt

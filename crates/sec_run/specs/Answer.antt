@@ -21,6 +21,7 @@ use Rattle.job_pair.specs.Found.{check_of, IsPairFound}
 use Rattle.job_settles.specs.Found.{IsSettlesFound}
 use Rattle.job_signals.specs.Found.{IsSignalsFound}
 use Rattle.job_signals.specs.job_tied.Found.{IsTiedFound}
+use Rattle.job_under.specs.Found.{IsUnderFound}
 use Rattle.job_gen.specs.gen_meaning.Found.{IsGenFound}
 use Rattle.job_cert.specs.job_lrat.Found.{IsLratFound}
 use Rattle.job_cert.specs.Found.{IsCertFound}
@@ -41,6 +42,7 @@ IsFoundOfJob held (task.Gen seed regroup conflicts) f = IsGenFound (record { see
 IsFoundOfJob held (task.Lrat f l) found = IsLratFound (held f) (held l) found
 IsFoundOfJob held (task.Cert a b pair lrat conflicts) f = IsCertFound (record { pair = pair; refuted = lrat; conflicts = conflicts }) (held a) (held b) f
 IsFoundOfJob held (task.Search a b cycles conflicts) f = IsSearchFound cycles conflicts (held a) (held b) f
+IsFoundOfJob held (task.SearchUnder a b c cycles conflicts) f = IsUnderFound cycles conflicts (held a) (held b) (held c) f
 IsFoundOfJob held (task.After a b s cycles conflicts) f = IsAfterFound cycles conflicts (held a) (held b) (held s) f
 IsFoundOfJob held (task.Induct a b conflicts) f = IsInductFound conflicts (held a) (held b) f
 IsFoundOfJob held (task.InductSignals a b conflicts) f = IsSignalsFound (held a) (held b) f

@@ -17,6 +17,7 @@ use Rattle.job_pair.specs.Found.{check_of}
 use Rattle.job_settles.specs.Answer.{SettlesMeans}
 use Rattle.job_signals.specs.Answer.{SignalsMeans}
 use Rattle.job_signals.specs.job_tied.Answer.{TiedMeans, IsTiedComplete}
+use Rattle.job_under.specs.Answer.{UnderMeans, IsUnderComplete}
 use Rattle.job_gen.specs.gen_meaning.Answer.{GenMeans, IsGenAnswer}
 use Rattle.job_cert.specs.job_lrat.Answer.{LratMeans, IsLratComplete}
 use Rattle.job_cert.specs.Answer.{CertMeans, IsCertComplete}
@@ -38,6 +39,7 @@ Means held (Some (task.Gen seed regroup conflicts)) before now proofs name = Gen
 Means held (Some (task.Lrat f l)) before now proofs name = LratMeans (held f) (held l) before now name
 Means held (Some (task.Cert a b pair lrat conflicts)) before now proofs name = CertMeans (record { pair = pair; refuted = lrat; conflicts = conflicts }) (held a) (held b) before now proofs name
 Means held (Some (task.Search a b cycles conflicts)) before now proofs name = SearchMeans cycles conflicts (held a) (held b) before now proofs name
+Means held (Some (task.SearchUnder a b c cycles conflicts)) before now proofs name = UnderMeans cycles conflicts (held a) (held b) (held c) before now proofs name
 Means held (Some (task.After a b s cycles conflicts)) before now proofs name = AfterMeans cycles conflicts (held a) (held b) (held s) before now proofs name
 Means held (Some (task.Induct a b conflicts)) before now proofs name = InductMeans conflicts (held a) (held b) before now proofs name
 Means held (Some (task.InductSignals a b conflicts)) before now proofs name = SignalsMeans (held a) (held b) before now proofs name
@@ -57,6 +59,7 @@ IsComplete held (Some (task.Gen seed regroup conflicts)) name = IsGenAnswer name
 IsComplete held (Some (task.Lrat f l)) name = IsLratComplete (held f) (held l) name
 IsComplete held (Some (task.Cert a b pair lrat conflicts)) name = IsCertComplete (record { pair = pair; refuted = lrat; conflicts = conflicts }) (held a) (held b) name
 IsComplete held (Some (task.Search a b cycles conflicts)) name = IsSearchComplete (held a) (held b) name
+IsComplete held (Some (task.SearchUnder a b c cycles conflicts)) name = IsUnderComplete cycles conflicts (held a) (held b) (held c) name
 IsComplete held (Some (task.After a b s cycles conflicts)) name = IsAfterComplete (held a) (held b) (held s) name
 IsComplete held (Some (task.Induct a b conflicts)) name = IsInductComplete (held a) (held b) name
 IsComplete held (Some (task.InductSignals a b conflicts)) name = IsInductComplete (held a) (held b) name

@@ -26,6 +26,7 @@ use job_pair::{PairComparison, compare_pair};
 use job_settles::check_settles;
 use job_signals::job_tied::{TiedComparison, compare_tied};
 use job_signals::{SignalComparison, compare_by_signals};
+use job_under::{UnderComparison, compare_under};
 use sec_base::{FilePath, Word};
 use sec_jobs::job_induct::{BlockComparison, compare_by_blocks};
 use sec_jobs::job_search::{CycleComparison, compare_in_cycles};
@@ -178,6 +179,22 @@ fn find<S: Shelf>(alloc: Global, task: &Task, shelf: &mut S) -> Result<Finding, 
                 conflicts: *conflicts,
             };
             compare_in_cycles(alloc, &comparison, shelf)
+        }
+        Task::SearchUnder {
+            a,
+            b,
+            c,
+            cycles,
+            conflicts,
+        } => {
+            let comparison = UnderComparison {
+                left: a.as_str(),
+                right: b.as_str(),
+                assumed: c.as_str(),
+                cycles: *cycles,
+                conflicts: *conflicts,
+            };
+            compare_under(alloc, &comparison, shelf)
         }
         Task::After {
             a,

@@ -71,11 +71,7 @@ fn put_pair(alloc: Global, text: &mut Vec<u8>, pair: &PairResult) -> Result<(), 
 }
 
 /// Puts the lines of the pairs.
-pub(crate) fn put_pairs(
-    alloc: Global,
-    text: &mut Vec<u8>,
-    pairs: &[PairResult],
-) -> Result<(), NoMemory>
+pub fn put_pairs(alloc: Global, text: &mut Vec<u8>, pairs: &[PairResult]) -> Result<(), NoMemory>
     ensures { OnOk result (text.new.items ≡ text.old.items ++ flat_map pair_line pairs.now) }
 {
     for pair in pairs {

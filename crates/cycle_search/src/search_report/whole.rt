@@ -49,7 +49,7 @@ pub fn put_front(
 }
 
 /// Puts how many inputs are shared and how many latches A and B have.
-fn put_counts(
+pub fn put_counts(
     alloc: Global,
     text: &mut Vec<u8>,
     inputs: &NameTable,

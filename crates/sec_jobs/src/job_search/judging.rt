@@ -48,7 +48,8 @@ pub(crate) fn judge_nets(
     })
 }
 
-fn judgement_of(verdict: &SearchVerdict) -> Judgement
+/// What is judged by the verdict of a search.
+pub fn judgement_of(verdict: &SearchVerdict) -> Judgement
     ensures { result ≡ judgement_of verdict.now }
 {
     match verdict {
@@ -60,7 +61,7 @@ fn judgement_of(verdict: &SearchVerdict) -> Judgement
 }
 
 /// The proofs of the pairs that met the limit, in their order.
-fn proofs_of(alloc: Global, searched: Searched) -> Result<Proofs, NoMemory>
+pub fn proofs_of(alloc: Global, searched: Searched) -> Result<Proofs, NoMemory>
     ensures { IfOk result (λ proofs. proofs ≡ proofs_of searched.pairs) }
 {
     let Searched { pairs, .. } = searched;

@@ -8,7 +8,7 @@ use Rattle.cbf_unfold.specs.shift_variables.cycle_variables.Cycles.{AreInCycles}
 use Rattle.cbf_unfold.proofs.shift_variables.Reading.{item_at}
 use Rattle.obligations.specs.declared.obligation.Obligation.{Obligation}
 use Rattle.sec_setup.specs.declared.ports.pairs.SignalPair.{SignalPair}
-use Rattle.cycle_search.specs.Asked.{AreAskedIn}
+use Rattle.cycle_search.specs.Asked.{AskedIn, AreAskedIn}
 use Rattle.cycle_search.proofs.Asking.{asked_more}
 use Rattle.cycle_search.proofs.asked.ask.Goals as goal
 
@@ -43,7 +43,7 @@ loop-i-preserved c =
     let at : slice_get pairs c.loop-i.i ≡ Some x = item_at pairs pairs c.loop-i.i x refl c.loop-i-test.true c.index-pairs-i.is in
     let left_at : slice_get left c.loop-i.i ≡ Some l = item_at left left c.loop-i.i l refl (omega (arith, c.loop-i-test.true, c.requires.left_each)) c.index-left-i.is in
     let right_at : slice_get right c.loop-i.i ≡ Some r = item_at right right c.loop-i.i r refl (omega (arith, c.loop-i-test.true, c.requires.right_each)) c.index-right-i.is in
-    asked_more c.args.places.now c.args.cycle pairs left right c.loop-i.i x l r at left_at right_at c.loop-i.asked.items c.push.new.self.items c.in_ok-obligation.obligation c.in_ok-push.ensures.items c.loop-i.invariant c.in_ok-obligation.ensures
+    asked_more (AskedIn c.args.places.now c.args.cycle) pairs left right c.loop-i.i x l r at left_at right_at c.loop-i.asked.items c.push.new.self.items c.in_ok-obligation.obligation c.in_ok-push.ensures.items c.loop-i.invariant c.in_ok-obligation.ensures
 
 pub returns : goal.returns
 returns c =

@@ -1,18 +1,9 @@
 -- Nothing is unfolded.
-use Rattle.std.proofs.Common.{◌≡◌, ℕ, List, [], length, ap, subst, arith}
-use Rattle.std.specs.List.{Contains}
-use Rattle.circuit_theory.specs.declared.Side.{Side}
+use Rattle.std.proofs.Common.{◌≡◌, length, ap, arith}
 use Rattle.circuit_theory.specs.declared.Side.TheVariants.{A, B}
-use Rattle.sec_setup.specs.declared.ports.pairs.SignalPair.{SignalPair}
 use Rattle.reset_form.proofs.reset_functions.Parts.{is_order}
-use Rattle.cycle_search.specs.Outputs.{HasDoneBefore}
+use Rattle.cycle_search.proofs.Sides.{none_before}
 use Rattle.cycle_search.proofs.cycle.begin.Goals as goal
-
-none_before : (side : Side) (pairs : List SignalPair) (done : List (ℕ × ℕ)) → done ≡ [] → HasDoneBefore side pairs 0 done
-none_before side pairs done e p = (λ h. absurd (nothing (subst (λ (l : List (ℕ × ℕ)). Contains l p) e h)), λ h. absurd (omega (arith, h.0)))
-  where
-    nothing : Contains [] p → ⊥
-    nothing h = omega (arith, h.1)
 
 pub new-requires-2-clause-order : goal.new-requires-2-clause-order
 new-requires-2-clause-order c =

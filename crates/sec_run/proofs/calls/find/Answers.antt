@@ -38,6 +38,12 @@ check-requires-clause-conflicts g c = (subst IsAllowed c.in-Check.is c.requires)
 pub compare_in_cycles-requires : goal.compare_in_cycles-requires
 compare_in_cycles-requires g c = (subst IsAllowed c.in-Search.is c.requires).0
 
+pub compare_under-requires-clause-conflicts : goal.compare_under-requires-clause-conflicts
+compare_under-requires-clause-conflicts g c = (subst IsAllowed c.in-SearchUnder.is c.requires).0
+
+pub compare_under-requires-clause-cycles : goal.compare_under-requires-clause-cycles
+compare_under-requires-clause-cycles g c = (subst IsAllowed c.in-SearchUnder.is c.requires).1
+
 pub compare_after-requires : goal.compare_after-requires
 compare_after-requires g c = (subst IsAllowed c.in-After.is c.requires).0
 

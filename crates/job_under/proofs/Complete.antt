@@ -1,0 +1,88 @@
+-- Where two circuits can be compared by a search under an assumption, they are.
+use Rattle.std.specs.Prelude.{IfSome, IsSomeAnd}
+use Rattle.std.proofs.Common.{◌≡◌, ℕ, List, Option, Some, Err}
+use Rattle.job_base.specs.sec_files.Loading.{Loads, IsTooLong, HasFault, HasDesignFault, HasRecordFault}
+use Rattle.job_base.specs.declared.finding.File.TheVariants as file
+use Rattle.job_base.specs.declared.finding.LineFault.TheVariants as line_fault
+use Rattle.job_base.specs.declared.finding.Judgement.{Judgement}
+use Rattle.job_base.specs.declared.finding.Judgement.TheVariants as judgement
+use Rattle.job_base.specs.declared.finding.Refusal.{Refusal}
+use Rattle.job_base.specs.declared.finding.Refusal.TheVariants as refusal
+use Rattle.job_base.specs.declared.finding.Finding.{Finding}
+use Rattle.job_base.specs.declared.finding.Finding.TheVariants as finding
+use Rattle.job_base.specs.Written.{status_of, judgement_status}
+use Rattle.job_base.proofs.sec_files.job_files.Accepted.{is_short, has_no_fault, is_sound, has_good_records}
+use Rattle.job_base.proofs.sec_files.job_files.Reading.{some_and, if_told}
+use Rattle.cycle_under.specs.declared.found.UnderError.{UnderError}
+use Rattle.cycle_under.specs.declared.found.UnderError.TheVariants as under
+use Rattle.job_under.specs.Found.{IsRefusedBy, IsUnderRefusal, IsUnderFound}
+use Rattle.job_under.specs.Answer.{CanBeSearchedUnder, IsUnderAnswer, IsUnderComplete}
+
+module _ (cycles conflicts : ℕ) (left right assumed : Option (List ℕ)) (x y z : List ℕ) (is : left ≡ Some x) (also : right ≡ Some y) (third : assumed ≡ Some z) (can : CanBeSearchedUnder cycles conflicts x y z) where
+  of_left : (P : List ℕ → Type 0) → IfSome left P → P x
+  of_left P h = if_told left P x is h
+
+  of_right : (P : List ℕ → Type 0) → IfSome right P → P y
+  of_right P h = if_told right P y also h
+
+  of_assumed : (P : List ℕ → Type 0) → IfSome assumed P → P z
+  of_assumed P h = if_told assumed P z third h
+
+  not_refused : (e : UnderError) → (e ≡ under.NoMemory → ⊥) → IsRefusedBy cycles conflicts left right assumed e → ⊥
+  not_refused e told h = can.stands h.a h.b h.c (of_left (λ t. Loads t h.a) h.left_loads) (of_right (λ t. Loads t h.b) h.right_loads) (of_assumed (λ t. Loads t h.c) h.assumed_loads) e told h.said
+
+  -- nothing is refused
+  stands : (r : Refusal) → IsUnderRefusal cycles conflicts left right assumed r → ⊥
+  stands (refusal.TooLong file.A) h = is_short x can.left (of_left IsTooLong h)
+  stands (refusal.TooLong file.B) h = is_short y can.right (of_right IsTooLong h.1)
+  stands (refusal.TooLong file.C) h = is_short z can.assumed (of_assumed IsTooLong h.2)
+  stands (refusal.TooLong file.S) h = h
+  stands (refusal.Text file.A line (line_fault.Circuit kind)) h = has_no_fault x can.left line kind (of_left (λ t. HasFault t line kind) h)
+  stands (refusal.Text file.B line (line_fault.Circuit kind)) h = has_no_fault y can.right line kind (of_right (λ t. HasFault t line kind) h.1)
+  stands (refusal.Text file.C line (line_fault.Circuit kind)) h = has_no_fault z can.assumed line kind (of_assumed (λ t. HasFault t line kind) h.2)
+  stands (refusal.Text file.S line (line_fault.Circuit kind)) h = h
+  stands (refusal.Text f line line_fault.BadHeader) h = h
+  stands (refusal.Text f line line_fault.BadRow) h = h
+  stands (refusal.Text f line (line_fault.Clauses kind)) h = h
+  stands (refusal.Design file.A fault) h = is_sound x can.left fault (of_left (λ t. HasDesignFault t fault) h)
+  stands (refusal.Design file.B fault) h = is_sound y can.right fault (of_right (λ t. HasDesignFault t fault) h.1)
+  stands (refusal.Design file.C fault) h = is_sound z can.assumed fault (of_assumed (λ t. HasDesignFault t fault) h.2)
+  stands (refusal.Design file.S fault) h = h
+  stands (refusal.Record file.A place kind) h = has_good_records x can.left place kind (of_left (λ t. HasRecordFault t place kind) h)
+  stands (refusal.Record file.B place kind) h = has_good_records y can.right place kind (of_right (λ t. HasRecordFault t place kind) h.1)
+  stands (refusal.Record file.C place kind) h = has_good_records z can.assumed place kind (of_assumed (λ t. HasRecordFault t place kind) h.2)
+  stands (refusal.Record file.S place kind) h = h
+  stands (refusal.Interface name) h = not_refused (under.Interface name) (λ e. cc) h
+  stands (refusal.TooLarge side) h = not_refused (under.TooLarge side) (λ e. cc) h
+  stands (refusal.Assume fault) h = not_refused (under.Assume fault) (λ e. cc) h
+  stands refusal.Vacuous h = not_refused (under.Vacuous h.0) (λ e. cc) h.1
+  stands (refusal.Misfit m) h = h
+  stands refusal.TooManyEvents h = h
+  stands (refusal.Pair name) h = h
+
+  judged : (j : Judgement) → IsUnderAnswer (judgement_status j)
+  judged judgement.Equal = tt
+  judged judgement.NotShown = tt
+  judged judgement.Different = tt
+  judged judgement.Limit = tt
+
+  answered : (f : Finding) → IsUnderFound cycles conflicts left right assumed f → IsUnderAnswer (status_of f)
+  answered finding.Words h = absurd h
+  answered (finding.Refused r) h = absurd (stands r h)
+  answered (finding.Cyclic side names) h = absurd h
+  answered (finding.Unpaired side names) h = absurd h
+  answered (finding.Checked o s) h = absurd h
+  answered (finding.Done text) h = absurd h
+  answered (finding.Generated o report) h = absurd h
+  answered (finding.Replayed differences) h = absurd h
+  answered (finding.Undecided side name proof) h = absurd h
+  answered (finding.Unrefuted u) h = absurd h
+  answered (finding.Judged j proofs text) h = judged j
+
+-- what is found has the status of a verdict
+pub under_complete : (cycles conflicts : ℕ) (left right assumed : Option (List ℕ)) (f : Finding) → IsUnderFound cycles conflicts left right assumed f → IsUnderComplete cycles conflicts left right assumed (status_of f)
+under_complete cycles conflicts left right assumed f found can =
+    let l = some_and left (λ x. IsSomeAnd right (λ y. IsSomeAnd assumed (λ z. CanBeSearchedUnder cycles conflicts x y z))) can in
+    let r = some_and right (λ y. IsSomeAnd assumed (λ z. CanBeSearchedUnder cycles conflicts l.0 y z)) l.2 in
+    let s = some_and assumed (λ z. CanBeSearchedUnder cycles conflicts l.0 r.0 z) r.2 in
+    answered cycles conflicts left right assumed l.0 r.0 s.0 l.1 r.1 s.1 s.2 f found

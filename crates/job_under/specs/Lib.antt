@@ -1,0 +1,5 @@
+pub mod Report
+pub mod Judged
+pub mod Found
+pub mod Answer
+pub mod Ends
