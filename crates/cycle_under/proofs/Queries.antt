@@ -22,7 +22,7 @@ use Rattle.cbf_unfold.specs.shift_variables.Sequences.{bits_at}
 use Rattle.cbf_unfold.specs.shift_variables.Variables.{variable_of, variables_of}
 use Rattle.cbf_unfold.specs.shift_variables.cycle_variables.Cycles.{AreInCycles, GoesFirst}
 use Rattle.cbf_unfold.proofs.shift_variables.Assignments.{assigned_alike}
-use Rattle.cbf_unfold.proofs.unfold_places.Cone.{reached_one}
+use Rattle.aig.proofs.Supports.{reached_one}
 use Rattle.cbf_unfold.proofs.unfold_places.Lists.{pairs_map}
 use Rattle.pair_decide.specs.declared.query.Query.{Query}
 use Rattle.pair_decide.specs.Queries.{IsQuery, IsLeast, Distinguishes, assigned_to, roots_of}
