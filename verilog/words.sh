@@ -21,7 +21,7 @@ other() {
   local last=${check[*]: -1}
   case $1,$last in
     *$'\n'*) complain "a word with a line break: $1" ;;
-    -* | *,--mode | *,--conflicts | *,--cycles | *,--assume)
+    -* | *,--mode | *,--conflicts | *,--cycles | *,--assume | *,--pair)
       [ -n "$top" ] || complain "no such option, or a word of sec check before --top TOP: $1"
       check+=("$1")
       ;;
