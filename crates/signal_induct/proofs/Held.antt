@@ -8,7 +8,7 @@ use Rattle.circuit_theory.proofs.Numbers.{numbers_are}
 use Rattle.flat_net.specs.View.{NetView, named, circuit_of, ports_of}
 use Rattle.circuit_laws.specs.declared.signal_laws.anchor.Anchor.{Anchor}
 use Rattle.circuit_laws.specs.signal_laws.Ties.{side_at}
-use Rattle.circuit_laws.specs.signal_laws.Laws.{AreHeld}
+use Rattle.signal_induct.specs.Tied.{AreHeld}
 use Rattle.circuit_laws.proofs.signal_laws.Holding.{holds_in}
 use Rattle.signal_refine.specs.declared.nets.SignalNets.{SignalNets}
 use Rattle.signal_refine.specs.Showing.{AreTiedNodes, AreInductiveTies}

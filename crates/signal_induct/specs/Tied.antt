@@ -1,7 +1,11 @@
 -- Two circuits compared by ties of their signals.
-use Rattle.std.specs.Prelude.{◌≡◌, ℕ, suc, ◌+◌, ◌==◌, ◌&&◌, ◌||◌, not, Bool, true, false, if◌then◌else◌, List, [], ◌∷◌, ◌++◌, length, map, slice_get, find, unwrap_or, Option, option_map}
+use Rattle.std.specs.Prelude.{◌≡◌, ℕ, suc, ◌+◌, ◌<◌, ◌==◌, ◌&&◌, ◌||◌, not, Bool, true, false, if◌then◌else◌, List, [], ◌∷◌, ◌++◌, length, map, slice_get, find, unwrap_or, Option, option_map}
 use Rattle.std.specs.List.{AllZip}
+use Rattle.circuit_theory.specs.Circuit.{Circuit}
 use Rattle.circuit_theory.specs.Interface.{AreOrders}
+use Rattle.circuit_theory.specs.Joined.{beside}
+use Rattle.circuit_laws.specs.reset_laws.Reset.{AreAlikeFromReset}
+use Rattle.circuit_laws.specs.signal_laws.Ties.{AreTied}
 use Rattle.flat_net.specs.View.{NetView, circuit_of, ports_of}
 use Rattle.witness_report.specs.declared.witness.PairName.{PairName}
 use Rattle.witness_report.specs.declared.witness.PairName.TheVariants as pair_name
@@ -9,7 +13,6 @@ use Rattle.sec_setup.specs.declared.ports.pairs.SignalPair.{SignalPair}
 use Rattle.sec_setup.specs.ports.Pairing.{IsOutputPair}
 use Rattle.circuit_laws.specs.declared.signal_laws.anchor.Anchor.{Anchor}
 use Rattle.circuit_laws.specs.declared.signal_laws.anchor.Anchor.TheVariants as anchor
-use Rattle.circuit_laws.specs.signal_laws.Laws.{AreHeld}
 use Rattle.signal_refine.specs.declared.nets.SignalNets.{SignalNets}
 use Rattle.signal_refine.specs.Asking.{same_bit}
 use Rattle.signal_refine.specs.Showing.{AreInductiveTies}
@@ -50,6 +53,10 @@ tied_pair size anchors p = record { name = name_of p.name; equal = same_anchor (
 -- the name of the first output that isn't shown equal
 abbrev pub first_apart : List TiedPair → Option (List ℕ)
 first_apart pairs = option_map (λ (p : TiedPair). p.name) (find (λ (p : TiedPair). not p.equal) pairs)
+
+-- the ties hold in every cycle of two reset runs with equal inputs
+abbrev pub AreHeld : Circuit ℕ → Circuit ℕ → ℕ → List Anchor → Type 0
+AreHeld a b size anchors = (n : ℕ) (l r : ℕ → ℕ → Bool) → AreAlikeFromReset a b n l r → (t : ℕ) → t < n → AreTied size anchors (beside (l t) (r t))
 
 -- By some numbers of the interface an inductive invariant of both circuits gives the ties, so that they hold in every cycle of two reset runs
 -- with equal inputs, and each output of A is compared with B's of its name by them.
