@@ -6,6 +6,7 @@ use Rattle.std.proofs.lemmas.List.{length-take-le}
 use Rattle.std.proofs.lemmas.Option.{same_Some, slice_get_within}
 use Rattle.circuit_theory.proofs.Lists.{Contains-cases}
 use Rattle.flat_net.proofs.Growth.{length-push}
+use Rattle.aig.specs.declared.node.Node.{Node}
 use Rattle.cbf_unfold.specs.declared.unfold_places.signal_function.Unfolded.{Unfolded}
 use Rattle.cbf_unfold.proofs.shift_variables.Assignments.{take_next}
 use Rattle.cbf_unfold.proofs.unfold_places.Lists.{append_cases}
@@ -16,8 +17,8 @@ use Rattle.cycle_search.specs.Asked.{AskedIn, AreAskedIn}
 only_one : {X : Type 0} (x y : X) → Contains (x ∷ []) y → x ≡ y
 only_one x y h = elim (Contains-cases x y [] h) [ inl e ↦ e | inr k ↦ absurd (omega (arith, k.1)) ]
 
-module _ (places : List (ℕ × ℕ)) (cycle : ℕ) (pairs : List SignalPair) (left right : List Unfolded) (i : ℕ) (x : SignalPair) (l r : Unfolded) (at : slice_get pairs i ≡ Some x) (left_at : slice_get left i ≡ Some l) (right_at : slice_get right i ≡ Some r) where
-  pub asked_more : (asked made : List Obligation) (o : Obligation) → made ≡ asked ++ o ∷ [] → AreAskedIn places cycle (take i pairs) left right asked → AskedIn places cycle x l r o → AreAskedIn places cycle (take (i + 1) pairs) left right made
+module _ (g : List Node) (places : List (ℕ × ℕ)) (cycle : ℕ) (pairs : List SignalPair) (left right : List Unfolded) (i : ℕ) (x : SignalPair) (l r : Unfolded) (at : slice_get pairs i ≡ Some x) (left_at : slice_get left i ≡ Some l) (right_at : slice_get right i ≡ Some r) where
+  pub asked_more : (asked made : List Obligation) (o : Obligation) → made ≡ asked ++ o ∷ [] → AreAskedIn g places cycle (take i pairs) left right asked → AskedIn g places cycle x l r o → AreAskedIn g places cycle (take (i + 1) pairs) left right made
   asked_more asked made o is before here = record {
     each = ap length is ∙ (length-push asked o ∙ (ap (λ k. k + 1) before.each ∙ (sym (length-push (take i pairs) x) ∙ ap length (sym more))));
     are = λ j y m k p hy hl hr ho. go j y m k p hl hr (append_cases (take i pairs) (x ∷ []) j y (subst (λ (ps : List SignalPair). slice_get ps j ≡ Some y) more hy)) (append_cases asked (o ∷ []) j p (subst (λ (os : List Obligation). slice_get os j ≡ Some p) is ho))
@@ -40,7 +41,7 @@ module _ (places : List (ℕ × ℕ)) (cycle : ℕ) (pairs : List SignalPair) (l
       long = length-take-le i pairs (let g = slice_get_within pairs i x at in omega (arith, g))
 
       go : (j : ℕ) (y : SignalPair) (m k : Unfolded) (p : Obligation) → slice_get left j ≡ Some m → slice_get right j ≡ Some k →
-          (slice_get (take i pairs) j ≡ Some y) ⊎ ((length (take i pairs) ≤ j) × Contains (x ∷ []) y) → (slice_get asked j ≡ Some p) ⊎ ((length asked ≤ j) × Contains (o ∷ []) p) → j < length asked + 1 → AskedIn places cycle y m k p
+          (slice_get (take i pairs) j ≡ Some y) ⊎ ((length (take i pairs) ≤ j) × Contains (x ∷ []) y) → (slice_get asked j ≡ Some p) ⊎ ((length asked ≤ j) × Contains (o ∷ []) p) → j < length asked + 1 → AskedIn g places cycle y m k p
       go j y m k p hl hr (inl a) (inl b) h = before.are j y m k p a hl hr b
       go j y m k p hl hr (inl a) (inr b) h = absurd (let w = slice_get_within (take i pairs) j y a in omega (arith, w, b.0, same_long))
       go j y m k p hl hr (inr a) (inl b) h = absurd (let w = slice_get_within asked j p b in omega (arith, w, a.0, same_long))
@@ -48,6 +49,6 @@ module _ (places : List (ℕ × ℕ)) (cycle : ℕ) (pairs : List SignalPair) (l
           let e : i ≡ j = omega (arith, a.0, h, same_long, long) in
           let l_is : l ≡ m = same_Some l m (sym left_at ∙ (ap (slice_get left) e ∙ hl)) in
           let r_is : r ≡ k = same_Some r k (sym right_at ∙ (ap (slice_get right) e ∙ hr)) in
-          subst (λ (z : SignalPair). AskedIn places cycle z m k p) (only_one x y a.1)
-          (subst (λ (z : Obligation). AskedIn places cycle x m k z) (only_one o p b.1)
-          (subst (λ (z : Unfolded). AskedIn places cycle x m z o) r_is (subst (λ (z : Unfolded). AskedIn places cycle x z r o) l_is here)))
+          subst (λ (z : SignalPair). AskedIn g places cycle z m k p) (only_one x y a.1)
+          (subst (λ (z : Obligation). AskedIn g places cycle x m k z) (only_one o p b.1)
+          (subst (λ (z : Unfolded). AskedIn g places cycle x m z o) r_is (subst (λ (z : Unfolded). AskedIn g places cycle x z r o) l_is here)))
