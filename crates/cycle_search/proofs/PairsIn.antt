@@ -17,6 +17,7 @@ use Rattle.sec_base.specs.declared.basics.PairAnswer.{PairAnswer}
 use Rattle.sec_base.specs.declared.basics.PairAnswer.TheVariants as answer
 use Rattle.circuit_laws.specs.reset_laws.Reset.{IsResetWitness}
 use Rattle.aig.specs.Values.{value}
+use Rattle.aig.specs.lane_eval.root_classes.Agreeing.{Agree}
 use Rattle.cbf_unfold.specs.declared.unfold_places.signal_function.Unfolded.{Unfolded}
 use Rattle.cbf_unfold.specs.shift_variables.Variables.{variable_of, variables_of}
 use Rattle.pair_decide.specs.declared.query.Query.{Query}
@@ -81,14 +82,14 @@ answer_left answer.NotShown d l n = absurd (n refl)
 answer_left answer.Limit d l n = absurd (l refl)
 
 module _ (s : Setup) (b : Bases) (f : Functions) (setting : IsSetting s) (bases : AreBases s b) (sound : AreSoundFunctions f) (cycle : ℕ) (left right : List Unfolded) (functions : AreFunctionsIn s b f cycle left right) (asked : List Obligation)
-    (are : AreAskedIn f.places cycle s.pairs left right asked) where
+    (are : AreAskedIn f.aig f.places cycle s.pairs left right asked) where
   -- the functions of a pair, and what is asked of it
   pub record PairIn (x : SignalPair) (o : Obligation) : Type 0 where
     pub l : Unfolded
     pub r : Unfolded
     pub left_is : IsFunctionIn s.left.now s.orders.left b.left f.aig f.places A cycle x l
     pub right_is : IsFunctionIn s.right.now s.orders.right b.right f.aig f.places B cycle x r
-    pub asks : AskedIn f.places cycle x l r o
+    pub asks : AskedIn f.aig f.places cycle x l r o
 
   pair_in : (i : ℕ) (x : SignalPair) (o : Obligation) → slice_get s.pairs i ≡ Some x → slice_get asked i ≡ Some o → PairIn x o
   pair_in i x o hx ho =
@@ -109,7 +110,7 @@ module _ (s : Setup) (b : Bases) (f : Functions) (setting : IsSetting s) (bases 
         one p zero e = cc
         one p (suc j) e = absurd (let w = slice_get_within [] j q e in omega (arith, w))
 
-        go : AreQueriesOf f.places k.l k.r o.queries → AsksIn s b f x cycle k.l k.r q
+        go : AreQueriesOf f.aig f.places k.l k.r o.queries → AsksIn s b f x cycle k.l k.r q
         go (inl none) = absurd (let w = slice_get_within [] place q (ap (λ (qs : List Query). slice_get qs place) (sym none.1) ∙ at) in omega (arith, w))
         go (inr (p, is, asks)) =
             let same : p ≡ q = one p place (ap (λ (qs : List Query). slice_get qs place) (sym is) ∙ at) in
@@ -118,19 +119,19 @@ module _ (s : Setup) (b : Bases) (f : Functions) (setting : IsSetting s) (bases 
     own_queries : All (IsQuery f.aig) o.queries
     own_queries = All-from_each (IsQuery f.aig) o.queries (λ q h. let at = at_of o.queries q h in is_query (asks_at at.0 q at.1))
 
-    -- one literal has one value
-    same_by_literal : k.l.lit.0 ≡ k.r.lit.0 → (bits : ℕ → ℕ → Bool) → tree_value bits k.left_is.tree ≡ tree_value bits k.right_is.tree
-    same_by_literal e bits =
+    -- what agrees in the graph agrees
+    same_by_value : Agree f.aig k.l.lit.0 k.r.lit.0 → (bits : ℕ → ℕ → Bool) → tree_value bits k.left_is.tree ≡ tree_value bits k.right_is.tree
+    same_by_value e bits =
         let y : ℕ → Bool = λ v. bits (get_or f.places v (0, 0)).0 (get_or f.places v (0, 0)).1 in
         let takes : (v : ℕ) (p : ℕ × ℕ) → slice_get f.places v ≡ Some p → y v ≡ bits p.0 p.1 = λ v p at. ap (λ (z : ℕ × ℕ). bits z.0 z.1) (get_or_from_slice_get f.places v p (0, 0) at) in
-        sym (sound.values f.places bits y k.left_is.tree k.l.lit.0 takes k.left_is.builds) ∙ (ap (value f.aig y) e ∙ sound.values f.places bits y k.right_is.tree k.r.lit.0 takes k.right_is.builds)
+        sym (sound.values f.places bits y k.left_is.tree k.l.lit.0 takes k.left_is.builds) ∙ (e y ∙ sound.values f.places bits y k.right_is.tree k.r.lit.0 takes k.right_is.builds)
 
     -- both functions agree where the queries are same
     agree : All (IsSame f.aig) o.queries → AgreeAt (numbered s b) x.left.0 x.right.0 cycle
     agree same = go k.asks.queries_are
       where
-        go : AreQueriesOf f.places k.l k.r o.queries → AgreeAt (numbered s b) x.left.0 x.right.0 cycle
-        go (inl none) = record { left_tree = k.left_is.tree; right_tree = k.right_is.tree; left_unfolds = k.left_is.unfolds; right_unfolds = k.right_is.unfolds; same = λ bits care. same_by_literal none.0 bits }
+        go : AreQueriesOf f.aig f.places k.l k.r o.queries → AgreeAt (numbered s b) x.left.0 x.right.0 cycle
+        go (inl none) = record { left_tree = k.left_is.tree; right_tree = k.right_is.tree; left_unfolds = k.left_is.unfolds; right_unfolds = k.right_is.unfolds; same = λ bits care. same_by_value none.0 bits }
         go (inr (p, is, asks)) =
             let here : slice_get o.queries 0 ≡ Some p = ap (λ (qs : List Query). slice_get qs 0) is in
             equal (asks_pair (asks_at 0 p here)) (All-at (IsSame f.aig) o.queries 0 p here same)

@@ -10,6 +10,7 @@ use Rattle.cbf_unfold.specs.declared.unfold_places.signal_function.Unfolded.{Unf
 use Rattle.obligations.specs.declared.outcome.verdict.PairResult.{PairResult}
 use Rattle.obligations.specs.declared.outcome.verdict.ResetWitness.{ResetWitness}
 use Rattle.obligations.specs.Fits.{AnswerFits}
+use Rattle.merged_graph.specs.Merged.{IsMerged}
 use Rattle.outcome_fits.specs.ResetOutcome.{Numbered, IsFirstLimit, pair_at}
 use Rattle.sec_setup.specs.declared.setup.Setup.{Setup}
 use Rattle.sec_setup.specs.ports.Pairs.{NamedPair, places_of}
@@ -61,7 +62,8 @@ pub record IsFoundIn (n : Numbered) (conflicts t : ℕ) (pairs : List (NamedPair
   pub pairs_fit : AllZip (ResultIn n conflicts t) pairs f.pairs
   pub verdict_is : VerdictIn n t pairs f.pairs f.verdict
 
--- Both circuits are unfolded in the cycles before this one, on one graph and table, which are no larger than what is unfolded weighs.
+-- Both circuits are unfolded in the cycles before this one, on one graph and table, which are no larger than what is unfolded weighs. The
+-- merged graph stands beside that one.
 pub record IsUnfoldedBefore (s : Setup) (b : Bases) (cycle : ℕ) (u : Unfolding) : Type 0 where
   pub left_net : u.left.net ≡ s.left.now
   pub left_order : u.left.order ≡ s.orders.left
@@ -73,6 +75,7 @@ pub record IsUnfoldedBefore (s : Setup) (b : Bases) (cycle : ℕ) (u : Unfolding
   pub right_fits : FitsReset u.right u.functions.aig u.functions.places
   pub left_done : HasDoneBefore A s.pairs cycle u.left.done
   pub right_done : HasDoneBefore B s.pairs cycle u.right.done
+  pub merged : IsMerged u.functions.aig u.merged
   pub nodes : length u.functions.aig ≤ 1 + u.left.weight + u.right.weight
   pub entries : length u.functions.places ≤ u.left.weight + u.right.weight
 

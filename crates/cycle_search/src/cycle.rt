@@ -2,17 +2,20 @@
 
 ghost use Rattle.std.specs.Prelude.{◌+◌, ◌≤◌, map, IfOk, OnOk};
 ghost use Rattle.sec_setup.specs.ports.Pairs.{places_of};
+ghost use Rattle.merged_graph.specs.Merged.{IsMerged};
 ghost use Rattle.reset_form.specs.reset_asked.Numbers.{numbered};
 ghost use Rattle.reset_form.specs.reset_functions.Bases.{AreBases};
 ghost use Rattle.cycle_search.specs.Settings.{IsSetting};
 ghost use Rattle.cycle_search.specs.Cycles.{IsUnfoldedBefore, Compared, AreFunctionsIn, IsFoundIn};
 
 use crate::asked::ask;
+use crate::merging::wide_pairs;
 use crate::outputs::unfold_side;
 use crate::shown::show;
 use aig::Aig;
 use base_tables::PlaceTable;
 use cbf_unfold::unfold_places::Unfolded;
+use merged_graph::MergedGraph;
 use obligations::outcome::PairResults;
 use obligations::{Decided, decide_all, verdict_at};
 use reset_form::reset_functions::{Bases, Functions};
@@ -28,6 +31,8 @@ pub(crate) struct Unfolding<'a> {
     right: ResetUnfolder<'a>,
     /// The graph and the table. The functions of a cycle aren't kept beyond it.
     functions: Functions,
+    /// What agrees of the graph's nodes, as far as it was proved.
+    merged: MergedGraph,
 }
 
 /// It is let go by one call: an owner isn't taken apart field by field at each way out.
@@ -37,6 +42,7 @@ impl Drop for Unfolding<'_> {
             left: _,
             right: _,
             functions: _,
+            merged: _,
         } = self;
     }
 }
@@ -81,10 +87,12 @@ pub(crate) fn begin<'a>(
         left: Vec::new(alloc),
         right: Vec::new(alloc),
     };
+    let merged = MergedGraph::new(alloc)?;
     Ok(Unfolding {
         left,
         right,
         functions,
+        merged,
     })
 }
 
@@ -126,11 +134,13 @@ pub(crate) fn compare_cycle(
         &mut unfolded.functions.aig,
         &mut unfolded.functions.places,
     )?;
+    let asked = wide_pairs(alloc, left.as_slice(), right.as_slice())?;
+    unfolded.merged.merge(alloc, &unfolded.functions.aig, asked.as_slice(), conflicts)?;
     let found = decide_cycle(
         alloc,
         setup,
         bases,
-        &unfolded.functions,
+        unfolded,
         left.as_slice(),
         right.as_slice(),
         cycle,
@@ -144,7 +154,7 @@ fn decide_cycle(
     alloc: Global,
     setup: &Setup<'_>,
     bases: Bases,
-    functions: &Functions,
+    unfolded: &Unfolding<'_>,
     left: &[Unfolded],
     right: &[Unfolded],
     cycle: u32,
@@ -152,14 +162,23 @@ fn decide_cycle(
 ) -> Result<InCycle, NoMemory>
     requires setup { IsSetting setup.now }
     requires bases { AreBases setup.now bases }
-    requires functions { AreFunctionsIn setup.now bases functions.now cycle left.now right.now }
+    requires functions { AreFunctionsIn setup.now bases unfolded.now.functions cycle left.now right.now }
+    requires merged { IsMerged unfolded.now.functions.aig unfolded.now.merged }
     requires conflicts { conflicts ≤ MAX_CONFLICTS }
     ensures { IfOk result (IsFoundIn (numbered setup.now bases) conflicts cycle (map places_of setup.now.pairs)) }
 {
+    let functions = &unfolded.functions;
     functions.aig.keeps();
     functions.places.keeps();
-    let places = &functions.places;
-    let asked = ask(alloc, places, setup.pairs.as_slice(), left, right, cycle)?;
+    let asked = ask(
+        alloc,
+        functions,
+        &unfolded.merged,
+        setup.pairs.as_slice(),
+        left,
+        right,
+        cycle,
+    )?;
     let decided = decide_all(alloc, &functions.aig, asked.as_slice(), conflicts)?;
     let Decided {
         results,

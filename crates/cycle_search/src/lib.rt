@@ -6,6 +6,7 @@ mod asked;
 mod cycle;
 mod depths;
 mod found;
+mod merging;
 mod outputs;
 mod search;
 pub mod search_report;

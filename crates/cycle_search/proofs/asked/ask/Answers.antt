@@ -23,14 +23,14 @@ obligation_of-requires-clause-left c =
     let xs = c.args.left.now in
     let l : Unfolded = c.index-left-i.result in
     let inside : c.loop-i.i < length xs = omega (arith, c.loop-i-test.true, c.requires.left_each) in
-    All-at (λ (u : Unfolded). AreInCycles c.args.places.now u.vars) xs c.loop-i.i l (item_at xs xs c.loop-i.i l refl inside c.index-left-i.is) c.requires.left
+    All-at (λ (u : Unfolded). AreInCycles c.args.functions.now.places u.vars) xs c.loop-i.i l (item_at xs xs c.loop-i.i l refl inside c.index-left-i.is) c.requires.left
 
 pub obligation_of-requires-clause-right : goal.obligation_of-requires-clause-right
 obligation_of-requires-clause-right c =
     let xs = c.args.right.now in
     let r : Unfolded = c.index-right-i.result in
     let inside : c.loop-i.i < length xs = omega (arith, c.loop-i-test.true, c.requires.right_each) in
-    All-at (λ (u : Unfolded). AreInCycles c.args.places.now u.vars) xs c.loop-i.i r (item_at xs xs c.loop-i.i r refl inside c.index-right-i.is) c.requires.right
+    All-at (λ (u : Unfolded). AreInCycles c.args.functions.now.places u.vars) xs c.loop-i.i r (item_at xs xs c.loop-i.i r refl inside c.index-right-i.is) c.requires.right
 
 pub loop-i-preserved : goal.loop-i-preserved
 loop-i-preserved c =
@@ -43,8 +43,8 @@ loop-i-preserved c =
     let at : slice_get pairs c.loop-i.i ≡ Some x = item_at pairs pairs c.loop-i.i x refl c.loop-i-test.true c.index-pairs-i.is in
     let left_at : slice_get left c.loop-i.i ≡ Some l = item_at left left c.loop-i.i l refl (omega (arith, c.loop-i-test.true, c.requires.left_each)) c.index-left-i.is in
     let right_at : slice_get right c.loop-i.i ≡ Some r = item_at right right c.loop-i.i r refl (omega (arith, c.loop-i-test.true, c.requires.right_each)) c.index-right-i.is in
-    asked_more (AskedIn c.args.places.now c.args.cycle) pairs left right c.loop-i.i x l r at left_at right_at c.loop-i.asked.items c.push.new.self.items c.in_ok-obligation.obligation c.in_ok-push.ensures.items c.loop-i.invariant c.in_ok-obligation.ensures
+    asked_more (AskedIn c.args.functions.now.aig c.args.functions.now.places c.args.cycle) pairs left right c.loop-i.i x l r at left_at right_at c.loop-i.asked.items c.push.new.self.items c.in_ok-obligation.obligation c.in_ok-push.ensures.items c.loop-i.invariant c.in_ok-obligation.ensures
 
 pub returns : goal.returns
 returns c =
-    subst (λ (ps : List SignalPair). AreAskedIn c.args.places.now c.args.cycle ps c.args.left.now c.args.right.now c.loop-i.asked.items) (take_all c.loop-i.i c.args.pairs.now (omega (arith, c.loop-i-test.false))) c.loop-i.invariant
+    subst (λ (ps : List SignalPair). AreAskedIn c.args.functions.now.aig c.args.functions.now.places c.args.cycle ps c.args.left.now c.args.right.now c.loop-i.asked.items) (take_all c.loop-i.i c.args.pairs.now (omega (arith, c.loop-i-test.false))) c.loop-i.invariant

@@ -28,6 +28,7 @@ returns c =
       right_fits = r.fits _ _;
       left_done = none_before A s.pairs _ l.none;
       right_done = none_before B s.pairs _ r.none;
+      merged = c.in_ok-merged.ensures _;
       nodes = omega (arith, few, l.weight, r.weight);
       entries = omega (arith, none);
     }

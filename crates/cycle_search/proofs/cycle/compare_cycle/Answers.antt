@@ -7,6 +7,7 @@ use Rattle.flat_net.specs.View.{NetView}
 use Rattle.sec_setup.specs.declared.ports.pairs.SignalPair.{SignalPair}
 use Rattle.reset_form.proofs.reset_functions.OwnPairs.{output_within}
 use Rattle.reset_form.proofs.reset_unfold.Known.{fits_later}
+use Rattle.merged_graph.proofs.Standing.{later}
 use Rattle.cycle_search.specs.Outputs.{side_of}
 use Rattle.cycle_search.specs.Cycles.{Compared}
 use Rattle.cycle_search.proofs.Growing.{functions_later}
@@ -58,12 +59,18 @@ decide_cycle-requires-clause-functions c =
     let places = c.unfold_side-2.new.places in
     record {
       left_are =
-          functions_as s.left.now u.left.net before.left_net s.orders.left u.left.order before.left_order b.left u.left.base before.left_base g places A c.args.cycle c.as_slice.result.now s.pairs c.as_slice.ensures c.in_ok-left.left.items c.as_slice-3.result.now c.as_slice-3.ensures.value
+          functions_as s.left.now u.left.net before.left_net s.orders.left u.left.order before.left_order b.left u.left.base before.left_base g places A c.args.cycle c.as_slice.result.now s.pairs c.as_slice.ensures c.in_ok-left.left.items c.as_slice-6.result.now c.as_slice-6.ensures.value
           (functions_later u.left.net u.left.order u.left.base c.unfold_side.new.aig g c.unfold_side.new.places places later.grows later.adds A c.args.cycle c.as_slice.result.now c.in_ok-left.left.items c.in_ok-left.ensures.unfolded);
       right_are =
-          functions_as s.right.now u.right.net before.right_net s.orders.right u.right.order before.right_order b.right u.right.base before.right_base g places B c.args.cycle c.as_slice-2.result.now s.pairs c.as_slice-2.ensures c.in_ok-right.right.items c.as_slice-4.result.now c.as_slice-4.ensures.value
+          functions_as s.right.now u.right.net before.right_net s.orders.right u.right.order before.right_order b.right u.right.base before.right_base g places B c.args.cycle c.as_slice-2.result.now s.pairs c.as_slice-2.ensures c.in_ok-right.right.items c.as_slice-7.result.now c.as_slice-7.ensures.value
           c.in_ok-right.ensures.unfolded;
     }
+
+pub merge-requires-clause-merged : goal.merge-requires-clause-merged
+merge-requires-clause-merged c =
+    let f = c.args.unfolded.now.functions in
+    let m = c.args.unfolded.now.merged in
+    later c.unfold_side.new.aig c.unfold_side-2.new.aig m c.unfold_side-2.ensures.later.grows (later f.aig c.unfold_side.new.aig m c.unfold_side.ensures.later.grows c.requires.before.merged)
 
 pub returns-clause-after : goal.returns-clause-after
 returns-clause-after c =
@@ -83,6 +90,7 @@ returns-clause-after c =
       right_fits = c.in_ok-right.ensures.fits;
       left_done = done_all A c.args.cycle s.pairs c.as_slice.result.now c.as_slice.ensures u.left.done c.unfold_side.new.unfolder.done before.left_done c.in_ok-left.ensures.done;
       right_done = done_all B c.args.cycle s.pairs c.as_slice-2.result.now c.as_slice-2.ensures u.right.done c.unfold_side-2.new.unfolder.done before.right_done c.in_ok-right.ensures.done;
+      merged = c.in_ok-merge.ensures;
       nodes = omega (arith, before.nodes, one.nodes, two.nodes);
       entries = omega (arith, before.entries, one.entries, two.entries);
     }

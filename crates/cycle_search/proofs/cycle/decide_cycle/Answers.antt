@@ -23,13 +23,14 @@ pub ask-requires : goal.ask-requires
 ask-requires c =
     let s = c.args.setup.now in
     let b = c.args.bases in
-    let f = c.args.functions.now in
+    let f = c.args.unfolded.now.functions in
     let left = c.args.left.now in
     let right = c.args.right.now in
     let h = c.requires.functions in
     let Left : SignalPair → Unfolded → Type 0 = IsFunctionIn s.left.now s.orders.left b.left f.aig f.places A c.args.cycle in
     let Right : SignalPair → Unfolded → Type 0 = IsFunctionIn s.right.now s.orders.right b.right f.aig f.places B c.args.cycle in
     record {
+      merged = c.requires.merged;
       left_each = sym (zip_length Left s.pairs left h.left_are) ∙ ap length (sym c.as_slice.ensures);
       right_each = sym (zip_length Right s.pairs right h.right_are) ∙ ap length (sym c.as_slice.ensures);
       left = All-from_each (λ (u : Unfolded). AreInCycles f.places u.vars) left
@@ -42,22 +43,22 @@ pub decide_all-requires-clause-asked : goal.decide_all-requires-clause-asked
 decide_all-requires-clause-asked c =
     let s = c.args.setup.now in
     let b = c.args.bases in
-    let f = c.args.functions.now in
+    let f = c.args.unfolded.now.functions in
     let asked = c.in_ok-asked.asked.items in
     let sound : AreSoundFunctions f = record { graph = c.keeps.ensures.graph; values = c.keeps.ensures.values; distinct = c.keeps-2.ensures } in
-    let are : AreAskedIn f.places c.args.cycle s.pairs c.args.left.now c.args.right.now asked = subst (λ (ps : List SignalPair). AreAskedIn f.places c.args.cycle ps c.args.left.now c.args.right.now asked) c.as_slice.ensures c.in_ok-asked.ensures in
+    let are : AreAskedIn f.aig f.places c.args.cycle s.pairs c.args.left.now c.args.right.now asked = subst (λ (ps : List SignalPair). AreAskedIn f.aig f.places c.args.cycle ps c.args.left.now c.args.right.now asked) c.as_slice.ensures c.in_ok-asked.ensures in
     subst (graph_level.AreAsked f.aig) (sym c.as_slice-2.ensures.value) (queries_are s b f c.requires.setup c.requires.bases sound c.args.cycle c.args.left.now c.args.right.now c.requires.functions asked are)
 
 pub show-requires : goal.show-requires
 show-requires c =
     let s = c.args.setup.now in
     let b = c.args.bases in
-    let f = c.args.functions.now in
+    let f = c.args.unfolded.now.functions in
     let asked = c.in_ok-asked.asked.items in
     let d = c.in_ok-decided.decided in
     let at = c.verdict_at-at.result in
     let sound : AreSoundFunctions f = record { graph = c.keeps.ensures.graph; values = c.keeps.ensures.values; distinct = c.keeps-2.ensures } in
-    let are : AreAskedIn f.places c.args.cycle s.pairs c.args.left.now c.args.right.now asked = subst (λ (ps : List SignalPair). AreAskedIn f.places c.args.cycle ps c.args.left.now c.args.right.now asked) c.as_slice.ensures c.in_ok-asked.ensures in
+    let are : AreAskedIn f.aig f.places c.args.cycle s.pairs c.args.left.now c.args.right.now asked = subst (λ (ps : List SignalPair). AreAskedIn f.aig f.places c.args.cycle ps c.args.left.now c.args.right.now asked) c.as_slice.ensures c.in_ok-asked.ensures in
     let decided : HaveDecided f.aig c.args.conflicts asked d = subst (λ (os : List Obligation). HaveDecided f.aig c.args.conflicts os d) c.as_slice-2.ensures.value c.in_ok-decided.ensures in
     let verdict : IsVerdictAt d.different d.not_shown d.results at = subst (λ (rs : List PairResult). IsVerdictAt d.different d.not_shown rs at) c.as_slice-3.ensures c.verdict_at-at.ensures in
     record {
@@ -72,13 +73,13 @@ pub returns : goal.returns
 returns c =
     let s = c.args.setup.now in
     let b = c.args.bases in
-    let f = c.args.functions.now in
+    let f = c.args.unfolded.now.functions in
     let asked = c.in_ok-asked.asked.items in
     let d = c.in_ok-decided.decided in
     let at = c.verdict_at-at.result in
     let v = c.in_ok-verdict.verdict in
     let sound : AreSoundFunctions f = record { graph = c.keeps.ensures.graph; values = c.keeps.ensures.values; distinct = c.keeps-2.ensures } in
-    let are : AreAskedIn f.places c.args.cycle s.pairs c.args.left.now c.args.right.now asked = subst (λ (ps : List SignalPair). AreAskedIn f.places c.args.cycle ps c.args.left.now c.args.right.now asked) c.as_slice.ensures c.in_ok-asked.ensures in
+    let are : AreAskedIn f.aig f.places c.args.cycle s.pairs c.args.left.now c.args.right.now asked = subst (λ (ps : List SignalPair). AreAskedIn f.aig f.places c.args.cycle ps c.args.left.now c.args.right.now asked) c.as_slice.ensures c.in_ok-asked.ensures in
     let decided : HaveDecided f.aig c.args.conflicts asked d = subst (λ (os : List Obligation). HaveDecided f.aig c.args.conflicts os d) c.as_slice-2.ensures.value c.in_ok-decided.ensures in
     let verdict : IsVerdictAt d.different d.not_shown d.results at = subst (λ (rs : List PairResult). IsVerdictAt d.different d.not_shown rs at) c.as_slice-3.ensures c.verdict_at-at.ensures in
     let shown : IsShownIn s b f asked d.results c.args.cycle at v =

@@ -1,0 +1,5 @@
+use Rattle.merged_graph.specs.Merged.{IsMerged}
+use Rattle.merged_graph.proofs.merged.MergedGraph.decide.Given as goal
+
+abbrev pub invariant-loop-i : goal.invariant-loop-i
+invariant-loop-i l = IsMerged l.other l.self
