@@ -1,4 +1,5 @@
 pub mod Cases
 pub mod Saying
 pub mod Framing
+pub mod OneTree
 pub mod Exact

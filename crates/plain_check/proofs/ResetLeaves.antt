@@ -44,25 +44,37 @@ module _ {P : Type 0} (c : Circuit P) (order : List ℕ) (base n : ℕ) (run : �
         cc
 
 -- One side: in a run that obeys the sequence and begins with the power-up the place has in the last cycle the value of its tree. The
--- numbers of the inputs are the places of their names among the sequence's.
+-- numbers of the inputs are the places of their names among the sequence's; inputs have the bits of the rows, what stands above the base
+-- those of the power-up.
 module _ (c : Circuit ℕ) (order others : List ℕ) (base : ℕ) (columns : List (List ℕ)) (numbers : AreNumbersOf (map (λ (i : Named ℕ). i.name) c.inputs) columns order others) (starts : HasStarts c) (w : Witness)
-    (names : w.stimulus.names ≡ columns) (x : ℕ → ℕ → Bool) (rows : w.stimulus.rows ≡ reset_rows w.cycle x (length columns)) (power : List Bool) (power_is : power ≡ powers c base x)
-    (steps : ℕ) (run : ℕ → ℕ → Bool) (in_run : w.cycle < steps) (is_run : IsRun c steps run) (takes : TakesPower c power run) (obeys : Obeys c w.stimulus steps run) where
+    (names : w.stimulus.names ≡ columns) (x y z : ℕ → ℕ → Bool) (low : (q i k : ℕ) → IsInputNumber c order q i → z i k ≡ y i k) (high : (i k : ℕ) → base ≤ i → z i k ≡ x i k) (rows : w.stimulus.rows ≡ reset_rows w.cycle y (length columns))
+    (power : List Bool) (power_is : power ≡ powers c base x) (steps : ℕ) (run : ℕ → ℕ → Bool) (in_run : w.cycle < steps) (is_run : IsRun c steps run) (takes : TakesPower c power run) (obeys : Obeys c w.stimulus steps run) where
   takes_powers : TakesPower c (powers c base x) run
   takes_powers = subst (λ (ps : List Bool). TakesPower c ps run) power_is takes
 
   -- a latch without an initial value begins with its variable's bit
-  free_value : (j u : ℕ) → slice_get (latches_of c) j ≡ Some u → IsFree c u → x (base + j) 0 ≡ run 0 u
-  free_value j u at free = sym (takes_powers j u at ∙ (powers_at c.starts x base (latches_of c) j u at ∙ ap (λ o. power_of o (x (base + j) 0)) (start_none c.starts u free)))
+  free_value : (j u : ℕ) → slice_get (latches_of c) j ≡ Some u → IsFree c u → z (base + j) 0 ≡ run 0 u
+  free_value j u at free =
+      high (base + j) 0 (omega arith) ∙ sym (takes_powers j u at ∙ (powers_at c.starts x base (latches_of c) j u at ∙ ap (λ o. power_of o (x (base + j) 0)) (start_none c.starts u free)))
 
   -- an input of the sequence has its bit in each cycle
-  input_value : (q i k : ℕ) → IsInputNumber c order q i → i < length columns → k ≤ w.cycle → x i k ≡ run k q
-  input_value q i k number low le =
+  input_value : (q i k : ℕ) → IsInputNumber c order q i → i < length columns → k ≤ w.cycle → z i k ≡ run k q
+  input_value q i k number small le =
       let back : w.cycle - (w.cycle - k) ≡ k = omega arith in
-      ap (x i) (sym back) ∙ (printed c order others columns numbers w names (λ j s. x j (w.cycle - s)) rows steps run in_run is_run obeys q i (w.cycle - k) number low (omega arith) ∙ ap (λ t. run t q) back)
+      low q i k number
+      ∙ (ap (y i) (sym back) ∙ (printed c order others columns numbers w names (λ j s. y j (w.cycle - s)) rows steps run in_run is_run obeys q i (w.cycle - k) number small (omega arith) ∙ ap (λ t. run t q) back))
 
+  pub powered_by : (p : ℕ) (tree : Tree ℕ) → ResetUnfolds c order base p w.cycle tree → ((q i k : ℕ) → IsInputNumber c order q i → HasLeaf (record { input = i; at = k }) tree → i < length columns) →
+      run w.cycle p ≡ tree_value z tree
+  powered_by p tree unfolds small =
+      sym (reset_by_leaves c order base steps run (powered_is_reset c order base starts x steps run is_run takes_powers) w.cycle in_run z free_value unfolds (omega arith)
+      (λ q i k number leaf le. input_value q i k number (small q i k number leaf) le))
+
+-- the same where the power-up is by the bits of the rows
+module _ (c : Circuit ℕ) (order others : List ℕ) (base : ℕ) (columns : List (List ℕ)) (numbers : AreNumbersOf (map (λ (i : Named ℕ). i.name) c.inputs) columns order others) (starts : HasStarts c) (w : Witness)
+    (names : w.stimulus.names ≡ columns) (x : ℕ → ℕ → Bool) (rows : w.stimulus.rows ≡ reset_rows w.cycle x (length columns)) (power : List Bool) (power_is : power ≡ powers c base x)
+    (steps : ℕ) (run : ℕ → ℕ → Bool) (in_run : w.cycle < steps) (is_run : IsRun c steps run) (takes : TakesPower c power run) (obeys : Obeys c w.stimulus steps run) where
   pub powered_value : (p : ℕ) (tree : Tree ℕ) → ResetUnfolds c order base p w.cycle tree → ((q i k : ℕ) → IsInputNumber c order q i → HasLeaf (record { input = i; at = k }) tree → i < length columns) →
       run w.cycle p ≡ tree_value x tree
-  powered_value p tree unfolds low =
-      sym (reset_by_leaves c order base steps run (powered_is_reset c order base starts x steps run is_run takes_powers) w.cycle in_run x free_value unfolds (omega arith)
-      (λ q i k number leaf le. input_value q i k number (low q i k number leaf) le))
+  powered_value p tree unfolds small =
+      powered_by c order others base columns numbers starts w names x x x (λ q i k number. refl) (λ i k le. refl) rows power power_is steps run in_run is_run takes obeys p tree unfolds small

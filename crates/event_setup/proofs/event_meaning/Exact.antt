@@ -1,37 +1,23 @@
 -- A pair that isn't at the limit is answered by whether its event functions differ.
-use Rattle.std.proofs.Common.{◌≡◌, ◌≢◌, ◌∙◌, ℕ, Bool, List, [], length, slice_get, Option, Some, None, sym, ap, subst}
+use Rattle.std.proofs.Common.{◌≡◌, ◌≢◌, ◌∙◌, ℕ, Bool, List, slice_get, Option, Some, sym, ap, subst}
 use Rattle.std.specs.Prelude.{◌↔◌}
-use Rattle.circuit_theory.specs.Joined.{Either, Left, Right}
-use Rattle.circuit_theory.specs.Run.{IsEnabled}
-use Rattle.circuit_theory.specs.Tree.{Tree}
+use Rattle.circuit_theory.specs.Joined.{Left, Right}
 use Rattle.circuit_theory.proofs.Lists.{zip_right}
-use Rattle.circuit_laws.proofs.JoinedParts.{joined_number_once, joined_single}
 use Rattle.circuit_theory.specs.EventFrames.{HaveDifferentEvents, event_pair}
-use Rattle.circuit_theory.specs.Frame.{EventUnfolds}
-use Rattle.circuit_laws.proofs.event_laws.EventTrees.{one_event_tree}
-use Rattle.flat_net.specs.View.{circuit_of}
-use Rattle.flat_net.proofs.Nets.{sound_is_net}
 use Rattle.sec_base.specs.declared.basics.PairAnswer.{PairAnswer}
 use Rattle.sec_base.specs.declared.basics.PairAnswer.TheVariants as answer
 use Rattle.pair_decide.specs.declared.query.Proof.{Proof}
 use Rattle.obligations.proofs.Fits as asking
 use Rattle.obligations.specs.declared.outcome.verdict.PairResult.{PairResult}
 use Rattle.edbf_unfold.specs.class_queries.Enables.{both_of}
-use Rattle.edbf_unfold.proofs.class_queries.Meaning.{numbered}
 use Rattle.event_setup.specs.event_meaning.event_names.event_fits.Answers.{AnswerFits, PairFits}
 use Rattle.event_setup.specs.event_meaning.event_names.event_fits.Asked.{IsDecisive}
 use Rattle.event_nodes.specs.View.{EventCircuitView}
 use Rattle.event_setup.specs.event_meaning.event_names.event_fits.Circuits.{IsReadyCircuit}
 use Rattle.event_setup.specs.event_meaning.Laws.{AnswersAreExact}
+use Rattle.event_setup.proofs.event_meaning.OneTree.{one_tree}
 
 module _ (a b : EventCircuitView) (left_ready : IsReadyCircuit a) (right_ready : IsReadyCircuit b) where
-  one_tree : (p : Either ℕ ℕ) (l r : Tree (List ℕ)) → EventUnfolds (both_of a b) (IsEnabled (both_of a b).circuit) None p [] l → EventUnfolds (both_of a b) (IsEnabled (both_of a b).circuit) None p [] r → l ≡ r
-  one_tree p l r h k =
-      let na = sound_is_net a.net left_ready.sound in
-      let nb = sound_is_net b.net right_ready.sound in
-      one_event_tree (both_of a b) (IsEnabled (both_of a b).circuit) (joined_single (circuit_of a.net) (circuit_of b.net) (length a.net.drivers) (length b.net.drivers) na nb)
-      (λ q i j x y. joined_number_once (circuit_of a.net) (circuit_of b.net) (length a.net.drivers) (length b.net.drivers) na nb a.order b.order (numbered a left_ready.marked) q i j x y) tt h k
-
   abbrev Differ : ℕ → ℕ → Type 0
   Differ p q = HaveDifferentEvents (both_of a b) (Left p) (Right q)
 
@@ -41,7 +27,7 @@ module _ (a b : EventCircuitView) (left_ready : IsReadyCircuit a) (right_ready :
       × ((x ≡ answer.NotShown) ↔ ((IsDecisive (both_of a b) open_latches p q → ⊥) × Differ p q))
 
   exact : (open_latches : Bool) (conflicts p q : ℕ) (x : PairAnswer) (proof : Option Proof) → AnswerFits (both_of a b) open_latches conflicts p q x proof → x ≢ answer.Limit → Exact open_latches p q x
-  exact open_latches conflicts p q x proof h not_limit = asking.exact (event_pair (both_of a b) (Left p) (Right q)) (one_tree (Left p)) (one_tree (Right q)) (IsDecisive (both_of a b) open_latches p q) conflicts x proof h not_limit
+  exact open_latches conflicts p q x proof h not_limit = asking.exact (event_pair (both_of a b) (Left p) (Right q)) (one_tree a b left_ready right_ready (Left p)) (one_tree a b left_ready right_ready (Right q)) (IsDecisive (both_of a b) open_latches p q) conflicts x proof h not_limit
 
 pub answers_exact : AnswersAreExact
 answers_exact a b expose conflicts o nets c i p r pair_at result_at not_limit =

@@ -1,5 +1,5 @@
 -- The one pair: both sides are leaves at the root, where the assumption is asked, too.
-use Rattle.std.proofs.Common.{◌≡◌, ◌∙◌, ℕ, zero, suc, ◌<◌, Bool, true, false, List, [], ◌∷◌, length, None, refl, sym, ap, subst, arith, inl, inr}
+use Rattle.std.proofs.Common.{◌≡◌, ◌∙◌, ℕ, zero, suc, ◌<◌, Bool, true, false, List, [], ◌∷◌, None, refl, sym, ap, subst, arith, inl, inr}
 use Rattle.std.specs.Prelude.{◌⊎◌}
 use Rattle.std.specs.List.{All, Contains}
 use Rattle.std.proofs.lemmas.List.Elements.{All-nil, All-cons}
@@ -10,16 +10,12 @@ use Rattle.circuit_theory.specs.Tree.{Tree, Leaf, tree_value}
 use Rattle.circuit_theory.proofs.Lists.{Contains-cases, Contains-head, Contains-tail, only}
 use Rattle.circuit_theory.specs.EventFrames.{AreNodeVariables, IsCareTree, IsPairTree, frame_of}
 use Rattle.circuit_theory.specs.Frame.{ConeLatches, EventUnfolds, HasCare, NodeBefore}
-use Rattle.flat_net.specs.View.{circuit_of}
-use Rattle.flat_net.proofs.Nets.{sound_is_net}
-use Rattle.circuit_laws.proofs.JoinedParts.{joined_number_once, joined_single}
-use Rattle.circuit_laws.proofs.event_laws.EventTrees.{one_event_tree}
-use Rattle.edbf_unfold.proofs.class_queries.Meaning.{numbered}
 use Rattle.sec_setup.specs.declared.ports.pairs.SignalPair.{SignalPair}
 use Rattle.assume_laws.specs.Assume.{HasVariableAtNode}
 use Rattle.assume_laws.specs.Sequences.{HaveDifferentEventsUnder, IsEventDifferenceUnder, IsEventPairQueryUnder, IsPairTreeUnder, IsSideTree}
 use Rattle.assume_laws.proofs.Meeting.{leaf_at, leaf_input}
 use Rattle.event_under.specs.Places.{AreNodesOfPairs, ArePairNodes, IsReadAt}
+use Rattle.event_setup.proofs.event_meaning.OneTree.{one_tree}
 use Rattle.premise_rows.specs.event_outcome_samples.Different.{a_events, b_events, y_pair, IsFull, IsOverfull}
 use Rattle.premise_rows.proofs.event_outcome_samples.Meeting.{b_assumed, meets_row, row_meets}
 use Rattle.premise_rows.proofs.event_outcome_samples.Sides.{On, both, left_ready, no_cone, one_node, right_ready, unreached}
@@ -51,18 +47,10 @@ leaf_is x i at HasLeaf.leaf = refl
 no_care : (p : Either ℕ ℕ) (tree : Tree (List ℕ)) → IsCareTree both (ConeLatches both.circuit p) tree → ⊥
 no_care p tree (IsCareTree.enable {node = node} {v = v} reached latch on unfolds) = unreached (ConeLatches both.circuit p) (no_cone p) node v reached
 
--- a place unfolds to one tree
-one_tree : (p : Either ℕ ℕ) (l r : Tree (List ℕ)) → EventUnfolds both On None p [] l → EventUnfolds both On None p [] r → l ≡ r
-one_tree p l r h k =
-    let na = sound_is_net a_events.net left_ready.sound in
-    let nb = sound_is_net b_events.net right_ready.sound in
-    one_event_tree both On (joined_single (circuit_of a_events.net) (circuit_of b_events.net) (length a_events.net.drivers) (length b_events.net.drivers) na nb)
-    (λ q i j x y. joined_number_once (circuit_of a_events.net) (circuit_of b_events.net) (length a_events.net.drivers) (length b_events.net.drivers) na nb a_events.order b_events.order (numbered a_events left_ready.marked) q i j x y) tt h k
-
 -- the variables of both sides
 pair_leaf : (tree : Tree (List ℕ)) → IsPairTree both (Left 0) (Right 1) tree → (x : Variable (List ℕ)) → HasLeaf x tree → (a_variable ≡ x) ⊎ (b_variable ≡ x)
-pair_leaf tree (inl (inl h)) x k = inl (leaf_is x 0 [] (subst (HasLeaf x) (one_tree (Left 0) tree (Leaf 0 []) h left_unfolds) k))
-pair_leaf tree (inl (inr h)) x k = inr (leaf_is x 1 [] (subst (HasLeaf x) (one_tree (Right 1) tree (Leaf 1 []) h right_unfolds) k))
+pair_leaf tree (inl (inl h)) x k = inl (leaf_is x 0 [] (subst (HasLeaf x) (one_tree a_events b_events left_ready right_ready (Left 0) tree (Leaf 0 []) h left_unfolds) k))
+pair_leaf tree (inl (inr h)) x k = inr (leaf_is x 1 [] (subst (HasLeaf x) (one_tree a_events b_events left_ready right_ready (Right 1) tree (Leaf 1 []) h right_unfolds) k))
 pair_leaf tree (inr (inl h)) x k = absurd (no_care (Left 0) tree h)
 pair_leaf tree (inr (inr h)) x k = absurd (no_care (Right 1) tree h)
 

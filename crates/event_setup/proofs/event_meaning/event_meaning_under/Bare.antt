@@ -1,5 +1,5 @@
 -- An event graph that has the root and the constant alone.
-use Rattle.std.proofs.Common.{◌≡◌, ℕ, zero, suc, List, [], ◌∷◌, slice_get, Some, refl, subst, arith}
+use Rattle.std.proofs.Common.{◌≡◌, ℕ, zero, suc, [], ◌∷◌, slice_get, Some, refl, subst, arith}
 use Rattle.std.proofs.lemmas.Option.{none-some, same_Some}
 use Rattle.aig.specs.declared.node.Node.{Node}
 use Rattle.aig.specs.declared.node.Node.TheVariants.{Constant}

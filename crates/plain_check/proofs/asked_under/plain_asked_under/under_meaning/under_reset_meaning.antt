@@ -1,2 +1,1 @@
-pub mod LeavesUnder
 pub mod Meaning

@@ -38,7 +38,7 @@ use Rattle.assume_laws.proofs.ResetFilled.{reset_witness_makes_differ_under}
 use Rattle.plain_check.specs.under_base.under_fits.ResetVerdict.{AgreeAtUnder, AnswerFitsUnder, PairFitsUnder, IsFirstDifferenceUnder}
 use Rattle.plain_check.specs.under_base.under_fits.ResetOutcome.{numbers_of, ResetOutcomeFitsUnder, ResetVerdictFitsUnder, MakesResetsDifferUnder}
 use Rattle.plain_check.specs.asked_under.plain_asked_under.under_meaning.under_reset_meaning.Laws.{AreNets, EqualResetsSayUnder, DifferentResetsShowUnder}
-use Rattle.plain_check.proofs.asked_under.plain_asked_under.under_meaning.under_reset_meaning.LeavesUnder.{powered_value}
+use Rattle.plain_check.proofs.ResetLeaves.{powered_by}
 
 -- nothing is in the list of none
 nothing : {X : Type 0} (x : X) → Contains [] x → ⊥
@@ -155,16 +155,16 @@ module _ (c : Assumption) (meeting : ℕ → Bool) (a b : NetView) (conflicts : 
     left_shows : (n : ℕ) (run : ℕ → ℕ → Bool) → w.witness.cycle < n → IsRun (circuit_of a) n run → TakesPower (circuit_of a) w.left_power run → Obeys (circuit_of a) w.witness.stimulus n run →
         run w.witness.cycle f.place.left ≡ w.witness.left
     left_shows n run below is_run takes obeys =
-        powered_value (circuit_of a) fits.left fits.right fits.left_base columns left_numbers left_starts fits.based.left_inputs w.witness f.names_are bits shown (joined fits.left_base) (low fits.left_base) (high fits.left_base) f.witness.rows_are
-        w.left_power f.witness.left_power_is n run below is_run takes obeys f.place.left f.witness.left_tree f.witness.left_unfolds
+        powered_by (circuit_of a) fits.left fits.right fits.left_base columns left_numbers left_starts w.witness f.names_are bits shown (joined fits.left_base)
+        (λ q i k number. low fits.left_base i k (fits.based.left_inputs q i number)) (high fits.left_base) f.witness.rows_are w.left_power f.witness.left_power_is n run below is_run takes obeys f.place.left f.witness.left_tree f.witness.left_unfolds
         (λ q i k number leaf. leaf_below f.witness.left_tree (Contains-head f.witness.left_tree (f.witness.right_tree ∷ [])) i k (fits.based.left_inputs q i number) leaf)
         ∙ (same fits.left_base f.witness.left_tree (left_leaves f.witness.difference.are_sides) ∙ sym f.witness.left_value)
 
     right_shows : (n : ℕ) (run : ℕ → ℕ → Bool) → w.witness.cycle < n → IsRun (circuit_of b) n run → TakesPower (circuit_of b) w.right_power run → Obeys (circuit_of b) w.witness.stimulus n run →
         run w.witness.cycle f.place.right ≡ w.witness.right
     right_shows n run below is_run takes obeys =
-        powered_value (circuit_of b) fits.right fits.left fits.right_base columns right_numbers right_starts (λ q i number. right_below q i (fits.based.right_inputs q i number)) w.witness f.names_are bits shown (joined fits.right_base)
-        (low fits.right_base) (high fits.right_base) f.witness.rows_are w.right_power f.witness.right_power_is n run below is_run takes obeys f.place.right f.witness.right_tree f.witness.right_unfolds
+        powered_by (circuit_of b) fits.right fits.left fits.right_base columns right_numbers right_starts w.witness f.names_are bits shown (joined fits.right_base)
+        (λ q i k number. low fits.right_base i k (right_below q i (fits.based.right_inputs q i number))) (high fits.right_base) f.witness.rows_are w.right_power f.witness.right_power_is n run below is_run takes obeys f.place.right f.witness.right_tree f.witness.right_unfolds
         (λ q i k number leaf. leaf_below f.witness.right_tree (Contains-tail f.witness.left_tree f.witness.right_tree (f.witness.right_tree ∷ []) (Contains-head f.witness.right_tree [])) i k (fits.based.right_inputs q i number) leaf)
         ∙ (same fits.right_base f.witness.right_tree (right_leaves f.witness.difference.are_sides) ∙ sym f.witness.right_value)
 
