@@ -16,7 +16,6 @@ use Rattle.flat_net.proofs.Places.{All-at}
 use Rattle.sec_base.specs.declared.basics.PairAnswer.{PairAnswer}
 use Rattle.sec_base.specs.declared.basics.PairAnswer.TheVariants as answer
 use Rattle.circuit_laws.specs.reset_laws.Reset.{IsResetWitness}
-use Rattle.aig.specs.Values.{value}
 use Rattle.aig.specs.lane_eval.root_classes.Agreeing.{Agree}
 use Rattle.cbf_unfold.specs.declared.unfold_places.signal_function.Unfolded.{Unfolded}
 use Rattle.cbf_unfold.specs.shift_variables.Variables.{variable_of, variables_of}

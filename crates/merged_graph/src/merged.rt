@@ -9,11 +9,11 @@ ghost use Rattle.merged_graph.specs.Merged.{IsMerged};
 
 use crate::searches::agree;
 use crate::stand_ins::{literal_at, put_node, with_literal};
-use crate::targets::{is_any_open, is_one, put_open};
+use crate::targets::{is_any_open, is_any_told, is_one, put_open};
 use crate::words::words_for;
 use aig::{Aig, Lit, Lits, MAX_CONFLICTS, MAX_TABLE_VARIABLES, NoMemory};
 use std::alloc::Global;
-use swept_queries::node_agreement::Effort;
+use swept_queries::node_agreement::{Effort, signatures};
 use swept_queries::sweep::{Swept, sweep_across};
 
 /// The least conflicts with which nodes are tried.
@@ -69,11 +69,11 @@ impl MergedGraph {
         is_one(self.lits.as_slice(), left, right)
     }
 
-    /// Follows the other graph, which may have grown, and tries the nodes of these pairs of its literals with others, those of a right
-    /// side alone where there are searches: with at most so many conflicts in all, and a twentieth for each search. A pair that isn't one then
-    /// is decided by itself, with at most so many conflicts. Nodes that were there
-    /// when nodes were last tried aren't tried again; others are made one with them. Where all variables are at most 16, where a twentieth
-    /// of the conflicts is less than one, and where each pair is one already, nothing is done.
+    /// Follows the other graph, which may have grown, and makes these pairs of its literals one, where they are proved to agree. They are
+    /// swept by small cuts, then decided one by one, each with at most a twentieth of so many conflicts, then swept by searches, and then
+    /// decided with all of them. By searches only nodes of right sides are tried that weren't there when nodes were last tried. Nothing is
+    /// done where all variables are at most 16, where a twentieth of the conflicts is less than one, where each pair is one already, and
+    /// where one of 512 assignments tells a pair apart.
     pub fn merge(
         &mut self,
         alloc: Global,
@@ -91,12 +91,23 @@ impl MergedGraph {
             return Ok(());
         }
         self.follow(other)?;
+        if self.is_any_told(alloc, asked)? {
+            return Ok(());
+        }
         self.sweep(alloc, other, asked, conflicts, false)?;
+        self.decide(alloc, other, asked, conflicts / 20)?;
         self.sweep(alloc, other, asked, conflicts, true)?;
         self.decide(alloc, other, asked, conflicts)?;
         self.tried = self.lits.len();
         self.open = is_any_open(self.lits.as_slice(), asked);
         Ok(())
+    }
+
+    /// Whether one of 512 assignments tells a pair apart.
+    fn is_any_told(&self, alloc: Global, asked: &[(Lit, Lit)]) -> Result<bool, NoMemory> {
+        let words = words_for(alloc, self.graph.vars())?;
+        let table = signatures(alloc, &self.graph, words.as_slice())?;
+        Ok(is_any_told(&table, self.graph.size(), self.lits.as_slice(), asked))
     }
 
     /// Puts a literal for each further node of the other graph, as long as there is room.

@@ -1,11 +1,12 @@
 //! Which nodes are tried: those of pairs of literals that aren't one yet.
 
-ghost use Rattle.std.specs.Prelude.{◌*◌, ◌<◌, List, length, All, IfOk, OnOk, IsTrue};
+ghost use Rattle.std.specs.Prelude.{◌≡◌, ◌*◌, ◌<◌, List, length, All, IfOk, OnOk, IsTrue};
 ghost use Rattle.aig.specs.declared.node.Node.{Node};
 ghost use Rattle.swept_queries.specs.node_agreement.Standing.{AreStandIns};
 ghost use Rattle.swept_queries.specs.node_agreement.Agreeing.{Agree};
 
 use crate::stand_ins::literal_at;
+use aig::lane_eval::SignatureTable;
 use aig::{Lit, NoMemory};
 use std::alloc::Global;
 
@@ -23,6 +24,45 @@ pub(crate) fn is_one(lits: &[Lit], left: Lit, right: Lit) -> bool
 pub(crate) fn is_any_open(lits: &[Lit], asked: &[(Lit, Lit)]) -> bool {
     for i in 0..asked.len() {
         if !is_one(lits, asked[i].0, asked[i].1) {
+            return true;
+        }
+    }
+    false
+}
+
+/// Whether one of the table's assignments tells some pair apart, by its literals in the list. The graph has so many nodes.
+pub(crate) fn is_any_told(
+    table: &SignatureTable,
+    nodes: u32,
+    lits: &[Lit],
+    asked: &[(Lit, Lit)],
+) -> bool
+    requires { nodes ≡ length table.now }
+{
+    for i in 0..asked.len() {
+        if is_told(table, nodes, lits, asked[i].0, asked[i].1) {
+            return true;
+        }
+    }
+    false
+}
+
+/// The same of one pair.
+fn is_told(table: &SignatureTable, nodes: u32, lits: &[Lit], left: Lit, right: Lit) -> bool
+    requires { nodes ≡ length table.now }
+{
+    let (Some(x), Some(y)) = (literal_at(lits, left), literal_at(lits, right)) else {
+        return false;
+    };
+    if x.node() >= nodes || y.node() >= nodes {
+        return false;
+    }
+    let left = table.block(x.node());
+    let right = table.block(y.node());
+    // A word of ones complements one.
+    let flip = u64::from((x.0 ^ y.0) % 2).wrapping_mul(u64::MAX);
+    for i in 0..8 {
+        if left[i] ^ right[i] ^ flip != 0 {
             return true;
         }
     }
