@@ -188,7 +188,8 @@ impl MergedGraph {
         )
     }
 
-    /// Decides the pairs that aren't one yet, each with at most so many conflicts, and makes those one that agree.
+    /// Decides the pairs that aren't one yet, each with at most so many conflicts, and makes those one that agree, up to the first that
+    /// isn't found to.
     fn decide(
         &mut self,
         alloc: Global,
@@ -201,12 +202,14 @@ impl MergedGraph {
         ensures { OnOk result (IsMerged other.now self.new) }
     {
         for i in 0..asked.len() {
-            self.decide_pair(alloc, other, asked[i].0, asked[i].1, conflicts)?;
+            if !self.decide_pair(alloc, other, asked[i].0, asked[i].1, conflicts)? {
+                return Ok(());
+            }
         }
         Ok(())
     }
 
-    /// The same of one pair.
+    /// The same of one pair. Whether it is one then.
     fn decide_pair(
         &mut self,
         alloc: Global,
@@ -214,20 +217,23 @@ impl MergedGraph {
         left: Lit,
         right: Lit,
         conflicts: u32,
-    ) -> Result<(), NoMemory>
+    ) -> Result<bool, NoMemory>
         requires merged { IsMerged _other.now self.old }
         requires conflicts { conflicts ≤ MAX_CONFLICTS }
         ensures { OnOk result (IsMerged _other.now self.new) }
     {
         let lits = self.lits.as_slice();
         let (Some(x), Some(y)) = (literal_at(lits, left), literal_at(lits, right)) else {
-            return Ok(());
+            return Ok(false);
         };
-        if x.0 == y.0 || !agree(alloc, &self.graph, x, y, conflicts)? {
-            return Ok(());
+        if x.0 == y.0 {
+            return Ok(true);
+        }
+        if !agree(alloc, &self.graph, x, y, conflicts)? {
+            return Ok(false);
         }
         let made = with_literal(alloc, lits, right, x)?;
         self.lits = Lits::from_vec(made);
-        Ok(())
+        Ok(true)
     }
 }
