@@ -1,4 +1,6 @@
+pub mod AndNets
 pub mod OneGraph
 pub mod OneTree
 pub mod Clauses
 pub mod Fitting
+pub mod Printed

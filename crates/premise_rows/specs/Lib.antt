@@ -15,3 +15,4 @@ pub mod event_class_premises
 pub mod one_text_runs
 pub mod certificate_premises
 pub mod search_premises
+pub mod start_premises

@@ -1,3 +1,4 @@
 pub mod OneGraph
 pub mod OneTree
 pub mod Fitting
+pub mod Printed

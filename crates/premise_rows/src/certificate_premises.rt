@@ -3,6 +3,7 @@
 ghost use Rattle.premise_rows.specs.certificate_premises.OneGraph.{AndsHaveOneGraph};
 ghost use Rattle.premise_rows.specs.certificate_premises.OneTree.{HaveOneTree};
 ghost use Rattle.premise_rows.specs.certificate_premises.Fitting.{CertificatesFit};
+ghost use Rattle.premise_rows.specs.certificate_premises.Printed.{CertificatesOfAnds};
 
 /// Two `and`s by other rows have trees, a graph of both, and clauses.
 pub fn ands_have_one_graph()
@@ -18,4 +19,10 @@ pub fn nets_have_one_tree()
 /// accepted over the first's.
 pub fn certificates_fit()
     ensures { CertificatesFit }
+{}
+
+/// Two `and`s by other rows load, their output has clauses, and what one call prints of these is what another call's refutation is accepted
+/// over.
+pub fn certificates_of_ands()
+    ensures { CertificatesOfAnds }
 {}

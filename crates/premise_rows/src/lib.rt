@@ -14,6 +14,7 @@ pub mod event_premises;
 pub mod job_rows;
 pub mod one_text_runs;
 pub mod search_premises;
+pub mod start_premises;
 
 ghost use Rattle.premise_rows.specs.AndFile.{FileIsComparable};
 ghost use Rattle.premise_rows.specs.Premises.{AndsAreComparable, RetimedAreComparable, HierarchyIsComparable, CyclicAreComparable, TextsAreAccepted};

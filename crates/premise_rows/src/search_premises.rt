@@ -8,7 +8,8 @@ pub fn agree_in_two_cycles()
     ensures { AgreeInTwoCycles }
 {}
 
-/// A retiming that moves initial values along, and a circuit with itself, can be searched over cycles.
+/// A retiming that moves initial values along, and two circuits with themselves, of which one has a cycle of latches, can be searched over
+/// cycles.
 pub fn texts_can_be_searched()
     ensures { TextsCanBeSearched }
 {}

@@ -20,7 +20,7 @@ use Rattle.premise_rows.proofs.block_premises.NetWeights.{circuit_weight, net_we
 use Rattle.premise_rows.proofs.block_premises.ResetPremises.{late_design, early_design, late_from_spells, early_from_spells}
 
 -- what each net of the text counts
-light : (text : List ℕ) (models : List BlifModel) (s : Small) → Spells text models s → (weight : ℕ) → circuit_weight (circuit_of_design models None) ≡ weight → weight ≤ 2000000 → (net : NetView) → Loads text net → net_weight net ≤ 2000000
+pub light : (text : List ℕ) (models : List BlifModel) (s : Small) → Spells text models s → (weight : ℕ) → circuit_weight (circuit_of_design models None) ≡ weight → weight ≤ 2000000 → (net : NetView) → Loads text net → net_weight net ≤ 2000000
 light text models s p weight is few net l =
     let flat : IsFlatOf models net = subst (λ (ms : List BlifModel). IsFlatOf ms net) p.models_are (text_net text net l Blif p.format) in
     let none : net.clock ≡ None = (net_is_small text models s p net l).unclocked in

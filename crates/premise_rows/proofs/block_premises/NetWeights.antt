@@ -9,8 +9,9 @@ use Rattle.circuit_theory.specs.Cover.{Cover}
 use Rattle.circuit_theory.specs.Circuit.{Circuit, Equation, Gate, Latch, Port, Named, out_of}
 use Rattle.circuit_theory.specs.Joined.{moved, moved_name}
 use Rattle.circuit_theory.specs.Sizes.{WeighsAt}
-use Rattle.circuit_theory.proofs.Lists.{Contains-cases, Contains-map, Contains-map_from, All-from_each}
-use Rattle.circuit_theory.proofs.Sums.{sum_within}
+use Rattle.circuit_theory.proofs.Lists.{Contains-head, Contains-tail, Contains-cases, Contains-map, Contains-map_from, All-from_each}
+use Rattle.circuit_theory.proofs.Sums.{sum_within, AllPairs-head, AllPairs-tail}
+use Rattle.circuit_laws.specs.reset_laws.Weight.{WeighedInCycle}
 use Rattle.flat_net.specs.Sound.{IsSound}
 use Rattle.flat_net.specs.View.{NetView, circuit_of}
 use Rattle.net_assembly.specs.net_alike.FlatCircuit.{IsFlatCircuit}
@@ -36,6 +37,24 @@ counted x = x.1
 
 abbrev SameSignal : ℕ × ℕ → ℕ × ℕ → Type 0
 SameSignal x y = x.0 ≡ y.0
+
+-- a signal that is visited in a cycle
+abbrev as_signal : WeighedInCycle ℕ → ℕ × ℕ
+as_signal x = (x.place, x.weight)
+
+-- two entries are of two places, or in two cycles
+abbrev Apart : WeighedInCycle ℕ → WeighedInCycle ℕ → Type 0
+Apart x y = (x.place ≡ y.place) → (x.cycle ≡ y.cycle) → ⊥
+
+-- those of one cycle are of two places
+signals_of_cycle : (xs : List (WeighedInCycle ℕ)) → ((x : WeighedInCycle ℕ) → Contains xs x → x.cycle ≡ 0) → AllPairs Apart xs → AllPairs (λ (x y : ℕ × ℕ). SameSignal x y → ⊥) (map as_signal xs)
+signals_of_cycle [] first apart = λ i j d low in_list. absurd (omega (arith, in_list))
+signals_of_cycle (x ∷ xs) first apart =
+    AllPairs-cons (λ (u v : ℕ × ℕ). SameSignal u v → ⊥) (as_signal x) (map as_signal xs)
+    (All-from_each (λ (v : ℕ × ℕ). SameSignal (as_signal x) v → ⊥) (map as_signal xs) (λ v h.
+    let z = Contains-map_from as_signal xs v h in
+    subst (λ (u : ℕ × ℕ). SameSignal (as_signal x) u → ⊥) z.2 (λ same. AllPairs-head Apart x xs apart z.0 z.1 same (first x (Contains-head x xs) ∙ sym (first z.0 (Contains-tail x z.0 xs z.1))))))
+    (signals_of_cycle xs (λ y h. first y (Contains-tail x y xs h)) (AllPairs-tail Apart x xs apart))
 
 module _ (n : NetView) where
   -- the signals below a number
@@ -105,6 +124,9 @@ module _ {P : Type 0} (d : Circuit P) (n : NetView) (clocked : P → Type 0) (or
       by (Latch name out to) c is = absurd (cc)
       by (Port out from) c is = absurd (cc)
 
+  parts_weigh : sum_by counted parts ≡ circuit_weight d
+  parts_weigh = sum_by-append counted (map entered d.inputs) (map driven d.equations) ∙ ap₂ (λ (x y : ℕ). x + y) (sum_by-map counted entered d.inputs) (sum_by-map counted driven d.equations)
+
   pub net_weighs : net_weight n ≤ circuit_weight d
   net_weighs =
       let within : sum_by counted (signals n (length n.drivers)) ≤ sum_by counted parts =
@@ -113,6 +135,14 @@ module _ {P : Type 0} (d : Circuit P) (n : NetView) (clocked : P → Type 0) (or
       let f = found x.0 (weight_at n x.0) (weighs n sound x.0 at.0) in
       (f.0, f.1, f.2, at.1 ∙ f.3))) in
       let left : sum_by counted (signals n (length n.drivers)) ≡ net_weight n = signals_weigh n (length n.drivers) (omega arith) ∙ weight_all n (length n.drivers) (omega arith) in
-      let right : sum_by counted parts ≡ circuit_weight d =
-      sum_by-append counted (map entered d.inputs) (map driven d.equations) ∙ ap₂ (λ (x y : ℕ). x + y) (sum_by-map counted entered d.inputs) (sum_by-map counted driven d.equations) in
-      subst (λ (m : ℕ). m ≤ circuit_weight d) left (subst (λ (m : ℕ). sum_by counted (signals n (length n.drivers)) ≤ m) right within)
+      subst (λ (m : ℕ). m ≤ circuit_weight d) left (subst (λ (m : ℕ). sum_by counted (signals n (length n.drivers)) ≤ m) parts_weigh within)
+
+  -- no more is visited in one cycle
+  pub cycle_weighs : (xs : List (WeighedInCycle ℕ)) → AllPairs Apart xs → ((x : WeighedInCycle ℕ) → Contains xs x → (x.cycle ≡ 0) × WeighsAt (circuit_of n) x.place x.weight) → sum_by (λ x. x.weight) xs ≤ circuit_weight d
+  cycle_weighs xs apart each =
+      let within : sum_by counted (map as_signal xs) ≤ sum_by counted parts =
+      sum_within counted SameSignal (λ x y z l r. l ∙ sym r) (map as_signal xs) parts (signals_of_cycle xs (λ x h. (each x h).0) apart)
+      (λ v h. (let z = Contains-map_from as_signal xs v h in
+      let f = found z.0.place z.0.weight (each z.0 z.1).1 in
+      subst (λ (u : ℕ × ℕ). (y : ℕ × ℕ) × Contains parts y × SameSignal u y × (counted u ≡ counted y)) z.2 (f.0, f.1, f.2, f.3))) in
+      subst (λ (m : ℕ). m ≤ circuit_weight d) (sum_by-map counted as_signal xs) (subst (λ (m : ℕ). sum_by counted (map as_signal xs) ≤ m) parts_weigh within)

@@ -54,7 +54,7 @@ two_distinct =
     (distinct-push (codes "a" ∷ codes "r" ∷ codes "s" ∷ []) (codes "m") (distinct-push (codes "a" ∷ codes "r" ∷ []) (codes "s") (distinct-push (codes "a" ∷ []) (codes "r") (one_name (codes "a")) refl) refl) refl) refl
 
 -- what gates read stands below them
-reads : (out p q : ℕ) → p < out → q < out → All (λ (f : Signal). f.0 < out) (record { 0 = p } ∷ record { 0 = q } ∷ [])
+pub reads : (out p q : ℕ) → p < out → q < out → All (λ (f : Signal). f.0 < out) (record { 0 = p } ∷ record { 0 = q } ∷ [])
 reads out p q l r = All-from_recursion (λ (f : Signal). f.0 < out) (record { 0 = p } ∷ record { 0 = q } ∷ []) (l, (r, tt))
 
 pub one_is_sound : IsSound one_turning

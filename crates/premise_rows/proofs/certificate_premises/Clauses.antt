@@ -124,7 +124,7 @@ is_graph = record { constant = refl; ordered = each IsAbove and_nodes (tt, (tt, 
     place : (n : ℕ) (node : Node) → slice_get and_nodes n ≡ Some node → node_number node ≡ n
     place = each (λ n (node : Node). node_number node ≡ n) and_nodes (refl, (refl, (refl, (refl, tt))))
 
-encoded : AreEncoded (circuit_of (and_by on_cover)) (circuit_of (and_by off_cover)) (0 ∷ 1 ∷ []) (0 ∷ 1 ∷ []) 2 2 and_clauses
+pub encoded : AreEncoded (circuit_of (and_by on_cover)) (circuit_of (and_by off_cover)) (0 ∷ 1 ∷ []) (0 ∷ 1 ∷ []) 2 2 and_clauses
 encoded = record {
   left_depth = 0;
   right_depth = 0;

@@ -80,10 +80,10 @@ first_letter (x ∷ xs) = x
 same_letter : (m n : List ℕ) → Some m ≡ Some n → first_letter m ≡ first_letter n
 same_letter m n h = ap first_letter (same_Some m n h)
 
-b_isnt_a : Some (codes "b") ≡ Some (codes "a") → ⊥
+pub b_isnt_a : Some (codes "b") ≡ Some (codes "a") → ⊥
 b_isnt_a h = let e : 98 ≡ 97 = same_letter (codes "b") (codes "a") h in omega (arith, e)
 
-a_isnt_b : Some (codes "a") ≡ Some (codes "b") → ⊥
+pub a_isnt_b : Some (codes "a") ≡ Some (codes "b") → ⊥
 a_isnt_b h = let e : 97 ≡ 98 = same_letter (codes "a") (codes "b") h in omega (arith, e)
 
 a_isnt_c : Some (codes "a") ≡ Some (codes "c") → ⊥

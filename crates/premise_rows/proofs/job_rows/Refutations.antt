@@ -24,7 +24,7 @@ alone : (l m : Literal) → Contains (l ∷ []) m → m ≡ l
 alone l m h = elim (Contains-cases l m [] h) [ inl e ↦ sym e | inr k ↦ absurd (nothing_in m k) ]
 
 -- the one literal of a clause
-single : (l : Literal) → IsUnit [] (l ∷ []) l
+pub single : (l : Literal) → IsUnit [] (l ∷ []) l
 single l = record { there = Contains-head l []; outside = nothing_in l; only = λ m there outside. alone l m there }
 
 -- the second of two, where the first is false

@@ -35,7 +35,7 @@ unknown_of left right left_latches right_latches header =
     find (λ name. not ((is_among left name || is_among right name) || (is_among left_latches name && is_among right_latches name))) header
 
 -- no name of the header is unknown, and whatever is read, no shared input is missing
-record Fitting (s t : Small) (header : List (List ℕ)) : Type 0 where
+pub record Fitting (s t : Small) (header : List (List ℕ)) : Type 0 where
   pub known : unknown_of s.inputs t.inputs s.latches t.latches header ≡ None
   pub complete : (own others : List (List ℕ)) → first_missing (shared_inputs (small_ports s own) (small_ports t others)) header ≡ None
 
@@ -46,7 +46,7 @@ module _ (header : List (List ℕ)) (s t : Small) (a b : NetView) (left : IsSmal
   abbrev right_latches : List (List ℕ)
   right_latches = map (λ (l : LatchAt). l.name) b.latches
 
-  fits : Fitting s t header → FitsBoth a b header
+  pub fits : Fitting s t header → FitsBoth a b header
   fits f = record {
     known = ap (λ (names : List (List ℕ)). unknown_of names (ports_of b).inputs left_latches right_latches header) left.inputs
         ∙ (ap (λ (names : List (List ℕ)). unknown_of s.inputs names left_latches right_latches header) right.inputs
@@ -70,7 +70,7 @@ replayed mode x y z m k s t p q names rows stimulus same fitting light_left ligh
 }
 
 -- a name of one byte that is neither a blank nor a line feed
-one_byte : (c : ℕ) → (c ≡ 32 → ⊥) → (c ≡ 10 → ⊥) → IsName (c ∷ [])
+pub one_byte : (c : ℕ) → (c ≡ 32 → ⊥) → (c ≡ 10 → ⊥) → IsName (c ∷ [])
 one_byte c not_blank not_feed = record { some = omega arith; no_blank = λ h. not_blank (only 32 h); no_line_feed = λ h. not_feed (only 10 h) }
   where
     only : (k : ℕ) → Contains (c ∷ []) k → c ≡ k
@@ -83,7 +83,7 @@ a_apart h = by (Contains-cases (codes "b") (codes "a") [] h)
     by (inl same) = let e : 98 ≡ 97 = ap (λ (k : List ℕ). get_or k 0 0) same in omega (arith, e)
     by (inr none) = let l = none.1 in omega (arith, l)
 
-both_form : IsForm both_and_none (codes "a" ∷ codes "b" ∷ []) ((true ∷ true ∷ []) ∷ (false ∷ false ∷ []) ∷ [])
+pub both_form : IsForm both_and_none (codes "a" ∷ codes "b" ∷ []) ((true ∷ true ∷ []) ∷ (false ∷ false ∷ []) ∷ [])
 unfolding stimulus_text
 both_form = record {
   names_are = record {

@@ -12,7 +12,7 @@ use Rattle.lrat_core.specs.dimacs_text.dimacs_writer.Laws.{AreWritable}
 use Rattle.call_rows.proofs.circuit_samples.Each.{Each, each_at, EachPair, each_pair}
 use Rattle.premise_rows.specs.job_rows.Writing.{yes, no, on, units, one_step, equal_pair, with_detour, UnitsCanBeWritten, DetourCanBeWritten}
 
-clause : (c : List Literal) → EachPair (λ l m. l.variable < m.variable) c → IsClause c
+pub clause : (c : List Literal) → EachPair (λ l m. l.variable < m.variable) c → IsClause c
 clause c all = each_pair (λ l m. l.variable < m.variable) c all
 
 -- each literal of the clause is one of a or b beside the pivot
@@ -23,7 +23,7 @@ Comes a b pivot l = (l.variable ≢ pivot) × (Contains a l ⊎ Contains b l)
 abbrev Stays : ℕ → List Literal → Literal → Type 0
 Stays pivot c l = l.variable ≢ pivot → Contains c l
 
-resolvent : (a b c : List Literal) (l : Literal) → IsClause a → IsClause b → IsClause c → Contains a l → Contains b (negation l) → Each (Comes a b l.variable) c → Each (Stays l.variable c) a → Each (Stays l.variable c) b →
+pub resolvent : (a b c : List Literal) (l : Literal) → IsClause a → IsClause b → IsClause c → Contains a l → Contains b (negation l) → Each (Comes a b l.variable) c → Each (Stays l.variable c) a → Each (Stays l.variable c) b →
     IsResolvent a b l.variable c
 resolvent a b c l left right ordered at_a at_b comes from_a from_b = record {
   left = left;
@@ -41,7 +41,7 @@ resolvent a b c l left right ordered at_a at_b comes from_a from_b = record {
 abbrev InRange : ℕ → Literal → Type 0
 InRange variables l = (0 < l.variable) × (l.variable ≤ variables)
 
-writable : (variables : ℕ) (clauses : List (List Literal)) → variables ≤ 2 ^ 30 → length clauses ≤ 2 ^ 30 → Each (Each (InRange variables)) clauses → AreWritable variables clauses
+pub writable : (variables : ℕ) (clauses : List (List Literal)) → variables ≤ 2 ^ 30 → length clauses ≤ 2 ^ 30 → Each (Each (InRange variables)) clauses → AreWritable variables clauses
 writable variables clauses few_variables few_clauses all = record {
   few_variables = few_variables;
   few_clauses = few_clauses;
