@@ -17,7 +17,7 @@ use Rattle.base_tables.proofs.Appended.{distinct-push}
 use Rattle.sec_base.specs.Cover.{IsCoverSound}
 use Rattle.blif_read.specs.declared.design.BlifModel.{BlifModel}
 use Rattle.blif_read.specs.declared.design.Statement.TheVariants.{Names}
-use Rattle.blif_read.specs.Design.{Place, top, walk, clock_places, circuit_of_design}
+use Rattle.blif_read.specs.Design.{Place, top, name_of, walk, clock_places, circuit_of_design}
 use Rattle.flat_net.specs.declared.parts.Port.{Port}
 use Rattle.flat_net.specs.Sound.{Drives, IsInputOf, IsGateOf, IsLatchOf, IsSound}
 use Rattle.flat_net.specs.View.{NetView, circuit_of}
@@ -196,9 +196,6 @@ module _ (cover : Cover) (covers : IsCoverSound cover) (wide : cover.width ≡ 2
     few_covers = omega arith;
   }
 
-  abbrev NamedSo : ℕ → List ℕ → Type 0
-  NamedSo s name = name ≡ (origin s).name
-
   pub and_is_flat : IsFlatOf and_design net
   unfolding walk
   and_is_flat = record {
@@ -215,7 +212,7 @@ module _ (cover : Cover) (covers : IsCoverSound cover) (wide : cover.width ≡ 2
     few = omega arith;
   }
     where
-      named_so : (s : ℕ) → s < 3 → slice_get net.names s ≡ Some (origin s).name
+      named_so : (s : ℕ) → s < 3 → slice_get net.names s ≡ Some (name_of (origin s))
       named_so zero low = refl
       named_so (suc zero) low = refl
       named_so (suc (suc zero)) low = refl
