@@ -1,17 +1,17 @@
 -- The net of an and by some rows is that of its design.
-use Rattle.std.proofs.Common.{◌≡◌, ℕ, zero, suc, ◌+◌, ◌*◌, ◌<◌, ◌≤◌, max, Bool, List, [], ◌∷◌, map, length, get_or, slice_get, Some, None, refl, sym, ap, subst, arith, inl, inr}
+use Rattle.std.proofs.Common.{◌≡◌, ℕ, zero, suc, ◌+◌, ◌*◌, ◌<◌, max, Bool, List, [], ◌∷◌, length, get_or, slice_get, Some, None, refl, sym, ap, subst, arith}
 use Rattle.std.specs.Prelude.{codes, ◌==◌, if◌then◌else◌}
 use Rattle.std.specs.List.{Contains, sum_by}
 use Rattle.std.proofs.lemmas.List.Elements.{All-contains, All-from_recursion}
 use Rattle.std.proofs.lemmas.Option.{none-some, same_Some, slice_get_within}
 use Rattle.circuit_theory.specs.Circuit.{Circuit, Equation, Gate, Latch, Port as PortEquation, Named, IsInput, Holds, Carries, Reads, out_of}
-use Rattle.circuit_theory.specs.Cover.{Cover, cover_value}
+use Rattle.circuit_theory.specs.Cover.{Cover}
 use Rattle.circuit_theory.specs.Flattened.{Follows, IsFlattened}
 use Rattle.circuit_theory.specs.Joined.{moved}
 use Rattle.circuit_theory.specs.Places.{IsPlace}
 use Rattle.circuit_theory.specs.Run.{IsRun, Marked, NoneEnabled}
 use Rattle.circuit_theory.specs.Sizes.{Weighed, WeighsAt, Visits, IsWeight}
-use Rattle.circuit_theory.proofs.Lists.{Contains-cases, only}
+use Rattle.circuit_theory.proofs.Lists.{only}
 use Rattle.base_tables.specs.Table.{AreDistinct}
 use Rattle.base_tables.proofs.Appended.{distinct-push}
 use Rattle.sec_base.specs.Cover.{IsCoverSound}

@@ -1,7 +1,7 @@
 -- Two ands load, have clauses, and these and their refutation are printed.
-use Rattle.std.specs.Prelude.{codes, Ok}
+use Rattle.std.specs.Prelude.{codes}
 use Rattle.std.specs.Fmt.{digits}
-use Rattle.std.specs.List.{Contains, sum_by}
+use Rattle.std.specs.List.{sum_by}
 use Rattle.std.proofs.Common.{◌≡◌, ◌∙◌, ℕ, zero, suc, ◌≤◌, Bool, true, false, List, [], ◌∷◌, slice_get, Some, refl, sym, ap, subst, arith, inl, inr}
 use Rattle.std.proofs.lemmas.List.Elements.{All-from_recursion}
 use Rattle.std.proofs.lemmas.Option.{none-some}
@@ -16,14 +16,12 @@ use Rattle.circuit_theory.proofs.Numbers.{one_number}
 use Rattle.circuit_laws.proofs.OneTree.{one_tree}
 use Rattle.sec_base.specs.Cover.{IsPlace, IsCube, IsCoverSound}
 use Rattle.blif_read.specs.declared.design.BlifModel.{BlifModel}
-use Rattle.flat_net.specs.View.{NetView, circuit_of, ports_of}
+use Rattle.flat_net.specs.View.{NetView, circuit_of}
 use Rattle.flatten.specs.DesignFaults.{IsFlatOf}
-use Rattle.proof_check.specs.declared.derivation.Step.{Step}
 use Rattle.proof_check.specs.declared.derivation.Chain.{Chain}
 use Rattle.proof_check.specs.Chains.{LogDerives}
 use Rattle.proof_check.specs.Clauses.{Unsatisfiable}
-use Rattle.pair_decide.specs.declared.cnf_encode.cnf.Cnf.{Cnf}
-use Rattle.lrat_core.specs.certificate_writer.Texts.{SpellsClauses, IsTextOf, IsAcceptedOver, formula_for}
+use Rattle.lrat_core.specs.certificate_writer.Texts.{SpellsClauses, IsAcceptedOver, formula_for}
 use Rattle.lrat_core.specs.Hints.{HintsGive}
 use Rattle.lrat_core.specs.Sequences.{AdditionGives}
 use Rattle.lrat_core.specs.lrat_text.Verdicts.{TextGives}

@@ -27,7 +27,6 @@ use Rattle.restart.specs.Behind.{begun}
 use Rattle.job_base.specs.sec_files.Loading.{Loads}
 use Rattle.job_base.specs.sec_files.Stimuli.{IsStimulus}
 use Rattle.job_circuit.specs.replay.replay_header.Header.{opened}
-use Rattle.job_after.specs.Judged.{IsBegun}
 use Rattle.job_after.specs.Answer.{IsWide, CanBeBegun}
 use Rattle.job_tied.specs.Found.{IsHeavy}
 use Rattle.job_check.specs.check_meaning.design_rows.NoFault.{has_no_fault}

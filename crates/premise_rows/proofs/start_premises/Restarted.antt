@@ -18,7 +18,7 @@ use Rattle.start_laws.specs.Samples.{neither, resettable, reset_row}
 use Rattle.start_laws.proofs.Covers.{cover_forces}
 use Rattle.start_laws.proofs.Knowing.{agree_from_starts, bit_within}
 use Rattle.start_laws.proofs.Sampling.{reset_is_known}
-use Rattle.premise_rows.specs.start_premises.Restarted.{or_not, turned_over, rising, from_bit, of_reset, turning, toggling_run, shown_run, AgreeBehindReset, AgreeInTwoBehindReset, CircuitsAgreeBehindRows}
+use Rattle.premise_rows.specs.start_premises.Restarted.{or_not, turned_over, rising, from_bit, of_reset, turning, toggling_run, shown_run, AgreeBehindReset, CircuitsAgreeBehindRows}
 
 -- what the covers give
 neither_low : (b : Bool) → not b ≡ cover_value neither (false ∷ b ∷ [])
@@ -58,16 +58,16 @@ from_low false = refl
 -- what is known behind the cycle of reset
 turned_over_known : AreStartsAfter turned_over of_reset reset_row (from_bit true)
 turned_over_known u bit h = subst (λ (s : Started ℕ). IsKnown turned_over of_reset reset_row 1 s.place s.bit) (only _ _ h) (
-  IsKnown.later {t = 0} {name = 119 ∷ []} {next = 2} (0, omega arith, refl)
-  (IsKnown.gate {fanins = 0 ∷ 1 ∷ []} {cover = or_not} (Some true ∷ None ∷ []) (1, omega arith, refl) (AreKnown.known (IsKnown.input 0 (inl (refl, refl)) refl) (AreKnown.unknown AreKnown.none))
-  (cover_forces or_not (Some true ∷ None ∷ []) true refl))
-)
+    IsKnown.later {t = 0} {name = 119 ∷ []} {next = 2} (0, omega arith, refl)
+    (IsKnown.gate {fanins = 0 ∷ 1 ∷ []} {cover = or_not} (Some true ∷ None ∷ []) (1, omega arith, refl) (AreKnown.known (IsKnown.input 0 (inl (refl, refl)) refl) (AreKnown.unknown AreKnown.none))
+    (cover_forces or_not (Some true ∷ None ∷ []) true refl))
+    )
 
 rising_known : AreStartsAfter rising of_reset reset_row (from_bit false)
 rising_known u bit h = subst (λ (s : Started ℕ). IsKnown rising of_reset reset_row 1 s.place s.bit) (only _ _ h) (
-  IsKnown.later {t = 0} {name = 120 ∷ []} {next = 2} (0, omega arith, refl)
-  (IsKnown.gate {fanins = 0 ∷ []} {cover = turned} (Some true ∷ []) (1, omega arith, refl) (AreKnown.known (IsKnown.input 0 (inl (refl, refl)) refl) AreKnown.none) (cover_forces turned (Some true ∷ []) false refl))
-)
+    IsKnown.later {t = 0} {name = 120 ∷ []} {next = 2} (0, omega arith, refl)
+    (IsKnown.gate {fanins = 0 ∷ []} {cover = turned} (Some true ∷ []) (1, omega arith, refl) (AreKnown.known (IsKnown.input 0 (inl (refl, refl)) refl) AreKnown.none) (cover_forces turned (Some true ∷ []) false refl))
+    )
 
 -- The outputs from what is known there: the latches are complements in each cycle.
 module _ (n : ℕ) (l r : ℕ → ℕ → Bool) (h : AreAlikeFromReset (restarted (from_bit false) resettable) (restarted (from_bit true) turned_over) n l r) where

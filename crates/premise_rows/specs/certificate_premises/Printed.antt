@@ -1,5 +1,5 @@
 -- Two texts, nets that they load as, the clauses of their output, and what both commands print.
-use Rattle.std.specs.Prelude.{◌≡◌, ℕ, Bool, true, false, List, [], Option, Some, codes}
+use Rattle.std.specs.Prelude.{◌≡◌, ℕ, Bool, true, false, List, [], Some, codes}
 use Rattle.flat_net.specs.View.{NetView}
 use Rattle.pair_decide.specs.declared.cnf_encode.cnf.Cnf.{Cnf}
 use Rattle.job_base.specs.sec_files.Loading.{Loads}

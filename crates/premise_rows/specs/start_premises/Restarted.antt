@@ -1,5 +1,5 @@
 -- Circuits that agree from what is known of them behind a sequence of inputs, for ever or for two cycles.
-use Rattle.std.specs.Prelude.{◌≡◌, ◌≢◌, ℕ, zero, suc, Bool, true, false, not, List, [], ◌∷◌}
+use Rattle.std.specs.Prelude.{◌≢◌, ℕ, zero, suc, Bool, true, false, not, List, [], ◌∷◌}
 use Rattle.circuit_theory.specs.Cover.{Cover}
 use Rattle.circuit_theory.specs.Circuit.{Circuit, Started, Gate, Latch}
 use Rattle.circuit_theory.specs.Tree.{AreNumbered}
