@@ -11,3 +11,4 @@ pub mod Parts
 pub mod Placing
 pub mod circuit_theory
 pub use Rattle.base_tables.proofs.TableLemmas
+pub mod Making
