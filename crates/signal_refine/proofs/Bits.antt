@@ -37,26 +37,26 @@ module _ (n : SignalNets) (first : ℕ) (below : AreBelow n first) where
       let f = value_found x (whole n).inputs (order_of n) p i h in
       ap (λ o. first_value o None) f.2 ∙ cycle.inputs f.0 p i f.1 h
 
-  -- inputs of the first cycle, then its latches by their places, and behind them the inputs of the next one
-  abbrev pub bits : (Either ℕ ℕ → Bool) → (Either ℕ ℕ → Bool) → ℕ → Bool
-  bits x y k = cond (nat_lt k first) (input_bit x k) (cond (nat_lt k (first + places_of n)) (x (side_at (size_of n) (k - first))) (input_bit y (k - (first + places_of n))))
+  -- inputs by their numbers, and behind them signals by their places
+  abbrev pub bits : (Either ℕ ℕ → Bool) → ℕ → Bool
+  bits x k = cond (nat_lt k first) (input_bit x k) (x (side_at (size_of n) (k - first)))
 
-  pub bits_inputs : (x y : Either ℕ ℕ → Bool) → IsCycle (whole n) (order_of n) x → (p : Either ℕ ℕ) (i : ℕ) → IsInputNumber (whole n) (order_of n) p i → bits x y (0 + i) ≡ x p
-  bits_inputs x y cycle p i h =
-      let low = number_below p i h in
-      ap (bits x y) (let e : 0 + i ≡ i = omega arith in e)
-      ∙ (ap (λ b. cond b (input_bit x i) (cond (nat_lt i (first + places_of n)) (x (side_at (size_of n) (i - first))) (input_bit y (i - (first + places_of n))))) (lt_true i first low) ∙ input_is x cycle p i h)
+  pub bits_inputs : (x : Either ℕ ℕ → Bool) → IsCycle (whole n) (order_of n) x → (p : Either ℕ ℕ) (i : ℕ) → IsInputNumber (whole n) (order_of n) p i → bits x i ≡ x p
+  bits_inputs x cycle p i h = let low = number_below p i h in ap (λ b. cond b (input_bit x i) (x (side_at (size_of n) (i - first)))) (lt_true i first low) ∙ input_is x cycle p i h
 
-  pub bits_latches : (x y : Either ℕ ℕ → Bool) → AreFree n first (bits x y) x
-  bits_latches x y p h =
+  pub bits_latches : (x : Either ℕ ℕ → Bool) → AreFree n first (bits x) x
+  bits_latches x p h =
       let k = first + p in
-      ap (λ b. cond b (input_bit x k) (cond (nat_lt k (first + places_of n)) (x (side_at (size_of n) (k - first))) (input_bit y (k - (first + places_of n))))) (lt_false k first (omega arith))
-      ∙ (ap (λ b. cond b (x (side_at (size_of n) (k - first))) (input_bit y (k - (first + places_of n)))) (lt_true k (first + places_of n) (omega (arith, h)))
-      ∙ ap (λ q. x (side_at (size_of n) q)) (let e : first + p - first ≡ p = omega arith in e))
+      ap (λ b. cond b (input_bit x k) (x (side_at (size_of n) (k - first)))) (lt_false k first (omega arith)) ∙ ap (λ q. x (side_at (size_of n) q)) (let e : first + p - first ≡ p = omega arith in e)
 
-  pub bits_later : (x y : Either ℕ ℕ → Bool) → IsCycle (whole n) (order_of n) y → (p : Either ℕ ℕ) (i : ℕ) → IsInputNumber (whole n) (order_of n) p i → bits x y (first + places_of n + i) ≡ y p
-  bits_later x y cycle p i h =
+  -- these bits, and behind them those of a next cycle
+  abbrev pub both : (ℕ → Bool) → (Either ℕ ℕ → Bool) → ℕ → Bool
+  both a y k = cond (nat_lt k (first + places_of n)) (a k) (bits y (k - (first + places_of n)))
+
+  pub both_before : (a : ℕ → Bool) (y : Either ℕ ℕ → Bool) (k : ℕ) → k < first + places_of n → both a y k ≡ a k
+  both_before a y k h = ap (λ b. cond b (a k) (bits y (k - (first + places_of n)))) (lt_true k (first + places_of n) h)
+
+  pub both_behind : (a : ℕ → Bool) (y : Either ℕ ℕ → Bool) (i : ℕ) → both a y (first + places_of n + i) ≡ bits y i
+  both_behind a y i =
       let k = first + places_of n + i in
-      ap (λ b. cond b (input_bit x k) (cond (nat_lt k (first + places_of n)) (x (side_at (size_of n) (k - first))) (input_bit y (k - (first + places_of n))))) (lt_false k first (omega arith))
-      ∙ (ap (λ b. cond b (x (side_at (size_of n) (k - first))) (input_bit y (k - (first + places_of n)))) (lt_false k (first + places_of n) (omega arith))
-      ∙ (ap (input_bit y) (let e : first + places_of n + i - (first + places_of n) ≡ i = omega arith in e) ∙ input_is y cycle p i h))
+      ap (λ b. cond b (a k) (bits y (k - (first + places_of n)))) (lt_false k (first + places_of n) (omega arith)) ∙ ap (bits y) (let e : first + places_of n + i - (first + places_of n) ≡ i = omega arith in e)

@@ -1,9 +1,12 @@
 pub mod Bits
 pub mod Caring
+pub mod Copying
 pub mod Equals
 pub mod Framing
+pub mod Halves
 pub mod Parts
 pub mod Results
 pub mod Settling
 pub mod Showing
 pub mod Sources
+pub mod Telling

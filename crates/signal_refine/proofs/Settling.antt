@@ -1,40 +1,58 @@
--- What is shown of a grown graph, and one tie more.
-use Rattle.std.proofs.Common.{◌≡◌, ◌∙◌, ◌+◌, ◌*◌, ◌<◌, ◌⊎◌, ℕ, Bool, true, not, if◌then◌else◌, List, length, get_or, slice_get, Some, sym, ap, subst, arith, inl, inr}
-use Rattle.std.specs.List.{All}
-use Rattle.std.proofs.lemmas.Option.{get_or_from_slice_get}
-use Rattle.flat_net.proofs.Places.{All-at}
+-- One node more, whose tie is shown or not.
+use Rattle.std.proofs.Common.{◌≡◌, ◌∙◌, ◌+◌, ◌*◌, ◌<◌, ◌⊎◌, ℕ, Bool, true, false, true≢false, not, if◌then◌else◌, List, [], ◌∷◌, ◌++◌, length, slice_get, Some, sym, ap, subst, arith, inl, inr}
 use Rattle.aig.specs.declared.node.Lit.{Lit}
 use Rattle.aig.specs.declared.node.Node.{Node}
 use Rattle.aig.specs.Graph.{Grows}
 use Rattle.aig.specs.Values.{value}
+use Rattle.aig.proofs.Growth.{Grows-trans, Grows-length}
 use Rattle.aig.proofs.Meaning.{value-grows}
 use Rattle.signal_laws.specs.declared.anchor.Anchor.{Anchor}
 use Rattle.signal_laws.specs.declared.anchor.Anchor.TheVariants as anchor
-use Rattle.signal_refine.specs.Asking.{AnchorHas, IsShownAt}
+use Rattle.signal_laws.specs.Ties.{anchor_value}
+use Rattle.std.specs.List.{All}
+use Rattle.signal_refine.specs.Copies.{HaveAt, node_at}
+use Rattle.signal_refine.specs.Asking.{AnchorHas, IsTiedAt, IsShown, IsSwept}
+use Rattle.signal_refine.proofs.Framing.{values_grow}
 
-module _ (g h : List Node) (grows : Grows g h) (lits : List Lit) (care : Lit) (within : All (λ x. x.0 < 2 * length g) lits) (care_within : care.0 < 2 * length g) where
-  old_value : (a : ℕ → Bool) (p : ℕ) (l : Lit) → slice_get lits p ≡ Some l → value h a l.0 ≡ value g a l.0
-  old_value a p l at = value-grows g h grows a l.0 (All-at (λ (x : Lit). x.0 < 2 * length g) lits p l at within)
+-- what an anchor has by literals it has by the values of their places
+pub anchor_is : (w : ℕ → Bool) (g : List Node) (a : ℕ → Bool) (lits : List Lit) → HaveAt w g a lits → (k : Anchor) (x : Bool) → AnchorHas g a lits k x → x ≡ anchor_value w k
+anchor_is w g a lits values (anchor.Bit bit) x has = has
+anchor_is w g a lits values (anchor.Place q flipped) x has = has.2 ∙ ap (λ (b : Bool). if flipped then not b else b) (values q has.0 has.1)
 
-  anchor_shrinks : (a : ℕ → Bool) (k : Anchor) (x : Bool) → AnchorHas h a lits k x → AnchorHas g a lits k x
-  anchor_shrinks a (anchor.Bit bit) x has = has
-  anchor_shrinks a (anchor.Place q flipped) x has = (has.0, has.1, has.2 ∙ ap (λ (b : Bool). if flipped then not b else b) (old_value a q has.0 has.1))
-
-  pub shown_grows : (p : ℕ) (k : Anchor) → IsShownAt h lits care p k → IsShownAt g lits care p k
-  shown_grows p k shown a on =
-      let s = shown a (value-grows g h grows a care.0 care_within ∙ on) in
-      (s.0, s.1, subst (AnchorHas g a lits k) (old_value a p s.0 s.1) (anchor_shrinks a k (value h a s.0.0) s.2))
-
-pub shown_more : (g : List Node) (lits : List Lit) (care : Lit) (anchors : List Anchor) (i : ℕ) (d : Anchor) → i < length anchors →
-    ((p : ℕ) (k : Anchor) → p < i → slice_get anchors p ≡ Some k → IsShownAt g lits care p k) → IsShownAt g lits care i (get_or anchors i d) →
-    (p : ℕ) (k : Anchor) → p < i + 1 → slice_get anchors p ≡ Some k → IsShownAt g lits care p k
-shown_more g lits care anchors i d inside before now p k less at = go (which p i less)
+-- a place more
+pub tied_more : (anchors : List Anchor) (w : ℕ → Bool) (n : ℕ) → ((p : ℕ) → p < n → IsTiedAt anchors w p) → IsTiedAt anchors w n → (p : ℕ) → p < n + 1 → IsTiedAt anchors w p
+tied_more anchors w n before now p less = go (which p n less)
   where
-    which : (m n : ℕ) → m < n + 1 → (m < n) ⊎ (m ≡ n)
-    which m n h = grind arith
+    which : (m k : ℕ) → m < k + 1 → (m < k) ⊎ (m ≡ k)
+    which m k h = grind arith
 
-    go : (p < i) ⊎ (p ≡ i) → IsShownAt g lits care p k
-    go (inl early) = before p k early at
-    go (inr e) =
-        let one : get_or anchors i d ≡ k = get_or_from_slice_get anchors i k d (ap (slice_get anchors) (sym e) ∙ at) in
-        subst (λ (q : ℕ). IsShownAt g lits care q k) (sym e) (subst (IsShownAt g lits care i) one now)
+    go : (p < n) ⊎ (p ≡ n) → IsTiedAt anchors w p
+    go (inl early) = before p early
+    go (inr e) = subst (IsTiedAt anchors w) (sym e) now
+
+-- a node whose own literal is made of those before it, as `h` has it after its query in `g`
+module _ (base : List Node) (leaves : List Lit) (care : Lit) (anchors : List Anchor) (from g h : List Node) (made : Grows from g) (grows : Grows g h) (old : List Lit) (n : ℕ) (each : length old ≡ n) (within : All (λ (x : Lit). x.0 < 2 * length from) old)
+    (care_within : care.0 < 2 * length from) (own : Lit) (new : List Lit)
+    (own_value : (a c : ℕ → Bool) → HaveAt c from a leaves → HaveAt (node_at base c) from a old → value g a own.0 ≡ node_at base c n) where
+  pub swept_shown : (lit : Lit) → new ≡ old ++ lit ∷ [] → lit.0 < 2 * length h → IsShown base old care anchors g own h lit → IsSwept base leaves care anchors from old n true h new
+  swept_shown lit new_is lit_within shown = record {
+    grows = Grows-trans from g h made grows;
+    lit = lit;
+    is = new_is;
+    within = lit_within;
+    value_is = λ a c on at read. (tells a c on at read).0 ∙ ap (node_at base c) each;
+    shown = λ yes a c on at read. subst (IsTiedAt anchors (node_at base c)) each (tells a c on at read).1;
+  }
+    where
+      tells : (a c : ℕ → Bool) → value from a care.0 ≡ true → HaveAt c from a leaves → HaveAt (node_at base c) from a old → (value h a lit.0 ≡ node_at base c (length old)) × IsTiedAt anchors (node_at base c) (length old)
+      tells a c on at read = shown a c (value-grows from g made a care.0 care_within ∙ on) (values_grow (node_at base c) from g made a old within read) (own_value a c at read ∙ ap (node_at base c) (sym each))
+
+  pub swept_kept : new ≡ old ++ own ∷ [] → own.0 < 2 * length g → IsSwept base leaves care anchors from old n false h new
+  swept_kept new_is own_within = record {
+    grows = Grows-trans from g h made grows;
+    lit = own;
+    is = new_is;
+    within = let more = Grows-length g h grows in omega (arith, more, own_within);
+    value_is = λ a c on at read. value-grows g h grows a own.0 own_within ∙ own_value a c at read;
+    shown = λ yes a c on at read. absurd (true≢false (sym yes));
+  }

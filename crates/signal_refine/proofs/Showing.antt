@@ -1,8 +1,7 @@
 -- Ties that queries show are an inductive invariant.
-use Rattle.std.proofs.Common.{◌≡◌, ◌∙◌, ◌+◌, ◌*◌, ◌^◌, ◌<◌, ◌≤◌, ℕ, Bool, true, false, not, if◌then◌else◌, List, [], length, slice_get, Some, sym, ap, subst, arith}
-use Rattle.std.specs.List.{All, Contains}
+use Rattle.std.proofs.Common.{◌≡◌, ◌∙◌, ◌+◌, ◌*◌, ◌^◌, ◌<◌, ◌≤◌, ℕ, Bool, true, Bor, List, [], length, slice_get, Some, sym, ap, subst, arith}
+use Rattle.std.specs.List.{All}
 use Rattle.std.proofs.lemmas.Option.{slice_get_within}
-use Rattle.circuit_theory.specs.Circuit.{Carries}
 use Rattle.circuit_theory.specs.Joined.{Either}
 use Rattle.aig.specs.declared.node.Lit.{Lit}
 use Rattle.aig.specs.declared.node.Node.{Node}
@@ -10,83 +9,117 @@ use Rattle.aig.specs.Graph.{Grows}
 use Rattle.aig.specs.Values.{value}
 use Rattle.aig.proofs.Growth.{Grows-trans}
 use Rattle.signal_laws.specs.declared.anchor.Anchor.{Anchor}
-use Rattle.signal_laws.specs.declared.anchor.Anchor.TheVariants as anchor
-use Rattle.signal_laws.specs.Ties.{side_at, anchor_value, AreTied}
-use Rattle.signal_laws.specs.Invariants.{IsFirstCycle, AreSuccessive}
+use Rattle.signal_laws.specs.Ties.{side_at}
+use Rattle.signal_laws.specs.Invariants.{IsCycle, IsFirstCycle, AreSuccessive}
 use Rattle.signal_refine.specs.declared.nets.SignalNets.{SignalNets}
-use Rattle.signal_refine.specs.declared.leaves.Latches.{Latches}
 use Rattle.signal_refine.specs.declared.leaves.Latches.TheVariants as latches
 use Rattle.signal_refine.specs.declared.leaves.Cycle.{Cycle}
-use Rattle.signal_refine.specs.declared.frame.Frame.{Frame}
+use Rattle.signal_refine.specs.declared.copies.NodeLits.{NodeLits}
 use Rattle.signal_refine.specs.Places.{size_of, places_of, whole, order_of}
-use Rattle.signal_refine.specs.Frames.{HaveValues, AreRead, IsReadBy, IsFrame}
-use Rattle.signal_refine.specs.Asking.{AnchorHas, IsCare, AreOne, AreShown}
-use Rattle.signal_refine.specs.Showing.{AreBelow, Begins, Steps, AreInductiveTies}
-use Rattle.signal_refine.proofs.Bits.{bits, bits_inputs, bits_latches, bits_later}
+use Rattle.signal_refine.specs.Copies.{HaveAt, node_at, AreTiedAt, IsCopy, AreCarried}
+use Rattle.signal_refine.specs.Frames.{IsReadBy, AreNamed, AreSignalLits, AreLeaves}
+use Rattle.signal_refine.specs.Asking.{IsCare, AreOne, AreShown}
+use Rattle.signal_refine.specs.Told.{AreTold}
+use Rattle.signal_refine.specs.Showing.{AreBelow, free_cycle, AreLits, Begins, Steps, AreInductiveNodes, AreInductiveTies}
+use Rattle.signal_refine.proofs.Bits.{bits, bits_inputs, bits_latches, both, both_before, both_behind, number_below}
 use Rattle.signal_refine.proofs.Caring.{one_after}
 use Rattle.signal_refine.proofs.Framing.{values_grow}
 
-anchor_is : (size : ℕ) (g : List Node) (a : ℕ → Bool) (v : Either ℕ ℕ → Bool) (lits : List Lit) → HaveValues size g a v lits → (k : Anchor) (x : Bool) → AnchorHas g a lits k x → x ≡ anchor_value (λ q. v (side_at size q)) k
-anchor_is size g a v lits values (anchor.Bit bit) x has = has
-anchor_is size g a v lits values (anchor.Place q flipped) x has = has.2 ∙ ap (λ (b : Bool). if flipped then not b else b) (values q has.0 has.1)
+zero_more : (i : ℕ) → 0 + i ≡ i
+zero_more i = omega arith
 
--- what is shown of literals holds of the values that they have
-pub tied_where_shown : (size : ℕ) (g : List Node) (a : ℕ → Bool) (v : Either ℕ ℕ → Bool) (lits : List Lit) (care : Lit) (anchors : List Anchor) →
-    HaveValues size g a v lits → value g a care.0 ≡ true → AreShown g lits care anchors → AreTied size anchors v
-tied_where_shown size g a v lits care anchors values holds shown p k at =
-    let s = shown p k at a holds in
-    sym (values p s.0 s.1) ∙ anchor_is size g a v lits values k (value g a s.0.0) s.2
+pub are_lits : (n : SignalNets) (first : ℕ) (from base : List Node) (lits : List Lit) → AreSignalLits (free_cycle n first) from base (places_of n) lits → AreLits n first base lits
+are_lits n first from base lits are = (are.within, are.each, λ a v reading. are.values a v (record { meets = reading.meets; inputs = reading.inputs; latches = reading.latches }))
 
--- nothing is tied
-pub none_tied : (size : ℕ) (v : Either ℕ ℕ → Bool) → AreTied size [] v
-none_tied size v p k at = absurd (let inside = slice_get_within [] p k at in omega (arith, inside))
+module _ (n : SignalNets) (first : ℕ) (below : AreBelow n first) (base : List Node) where
+  -- each cycle is read by its bits
+  pub cycle_reading : (x : Either ℕ ℕ → Bool) → IsCycle (whole n) (order_of n) x → IsReadBy (free_cycle n first) base (bits n first below x) x
+  cycle_reading x cycle = record { meets = cycle.meets; inputs = λ p i number. ap (bits n first below x) (zero_more i) ∙ bits_inputs n first below x cycle p i number; latches = bits_latches n first below x }
 
--- and that is an inductive invariant
-pub none_inductive : (n : SignalNets) → AreInductiveTies n []
-none_inductive n = record { begins = λ x first. none_tied (size_of n) x; steps = λ x y both tied. none_tied (size_of n) y }
+  -- nothing is tied, and that is an inductive invariant
+  none_tied : (w : ℕ → Bool) → AreTiedAt [] w
+  none_tied w p k at = absurd (let inside = slice_get_within [] p k at in omega (arith, inside))
 
-module _ (n : SignalNets) (first : ℕ) (below : AreBelow n first) (anchors : List Anchor) where
-  abbrev pub first_reading : Cycle
-  first_reading = record { nets = n; inputs = 0; first = first; latches = latches.Started }
+  none_inductive : AreInductiveNodes n first base []
+  none_inductive = record {
+    begins = λ x start. (bits n first below x, cycle_reading x start.cycle, none_tied (node_at base (bits n first below x)));
+    steps = λ x y successive tied. (bits n first below y, cycle_reading y successive.next, none_tied (node_at base (bits n first below y)));
+  }
 
-  pub begins_where_shown : (g h : List Node) (f : Frame) (count : ℕ) → IsFrame first_reading [] g h count f → (care : Lit) → ((a : ℕ → Bool) → value h a care.0 ≡ true) → AreShown h f.own.items care anchors → Begins n anchors
-  begins_where_shown g h f count is care holds shown x start =
-      tied_where_shown (size_of n) h a x f.own.items care anchors (is.own_values a x reading (none_tied (size_of n) x)) (holds a) shown
-    where
-      a : ℕ → Bool
-      a = bits n first below x x
+  none_told : (lits : List Lit) → AreTold lits [] []
+  none_told lits p k at = absurd (let inside = slice_get_within [] p k at in omega (arith, inside))
 
-      reading : IsReadBy first_reading g a x
-      reading = record { meets = start.cycle.meets; inputs = λ p i number. bits_inputs n first below x x start.cycle p i number; latches = (bits_latches n first below x x, start.starts) }
+  pub none_left : (lits : List Lit) → AreLits n first base lits → AreInductiveTies n []
+  none_left lits are = record { first = first; base = base; lits = lits; are_lits = are; nodes = []; inductive = none_inductive; told = none_told lits }
 
-  pub steps_where_shown : (k : Latches) (inputs : ℕ) → inputs ≡ first + places_of n → (own read later : List Lit) (g0 g1 g2 g3 : List Node) (now next : Frame) (c0 c1 : ℕ) → now.own.items ≡ own → now.read.items ≡ read → next.own.items ≡ later →
-      ((g : List Node) (a : ℕ → Bool) (u v : Either ℕ ℕ → Bool) → HaveValues (size_of n) g a u read → All (Carries u v) (whole n).equations → AreRead n first k g a v) →
-      IsFrame (record { nets = n; inputs = 0; first = first; latches = latches.Free }) anchors g0 g1 c0 now → IsFrame (record { nets = n; inputs = inputs; first = first; latches = k }) [] g1 g2 c1 next → Grows g2 g3 →
-      (care : Lit) → IsCare own read g3 care → AreShown g3 later care anchors → Steps n anchors
-  steps_where_shown k inputs inputs_are own read later g0 g1 g2 g3 now next c0 c1 own_is read_is later_is carried is is_next grows care caring shown x y both tied =
-      tied_where_shown (size_of n) g3 a y later care anchors (subst (HaveValues (size_of n) g3 a y) later_is (values_grow (size_of n) g2 g3 grows a y next.own.items is_next.own_within (is_next.own_values a y reading_next (none_tied (size_of n) y))))
-      (caring a one) shown
-    where
-      a : ℕ → Bool
-      a = bits n first below x y
+  module _ (nodes : List Anchor) where
+    pub begins_where_shown : (g h : List Node) (count : ℕ) (leaves : List Lit) → AreLeaves (record { nets = n; inputs = 0; first = first; latches = latches.Started }) g h count leaves →
+        (care : Lit) → ((a : ℕ → Bool) → value h a care.0 ≡ true) → AreShown base leaves care nodes h → Begins n first base nodes
+    begins_where_shown g h count leaves are care holds shown x start = (a, cycle_reading x start.cycle, shown a a (holds a) (are.values a a x reading named))
+      where
+        a : ℕ → Bool
+        a = bits n first below x
 
-      reading : IsReadBy (record { nets = n; inputs = 0; first = first; latches = latches.Free }) g0 a x
-      reading = record { meets = both.now.meets; inputs = λ p i number. bits_inputs n first below x y both.now p i number; latches = bits_latches n first below x y }
+        reading : IsReadBy (record { nets = n; inputs = 0; first = first; latches = latches.Started }) g a x
+        reading = record { meets = start.cycle.meets; inputs = λ p i number. ap a (zero_more i) ∙ bits_inputs n first below x start.cycle p i number; latches = (bits_latches n first below x, start.starts) }
 
-      own_values : HaveValues (size_of n) g1 a x own
-      own_values = subst (HaveValues (size_of n) g1 a x) own_is (is.own_values a x reading tied)
+        named : AreNamed (record { nets = n; inputs = 0; first = first; latches = latches.Started }) a a x
+        named = record { inputs = λ i h. ap a (zero_more i); latches = bits_latches n first below x }
 
-      read_values : HaveValues (size_of n) g1 a x read
-      read_values = subst (HaveValues (size_of n) g1 a x) read_is (is.read_values a x reading tied)
+    pub steps_where_shown : (limit : ℕ) → limit ≡ first + places_of n → (lits : List Lit) → AreLits n first base lits → (g0 g1 g2 g3 g4 : List Node) (c1 c2 c3 : ℕ) (leaves next : List Lit) (before : Bor (List Lit)) (now : NodeLits) →
+        AreLeaves (free_cycle n first) g0 g1 c1 leaves → IsCopy base leaves nodes g1 g2 c2 now → (kept : List Lit) → AreCarried now.read.items lits kept →
+        ((w : ℕ → Bool) (g : List Node) (a : ℕ → Bool) → HaveAt w g a kept → HaveAt w g a before.now) →
+        AreLeaves (record { nets = n; inputs = limit; first = first; latches = latches.Carried before }) g2 g3 c3 next → Grows g3 g4 → (care : Lit) → IsCare now.own.items now.read.items g4 care → AreShown base next care nodes g4 → Steps n first base nodes
+    steps_where_shown limit limit_is lits are_lits g0 g1 g2 g3 g4 c1 c2 c3 leaves next before now are_leaves is_copy kept carried are_before are_next grows care caring shown x y successive tied =
+        (bits n first below y, cycle_reading y successive.next, shown a (bits n first below y) (caring a one) next_values)
+      where
+        old : ℕ → Bool
+        old = tied.0
 
-      reading_next : IsReadBy (record { nets = n; inputs = inputs; first = first; latches = k }) g1 a y
-      reading_next = record {
-        meets = both.next.meets;
-        inputs = λ p i number. ap (λ m. a (m + i)) inputs_are ∙ bits_later n first below x y both.next p i number;
-        latches = carried g1 a x y read_values both.carries;
-      }
+        a : ℕ → Bool
+        a = both n first below old y
 
-      one : AreOne own read g3 a
-      one =
-          one_after g1 g3 (Grows-trans g1 g2 g3 is_next.grows grows) own read (subst (All (λ (z : Lit). z.0 < 2 * length g1)) own_is is.own_within) (subst (All (λ (z : Lit). z.0 < 2 * length g1)) read_is is.read_within) a
-          (λ i l r at at'. own_values i l at ∙ sym (read_values i r at'))
+        later : Cycle
+        later = record { nets = n; inputs = limit; first = first; latches = latches.Carried before }
+
+        reading : IsReadBy (free_cycle n first) g0 a x
+        reading = record {
+          meets = successive.now.meets;
+          inputs = λ p i number.
+              let low = number_below n first below p i number in
+              ap a (zero_more i) ∙ (both_before n first below old y i (omega (arith, low)) ∙ (sym (ap old (zero_more i)) ∙ tied.1.inputs p i number));
+          latches = λ p h. both_before n first below old y (first + p) (omega (arith, h)) ∙ tied.1.latches p h;
+        }
+
+        named : AreNamed (free_cycle n first) a old x
+        named = record { inputs = λ i h. ap a (zero_more i) ∙ both_before n first below old y i h; latches = tied.1.latches }
+
+        leaf_values : HaveAt old g1 a leaves
+        leaf_values = are_leaves.values a old x reading named
+
+        read_values : HaveAt (node_at base old) g2 a now.read.items
+        read_values = is_copy.read_values a old leaf_values tied.2
+
+        own_values : HaveAt (node_at base old) g2 a now.own.items
+        own_values = is_copy.own_values a old leaf_values tied.2
+
+        before_values : HaveAt (λ p. x (side_at (size_of n) p)) g2 a before.now
+        before_values = are_before (λ p. x (side_at (size_of n) p)) g2 a (carried.values base g2 a old (λ p. x (side_at (size_of n) p)) read_values (are_lits.2 old x tied.1))
+
+        reading_next : IsReadBy later g2 a y
+        reading_next = record {
+          meets = successive.next.meets;
+          inputs = λ p i number. ap (λ m. a (m + i)) limit_is ∙ (both_behind n first below old y i ∙ bits_inputs n first below y successive.next p i number);
+          latches = (x, before_values, successive.carries);
+        }
+
+        named_next : AreNamed later a (bits n first below y) y
+        named_next = record { inputs = λ i h. ap (λ m. a (m + i)) limit_is ∙ both_behind n first below old y i; latches = bits_latches n first below y }
+
+        next_values : HaveAt (bits n first below y) g4 a next
+        next_values = values_grow (bits n first below y) g3 g4 grows a next are_next.within (are_next.values a (bits n first below y) y reading_next named_next)
+
+        one : AreOne now.own.items now.read.items g4 a
+        one =
+            one_after g2 g4 (Grows-trans g2 g3 g4 are_next.grows grows) now.own.items now.read.items is_copy.own_within is_copy.read_within a
+            (λ i l r at at'. own_values i l at ∙ sym (read_values i r at'))

@@ -1,10 +1,13 @@
 -- What is asked of ties.
-use Rattle.std.specs.Prelude.{◌≡◌, ℕ, Bool, true, false, not, if◌then◌else◌, List, slice_get, Some}
+use Rattle.std.specs.Prelude.{◌≡◌, ℕ, ◌*◌, ◌<◌, Bool, true, false, not, if◌then◌else◌, IsTrue, List, [], ◌∷◌, ◌++◌, length, slice_get, Some}
 use Rattle.aig.specs.declared.node.Lit.{Lit}
 use Rattle.aig.specs.declared.node.Node.{Node}
+use Rattle.aig.specs.Graph.{Grows}
 use Rattle.aig.specs.Values.{value}
 use Rattle.signal_laws.specs.declared.anchor.Anchor.{Anchor}
 use Rattle.signal_laws.specs.declared.anchor.Anchor.TheVariants as anchor
+use Rattle.signal_laws.specs.Ties.{anchor_value}
+use Rattle.signal_refine.specs.Copies.{HaveAt, node_at, AreTiedAt}
 
 -- the anchor has this value, by the literals of signals
 abbrev pub AnchorHas : List Node → (ℕ → Bool) → List Lit → Anchor → Bool → Type 0
@@ -24,10 +27,25 @@ AreOne own read g a = (i : ℕ) (l r : Lit) → slice_get own i ≡ Some l → s
 abbrev pub IsCare : List Lit → List Lit → List Node → Lit → Type 0
 IsCare own read g x = (a : ℕ → Bool) → AreOne own read g a → value g a x.0 ≡ true
 
--- wherever the care holds, the signal at the place has the value of its anchor
-abbrev pub IsShownAt : List Node → List Lit → Lit → ℕ → Anchor → Type 0
-IsShownAt g lits care p k = (a : ℕ → Bool) → value g a care.0 ≡ true → (l : Lit) × (slice_get lits p ≡ Some l) × AnchorHas g a lits k (value g a l.0)
+-- Wherever the care holds and the variables have their leaves' values, each node has the value of its anchor.
+abbrev pub AreShown : List Node → List Lit → Lit → List Anchor → List Node → Type 0
+AreShown base leaves care anchors g = (a c : ℕ → Bool) → value g a care.0 ≡ true → HaveAt c g a leaves → AreTiedAt anchors (node_at base c)
 
--- each signal has
-abbrev pub AreShown : List Node → List Lit → Lit → List Anchor → Type 0
-AreShown g lits care anchors = (p : ℕ) (k : Anchor) → slice_get anchors p ≡ Some k → IsShownAt g lits care p k
+-- the place has the value of its anchor, if it has one
+abbrev pub IsTiedAt : List Anchor → (ℕ → Bool) → ℕ → Type 0
+IsTiedAt anchors w p = (k : Anchor) → slice_get anchors p ≡ Some k → w p ≡ anchor_value w k
+
+-- Wherever the care holds, the node behind those that are read so has the value of its anchor, if it has one, and so has this literal.
+abbrev pub IsShown : List Node → List Lit → Lit → List Anchor → List Node → Lit → List Node → Lit → Type 0
+IsShown base read care anchors g own h l = (a c : ℕ → Bool) → value g a care.0 ≡ true → HaveAt (node_at base c) g a read → value g a own.0 ≡ node_at base c (length read) →
+    (value h a l.0 ≡ node_at base c (length read)) × IsTiedAt anchors (node_at base c) (length read)
+
+-- What a node is read as stands behind the others, and has its value wherever the care holds; where its tie is said to be shown, it has the
+-- value of its anchor there.
+pub record IsSwept (base : List Node) (leaves : List Lit) (care : Lit) (anchors : List Anchor) (g : List Node) (old : List Lit) (n : ℕ) (same : Bool) (h : List Node) (new : List Lit) : Type 0 where
+  pub grows : Grows g h
+  pub lit : Lit
+  pub is : new ≡ old ++ lit ∷ []
+  pub within : lit.0 < 2 * length h
+  pub value_is : (a c : ℕ → Bool) → value g a care.0 ≡ true → HaveAt c g a leaves → HaveAt (node_at base c) g a old → value h a lit.0 ≡ node_at base c n
+  pub shown : IsTrue same → (a c : ℕ → Bool) → value g a care.0 ≡ true → HaveAt c g a leaves → HaveAt (node_at base c) g a old → IsTiedAt anchors (node_at base c) n

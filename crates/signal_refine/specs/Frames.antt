@@ -6,15 +6,14 @@ use Rattle.circuit_theory.specs.Tree.{IsInputNumber}
 use Rattle.circuit_theory.specs.Joined.{Either}
 use Rattle.aig.specs.declared.node.Lit.{Lit}
 use Rattle.aig.specs.declared.node.Node.{Node}
-use Rattle.aig.specs.Graph.{IsGraph, Grows}
+use Rattle.aig.specs.Graph.{Grows}
 use Rattle.aig.specs.Values.{value}
-use Rattle.signal_laws.specs.declared.anchor.Anchor.{Anchor}
-use Rattle.signal_laws.specs.Ties.{side_at, AreTied}
+use Rattle.signal_laws.specs.Ties.{side_at}
 use Rattle.signal_refine.specs.declared.nets.SignalNets.{SignalNets}
 use Rattle.signal_refine.specs.declared.leaves.Latches.{Latches}
 use Rattle.signal_refine.specs.declared.leaves.Latches.TheVariants as latches
 use Rattle.signal_refine.specs.declared.leaves.Cycle.{Cycle}
-use Rattle.signal_refine.specs.declared.frame.Frame.{Frame}
+use Rattle.signal_refine.specs.Copies.{HaveAt}
 use Rattle.signal_refine.specs.Places.{size_of, places_of, whole, order_of}
 
 -- each literal has the value of the signal at its place, where A has so many
@@ -52,29 +51,21 @@ pub record AreFit (w : Cycle) (g : List Node) : Type 0 where
   pub latches_small : w.first + places_of w.nets < 2 ^ 32
   pub carried : AreCarriedWithin (places_of w.nets) g w.latches
 
--- In each cycle whose inputs and latches are read so, and whose ties hold, the literals of the first places have their signals' values.
-pub record IsFrame (w : Cycle) (anchors : List Anchor) (from g : List Node) (count : ℕ) (f : Frame) : Type 0 where
+-- In each cycle whose inputs and latches are read so, the literals of the first places have their signals' values.
+pub record AreSignalLits (w : Cycle) (from g : List Node) (count : ℕ) (lits : List Lit) : Type 0 where
   pub grows : Grows from g
-  pub own_each : length f.own.items ≡ count
-  pub read_each : length f.read.items ≡ count
-  pub own_within : All (λ x. x.0 < 2 * length g) f.own.items
-  pub read_within : All (λ x. x.0 < 2 * length g) f.read.items
-  pub own_values : (a : ℕ → Bool) (v : Either ℕ ℕ → Bool) → IsReadBy w from a v → AreTied (size_of w.nets) anchors v → HaveValues (size_of w.nets) g a v f.own.items
-  pub read_values : (a : ℕ → Bool) (v : Either ℕ ℕ → Bool) → IsReadBy w from a v → AreTied (size_of w.nets) anchors v → HaveValues (size_of w.nets) g a v f.read.items
+  pub each : length lits ≡ count
+  pub within : All (λ x. x.0 < 2 * length g) lits
+  pub values : (a : ℕ → Bool) (v : Either ℕ ℕ → Bool) → IsReadBy w from a v → HaveValues (size_of w.nets) g a v lits
 
--- what the signal at a place is read as: its own literal or its anchor's, where those before it are read as these
-pub record IsReadAs (anchors : List Anchor) (read : List Lit) (place : ℕ) (own made : Lit) : Type 0 where
-  pub holds : (g : List Node) (a : ℕ → Bool) (size : ℕ) (v : Either ℕ ℕ → Bool) → IsGraph g → HaveValues size g a v read → AreTied size anchors v → value g a own.0 ≡ v (side_at size place) → value g a made.0 ≡ v (side_at size place)
-  pub within : (n : ℕ) → All (λ x. x.0 < 2 * n) read → own.0 < 2 * n → 0 < n → made.0 < 2 * n
+-- a variable has the bit of the one that the cycle has for it, and those behind the inputs have their signals' values
+pub record AreNamed (w : Cycle) (a c : ℕ → Bool) (v : Either ℕ ℕ → Bool) : Type 0 where
+  pub inputs : (i : ℕ) → i < w.first + places_of w.nets → a (w.inputs + i) ≡ c i
+  pub latches : (p : ℕ) → p < places_of w.nets → c (w.first + p) ≡ v (side_at (size_of w.nets) p)
 
--- a signal more, in each cycle whose ties hold and in which those before are read as they are
-pub record IsPut (w : Cycle) (anchors : List Anchor) (g : List Node) (old : Frame) (h : List Node) (new : Frame) : Type 0 where
-  pub grows : Grows g h
-  pub own : Lit
-  pub read : Lit
-  pub own_is : new.own.items ≡ old.own.items ++ own ∷ []
-  pub read_is : new.read.items ≡ old.read.items ++ read ∷ []
-  pub own_within : own.0 < 2 * length h
-  pub read_within : read.0 < 2 * length h
-  pub own_value : (a : ℕ → Bool) (v : Either ℕ ℕ → Bool) → IsReadBy w g a v → HaveValues (size_of w.nets) g a v old.read.items → value h a own.0 ≡ v (side_at (size_of w.nets) (length old.read.items))
-  pub read_value : (a : ℕ → Bool) (v : Either ℕ ℕ → Bool) → IsReadBy w g a v → AreTied (size_of w.nets) anchors v → HaveValues (size_of w.nets) g a v old.read.items → value h a read.0 ≡ v (side_at (size_of w.nets) (length old.read.items))
+-- In each cycle that is read so, the literals of the first variables have the bits of these.
+pub record AreLeaves (w : Cycle) (from g : List Node) (count : ℕ) (leaves : List Lit) : Type 0 where
+  pub grows : Grows from g
+  pub each : length leaves ≡ count
+  pub within : All (λ x. x.0 < 2 * length g) leaves
+  pub values : (a c : ℕ → Bool) (v : Either ℕ ℕ → Bool) → IsReadBy w from a v → AreNamed w a c v → HaveAt c g a leaves

@@ -1,4 +1,6 @@
 pub mod Asking
+pub mod Copies
 pub mod Frames
 pub mod Places
 pub mod Showing
+pub mod Told

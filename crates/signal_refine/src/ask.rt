@@ -1,15 +1,17 @@
 //! Whether the ties hold, by queries over a graph.
 
-ghost use Rattle.std.specs.Prelude.{◌≡◌, ℕ, Bool, true, ◌*◌, ◌<◌, List, length, All, IfOk, OnOk, IsTrue};
+ghost use Rattle.std.specs.Prelude.{◌≡◌, ℕ, Bool, true, false, ◌*◌, ◌<◌, List, length, All, IfOk, IfSome, OnOk, IsTrue};
 ghost use Rattle.aig.specs.declared.node.Node.{Node};
 ghost use Rattle.aig.specs.Graph.{Grows};
 ghost use Rattle.aig.specs.Values.{value};
 ghost use Rattle.aig.specs.lane_eval.root_classes.Agreeing.{Agree};
 ghost use Rattle.swept_queries.specs.declared.node_agreement.proof.Proved.TheVariants as proved;
-ghost use Rattle.signal_refine.specs.Asking.{same_bit, IsCare, IsShownAt, AreShown};
+ghost use Rattle.signal_laws.specs.declared.anchor.Anchor.TheVariants.{Place};
+ghost use Rattle.signal_refine.specs.Asking.{same_bit, IsCare, IsShown, IsSwept, AreShown};
 
 use crate::anchors::anchor_literal;
 use crate::classes::Classes;
+use crate::copies::node_literal;
 use crate::leaves::is_full;
 use aig::{Aig, Lit};
 use sec_base::NoMemory;
@@ -17,10 +19,12 @@ use signal_laws::Anchor;
 use std::alloc::Global;
 use swept_queries::node_agreement::{Budget, Effort, Proved, prove, zero};
 
-/// What is asked: of signals with these literals, wherever the care holds, with at most so many conflicts for each query.
+/// What is asked: of the nodes of `base`, whose variables have these literals, wherever the care holds, with at most so many conflicts
+/// for each query.
 #[derive(Clone, Copy)]
 pub(crate) struct Asked<'a> {
-    pub lits: &'a [Lit],
+    pub base: &'a Aig,
+    pub leaves: &'a [Lit],
     pub care: Lit,
     pub conflicts: u32,
 }
@@ -122,8 +126,8 @@ fn ask(alloc: Global, aig: &mut Aig, asked: &Asked<'_>, l: Lit, r: Lit) -> Resul
 }
 
 impl Classes {
-    /// Whether all ties are shown. Where one isn't, the classes are split by what tells it apart, or its signal is put into a class of
-    /// its own.
+    /// Whether all ties are shown. Each node is made of what those before it are read as: of its anchor's literal, where the tie is shown.
+    /// Where one isn't, the classes are split by what tells it apart, or its node is put into a class of its own.
     pub(crate) fn settle(
         &mut self,
         alloc: Global,
@@ -132,46 +136,95 @@ impl Classes {
         anchors: &[Anchor],
     ) -> Result<bool, NoMemory>
         requires care { asked.now.care.0 < 2 * length aig.old }
-        requires lits { All (λ x. x.0 < 2 * length aig.old) asked.now.lits.now }
-        ensures { IfOk result (λ same. IsTrue same → AreShown aig.old asked.now.lits.now asked.now.care anchors.now) }
+        requires leaves { All (λ x. x.0 < 2 * length aig.old) asked.now.leaves.now }
+        ensures { IfOk result (λ same. IsTrue same → AreShown asked.now.base.now asked.now.leaves.now asked.now.care anchors.now aig.old) }
     {
-        let mut same = true;
-        for place in 0..anchors.len() {
-            let shown = self.try_tie(alloc, aig, asked, anchors[place], place)?;
+        let mut read = Vec::new(alloc);
+        let mut same = anchors.len() <= asked.base.size() as usize;
+        for n in 0..asked.base.size() {
+            let shown = self.sweep_node(alloc, aig, asked, anchors, &mut read, n)?;
             same = both(same, shown);
         }
         Ok(same)
     }
 
-    /// Whether the tie of the signal at the place is shown.
+    /// Puts what the node of this number is read as behind the others: its anchor's literal, where its tie is shown, and else its own.
+    fn sweep_node(
+        &mut self,
+        alloc: Global,
+        aig: &mut Aig,
+        asked: &Asked<'_>,
+        anchors: &[Anchor],
+        read: &mut Vec<Lit>,
+        n: u32,
+    ) -> Result<bool, NoMemory>
+        requires care { asked.now.care.0 < 2 * length aig.old }
+        requires leaves { All (λ x. x.0 < 2 * length aig.old) asked.now.leaves.now }
+        requires node { n < length asked.now.base.now }
+        requires each { length read.old.items ≡ n }
+        requires within { All (λ x. x.0 < 2 * length aig.old) read.old.items }
+        ensures { IfOk result (λ same. IsSwept asked.now.base.now asked.now.leaves.now asked.now.care anchors.now aig.old read.old.items n same aig.new read.new.items) }
+    {
+        let own = node_literal(aig, asked.base, asked.leaves, read, n)?;
+        let shown = self.try_tie(alloc, aig, asked, anchors, read, own)?;
+        match shown {
+            Some(lit) => {
+                read.push(lit)?;
+                Ok(true)
+            }
+            None => {
+                read.push(own)?;
+                Ok(false)
+            }
+        }
+    }
+
+    /// The literal that the node of this number is read as by its tie, where this is its own one and the tie is shown.
     fn try_tie(
         &mut self,
         alloc: Global,
         aig: &mut Aig,
         asked: &Asked<'_>,
-        anchor: Anchor,
-        place: usize,
-    ) -> Result<bool, NoMemory>
+        anchors: &[Anchor],
+        read: &[Lit],
+        own: Lit,
+    ) -> Result<Option<Lit>, NoMemory>
         requires care { asked.now.care.0 < 2 * length aig.old }
-        requires lits { All (λ x. x.0 < 2 * length aig.old) asked.now.lits.now }
-        ensures shown { IfOk result (λ same. IsTrue same → IsShownAt aig.old asked.now.lits.now asked.now.care place anchor) }
+        requires own { own.0 < 2 * length aig.old }
+        requires within { All (λ x. x.0 < 2 * length aig.old) read.now }
+        ensures shown { IfOk result (λ o. IfSome o (IsShown asked.now.base.now read.now asked.now.care anchors.now aig.old own aig.new)) }
+        ensures within { IfOk result (λ o. IfSome o (λ l. l.0 < 2 * length aig.new)) }
         ensures grows { OnOk result (Grows aig.old aig.new) }
     {
         aig.keeps();
-        if place >= asked.lits.len() || self.is_apart(place, anchor) {
-            return Ok(false);
+        let n = read.len();
+        if n >= anchors.len() || is_own(anchors[n], n) {
+            return Ok(Some(own));
         }
-        let Some(other) = anchor_literal(asked.lits, anchor) else {
-            return Ok(false);
+        if self.is_apart(n, anchors[n]) {
+            return Ok(None);
+        }
+        let Some(other) = anchor_literal(read, anchors[n]) else {
+            return Ok(None);
         };
-        let answer = ask(alloc, aig, asked, asked.lits[place], other)?;
+        let answer = ask(alloc, aig, asked, own, other)?;
         match answer {
-            Proved::Same => Ok(true),
+            Proved::Same => Ok(Some(other)),
             told => {
-                self.learn(alloc, aig, asked.lits, place, told)?;
-                Ok(false)
+                self.learn(alloc, aig, asked, n, told)?;
+                Ok(None)
             }
         }
+    }
+}
+
+/// Whether the anchor is the place itself.
+fn is_own(anchor: Anchor, n: usize) -> bool
+    ensures { IsTrue result → anchor ≡ Place n false }
+{
+    match anchor {
+        Anchor::Bit(_) => false,
+        Anchor::Place { place, flipped } => place == n && !flipped,
     }
 }
 

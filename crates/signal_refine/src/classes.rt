@@ -1,5 +1,6 @@
-//! Classes of signals that may be equal or complements: guesses, of which nothing is promised.
+//! Classes of nodes that may be equal or complements: guesses, of which nothing is promised.
 
+use crate::ask::Asked;
 use aig::{Aig, Lit, node_bits};
 use base_tables::PlaceTable;
 use sec_base::{Ids, NoMemory};
@@ -8,7 +9,7 @@ use std::alloc::Global;
 use sweep_candidates::Model;
 use swept_queries::node_agreement::Proved;
 
-/// The class of the constant 0, and behind it that of each signal by its place. A signal whose phase is set has its complement there.
+/// The class of the constant 0, and behind it that of each node by its number. A node whose phase is set has its complement there.
 #[derive(Drop)]
 pub(crate) struct Classes {
     pub blocks: Ids,
@@ -18,7 +19,7 @@ pub(crate) struct Classes {
 }
 
 impl Classes {
-    /// One class of all signals, with these phases.
+    /// One class of all nodes, with these phases.
     pub(crate) fn new(alloc: Global, bits: &[bool]) -> Result<Classes, NoMemory> {
         let mut blocks = Ids::new(alloc);
         let mut phases = Vec::new(alloc);
@@ -35,7 +36,7 @@ impl Classes {
         })
     }
 
-    /// Splits the classes by a key for the constant and for each signal.
+    /// Splits the classes by a key for the constant and for each node.
     pub(crate) fn split_by(&mut self, alloc: Global, keys: &[u32]) -> Result<(), NoMemory> {
         let mut table = PlaceTable::new(alloc);
         let mut fine = Ids::new(alloc);
@@ -48,7 +49,7 @@ impl Classes {
         Ok(())
     }
 
-    /// Whether the signal's class isn't its anchor's any more.
+    /// Whether the node's class isn't its anchor's any more.
     pub(crate) fn is_apart(&self, place: usize, anchor: Anchor) -> bool {
         let other = match anchor {
             Anchor::Bit(_) => 0,
@@ -70,35 +71,31 @@ impl Classes {
         &mut self,
         alloc: Global,
         aig: &Aig,
-        lits: &[Lit],
+        asked: &Asked<'_>,
         place: usize,
         answer: Proved,
     ) -> Result<(), NoMemory> {
         if let Proved::Apart(model) = answer {
-            let values = node_values(alloc, aig, &model)?;
-            return self.split_by_values(alloc, lits, &values);
+            let values = node_values(alloc, aig, &assignment_of(alloc, aig, &model)?)?;
+            let bits = lit_values(alloc, &values, asked.leaves)?;
+            return self.split_by_values(alloc, &node_values(alloc, asked.base, &bits)?);
         }
         self.drops = self.drops.saturating_add(1);
         self.put_apart(alloc, place)
     }
 
-    /// Splits the classes by the signals' values, where the nodes have these.
-    fn split_by_values(
-        &mut self,
-        alloc: Global,
-        lits: &[Lit],
-        values: &[bool],
-    ) -> Result<(), NoMemory> {
+    /// Splits the classes by the nodes' values.
+    fn split_by_values(&mut self, alloc: Global, values: &[bool]) -> Result<(), NoMemory> {
         let mut keys = Vec::new(alloc);
         keys.push(0)?;
-        for i in 0..lits.len() {
-            let bit = lit_value(values, lits[i]) != self.phase(i.saturating_add(1));
+        for i in 0..values.len() {
+            let bit = values[i] != self.phase(i.saturating_add(1));
             keys.push(if bit { 1 } else { 0 })?;
         }
         self.split_by(alloc, &keys)
     }
 
-    /// Puts the signal into a class of its own.
+    /// Puts the node into a class of its own.
     fn put_apart(&mut self, alloc: Global, place: usize) -> Result<(), NoMemory> {
         let mut keys = Vec::new(alloc);
         for i in 0..self.blocks.len() {
@@ -107,7 +104,7 @@ impl Classes {
         self.split_by(alloc, &keys)
     }
 
-    /// What each signal is tied to: the first of its class.
+    /// What each node is tied to: the first of its class.
     pub(crate) fn anchors(&self, alloc: Global) -> Result<Vec<Anchor>, NoMemory> {
         let mut firsts = Vec::new(alloc);
         let mut anchors = Vec::new(alloc);
@@ -150,8 +147,8 @@ fn first_of(firsts: &mut Vec<usize>, block: u32, entry: usize) -> Result<usize, 
     Ok(firsts[block as usize])
 }
 
-/// The value of each node where these variables have these bits, and others 0.
-fn node_values(alloc: Global, aig: &Aig, model: &Model) -> Result<Vec<bool>, NoMemory> {
+/// The graph's variables' bits, where these have these and others 0.
+fn assignment_of(alloc: Global, aig: &Aig, model: &Model) -> Result<Vec<bool>, NoMemory> {
     let mut assignment = vec![in alloc; false; aig.vars() as usize]?;
     for i in 0..model.vars.len().min(model.bits.len()) {
         let v = model.vars[i] as usize;
@@ -159,14 +156,30 @@ fn node_values(alloc: Global, aig: &Aig, model: &Model) -> Result<Vec<bool>, NoM
             assignment[v] = model.bits[i];
         }
     }
+    Ok(assignment)
+}
+
+/// The value of each node where the variables have these bits; none where there are too few of them.
+fn node_values(alloc: Global, aig: &Aig, assignment: &[bool]) -> Result<Vec<bool>, NoMemory> {
     let nodes = aig.nodes();
     let mut values = vec![in alloc; false; nodes.len()]?;
-    node_bits(nodes, assignment.as_slice(), values.as_mut_slice());
+    if assignment.len() >= aig.vars() as usize {
+        node_bits(nodes, assignment, values.as_mut_slice());
+    }
     Ok(values)
 }
 
+/// The literals' values, where the nodes have these.
+fn lit_values(alloc: Global, values: &[bool], lits: &[Lit]) -> Result<Vec<bool>, NoMemory> {
+    let mut bits = Vec::new(alloc);
+    for i in 0..lits.len() {
+        bits.push(lit_value(values, lits[i]))?;
+    }
+    Ok(bits)
+}
+
 /// The literal's value, where the nodes have these.
-pub(crate) fn lit_value(values: &[bool], l: Lit) -> bool {
+fn lit_value(values: &[bool], l: Lit) -> bool {
     let bit = values.get(l.node() as usize).copied().unwrap_or(false);
     bit != l.is_complement()
 }

@@ -1,15 +1,18 @@
-//! Ties of the signals of two nets that are an inductive invariant: each signal is tied to a bit, or to an earlier signal or its
-//! complement. Candidates are guessed by runs, and ties are dropped until what is left is shown, at first and in each step.
+//! Ties of the signals of two nets that an inductive invariant gives: each signal is tied to a bit, or to an earlier signal or its
+//! complement. The invariant is of the nodes of a graph that both nets' signals are literals of. Candidates are guessed by runs, and ties
+//! of nodes are dropped until what is left is shown, at first and in each step.
 #![tactic(auto)]
 
 mod anchors;
 mod ask;
 mod classes;
-mod frame;
+mod copies;
 mod leaves;
 mod nets;
 mod refinement;
 mod runs;
+mod signals;
+mod told;
 
 pub use nets::SignalNets;
 pub use refinement::{Correspondence, correspond};

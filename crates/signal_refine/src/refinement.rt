@@ -1,15 +1,17 @@
 //! Ties that are left where those that aren't shown are dropped, round after round.
 
-ghost use Rattle.std.specs.Prelude.{◌≡◌, ◌+◌, ◌^◌, ◌<◌, ◌≤◌, length, All, IfOk, IsTrue};
+ghost use Rattle.std.specs.Prelude.{◌≡◌, ◌+◌, ◌*◌, ◌^◌, ◌<◌, ◌≤◌, length, All, IfOk, IsTrue};
 ghost use Rattle.signal_refine.specs.Places.{places_of};
-ghost use Rattle.signal_refine.specs.Showing.{AreReady, AreBelow, Begins, Steps, AreInductiveTies};
+ghost use Rattle.signal_refine.specs.Showing.{AreLits, AreReady, AreBelow, Begins, Steps, AreInductiveNodes, AreInductiveTies};
 
 use crate::ask::{Asked, care_of};
 use crate::classes::Classes;
-use crate::frame::frame_of;
-use crate::leaves::{Cycle, Latches};
+use crate::copies::{carried, copy_of};
+use crate::leaves::{Cycle, Latches, leaves_of};
 use crate::nets::SignalNets;
 use crate::runs::candidates;
+use crate::signals::signal_literals;
+use crate::told::told_anchors;
 use aig::{Aig, Lit};
 use sec_base::{NoMemory, Orders};
 use signal_laws::Anchor;
@@ -20,14 +22,17 @@ use std::alloc::Global;
 pub struct Correspondence {
     /// What each signal is tied to, by its place; of itself, where it is tied to nothing. Empty where nothing is tied.
     pub anchors: Vec<Anchor>,
-    /// How many ties were dropped since a query met the limit.
+    /// How many ties of nodes were dropped since a query met the limit.
     pub drops: u32,
 }
 
-/// Two nets' ties while they are shown, where latches have the variables from `first` on.
+/// Two nets' signals as literals of a graph, of whose nodes ties are shown. Its variables are the inputs' numbers, and from `first` on the
+/// latches'.
 #[derive(Clone, Copy)]
 struct Round<'a> {
     nets: SignalNets<'a>,
+    base: &'a Aig,
+    lits: &'a [Lit],
     first: u32,
     conflicts: u32,
 }
@@ -44,17 +49,37 @@ pub fn correspond(
     nets.left.keeps();
     nets.right.keeps();
     let first = first_latch(nets.orders);
-    let mut classes = candidates(alloc, nets, first)?;
+    let mut base = Aig::new(alloc)?;
+    let cycle = Cycle {
+        nets: *nets,
+        inputs: 0,
+        first,
+        latches: Latches::Free,
+    };
+    let lits = signal_literals(alloc, &mut base, &cycle)?;
     let round = Round {
         nets: *nets,
+        base: &base,
+        lits: &lits,
         first,
         conflicts,
     };
-    for _n in 0..nets.places() {
-        let anchors = classes.anchors(alloc)?;
-        if are_shown(alloc, &round, &anchors, &mut classes)? {
+    rounds(alloc, &round)
+}
+
+/// The ties that are left behind the last round.
+fn rounds(alloc: Global, round: &Round<'_>) -> Result<Correspondence, NoMemory>
+    requires ready { AreReady round.now.nets }
+    requires first { AreBelow round.now.nets round.now.first }
+    requires lits { AreLits round.now.nets round.now.first round.now.base.now round.now.lits.now }
+    ensures { IfOk result (λ made. AreInductiveTies round.now.nets made.anchors.items) }
+{
+    let mut classes = candidates(alloc, &round.nets, round.base, round.lits, round.first)?;
+    for _n in 0..round.base.size() {
+        let nodes = classes.anchors(alloc)?;
+        if are_shown(alloc, round, &nodes, &mut classes)? {
             return Ok(Correspondence {
-                anchors,
+                anchors: told_anchors(alloc, round.lits, &nodes)?,
                 drops: classes.drops,
             });
         }
@@ -65,20 +90,21 @@ pub fn correspond(
     })
 }
 
-/// Whether the ties are an inductive invariant, by queries that all say so.
+/// Whether the ties of nodes are an inductive invariant, by queries that all say so.
 fn are_shown(
     alloc: Global,
     round: &Round<'_>,
-    anchors: &[Anchor],
+    nodes: &[Anchor],
     classes: &mut Classes,
 ) -> Result<bool, NoMemory>
     requires ready { AreReady round.now.nets }
     requires first { AreBelow round.now.nets round.now.first }
-    ensures { IfOk result (λ shown. IsTrue shown → AreInductiveTies round.now.nets anchors.now) }
+    requires lits { AreLits round.now.nets round.now.first round.now.base.now round.now.lits.now }
+    ensures { IfOk result (λ shown. IsTrue shown → AreInductiveNodes round.now.nets round.now.first round.now.base.now nodes.now) }
 {
-    let kept = do_step(alloc, round, anchors, classes)?;
+    let kept = do_step(alloc, round, nodes, classes)?;
     if kept {
-        return do_begin(alloc, round, anchors, classes);
+        return do_begin(alloc, round, nodes, classes);
     }
     Ok(false)
 }
@@ -87,12 +113,13 @@ fn are_shown(
 fn do_step(
     alloc: Global,
     round: &Round<'_>,
-    anchors: &[Anchor],
+    nodes: &[Anchor],
     classes: &mut Classes,
 ) -> Result<bool, NoMemory>
     requires ready { AreReady round.now.nets }
     requires first { AreBelow round.now.nets round.now.first }
-    ensures { IfOk result (λ kept. IsTrue kept → Steps round.now.nets anchors.now) }
+    requires lits { AreLits round.now.nets round.now.first round.now.base.now round.now.lits.now }
+    ensures { IfOk result (λ kept. IsTrue kept → Steps round.now.nets round.now.first round.now.base.now nodes.now) }
 {
     let mut aig = Aig::new(alloc)?;
     aig.keeps();
@@ -102,33 +129,36 @@ fn do_step(
         first: round.first,
         latches: Latches::Free,
     };
-    let now = frame_of(alloc, &mut aig, &cycle, anchors)?;
+    let leaves = leaves_of(alloc, &mut aig, &cycle, round.count())?;
+    let now = copy_of(alloc, &mut aig, round.base, &leaves, nodes)?;
+    let before = carried(alloc, &now.read, round.lits)?;
     let later = Cycle {
         nets: round.nets,
         inputs: round.first + round.nets.places() as u32,
         first: round.first,
-        latches: Latches::Carried(&now.read),
+        latches: Latches::Carried(&before),
     };
-    let next = frame_of(alloc, &mut aig, &later, &[])?;
+    let next = leaves_of(alloc, &mut aig, &later, round.count())?;
     let care = care_of(&mut aig, &now.own, &now.read)?;
     let asked = Asked {
-        lits: &next.own,
+        base: round.base,
+        leaves: &next,
         care,
         conflicts: round.conflicts,
     };
-    classes.settle(alloc, &mut aig, &asked, anchors)
+    classes.settle(alloc, &mut aig, &asked, nodes)
 }
 
 /// Whether the ties hold in each cycle in which latches have their initial values.
 fn do_begin(
     alloc: Global,
     round: &Round<'_>,
-    anchors: &[Anchor],
+    nodes: &[Anchor],
     classes: &mut Classes,
 ) -> Result<bool, NoMemory>
     requires ready { AreReady round.now.nets }
     requires first { AreBelow round.now.nets round.now.first }
-    ensures { IfOk result (λ begun. IsTrue begun → Begins round.now.nets anchors.now) }
+    ensures { IfOk result (λ begun. IsTrue begun → Begins round.now.nets round.now.first round.now.base.now nodes.now) }
 {
     let mut aig = Aig::new(alloc)?;
     aig.keeps();
@@ -138,14 +168,25 @@ fn do_begin(
         first: round.first,
         latches: Latches::Started,
     };
-    let now = frame_of(alloc, &mut aig, &cycle, &[])?;
+    let leaves = leaves_of(alloc, &mut aig, &cycle, round.count())?;
     aig.keeps();
     let asked = Asked {
-        lits: &now.own,
+        base: round.base,
+        leaves: &leaves,
         care: Lit::TRUE,
         conflicts: round.conflicts,
     };
-    classes.settle(alloc, &mut aig, &asked, anchors)
+    classes.settle(alloc, &mut aig, &asked, nodes)
+}
+
+impl Round<'_> {
+    /// How many variables the graph has, of those that inputs and latches have.
+    fn count(&self) -> u32
+        requires { (self.now.first ≤ 2 ^ 30) × (places_of self.now.nets < 2 ^ 30) }
+        ensures { result ≤ self.now.first + places_of self.now.nets }
+    {
+        self.base.vars().min(self.first + self.nets.places() as u32)
+    }
 }
 
 /// The first variable above all inputs' numbers.

@@ -1,13 +1,10 @@
-//! Candidates: classes of signals that have equal or complementary values in seeded runs from the initial values. They are guesses, of
+//! Candidates: classes of nodes that have equal or complementary values in seeded runs from the initial values. They are guesses, of
 //! which nothing is promised.
 
-ghost use Rattle.std.specs.Prelude.{◌≡◌, ◌*◌, ◌<◌, length, All, IfOk};
-ghost use Rattle.signal_refine.specs.Showing.{AreReady, AreBelow};
+ghost use Rattle.std.specs.Prelude.{◌≡◌, ◌*◌, ◌<◌, ◌≤◌, length, All, IfOk};
 ghost use Rattle.signal_refine.specs.Places.{places_of};
 
 use crate::classes::Classes;
-use crate::frame::frame_of;
-use crate::leaves::{Cycle, Latches};
 use crate::nets::SignalNets;
 use aig::lane_eval::{SignatureTable, signatures};
 use aig::{Aig, Lit};
@@ -23,36 +20,28 @@ const CYCLES: usize = 32;
 /// By what a word is spread in a hash.
 const SPREAD: u64 = 0x9E37_79B9_7F4A_7C15;
 
-/// Classes of signals that have equal or complementary values in all of the runs.
+/// Classes of nodes that have equal or complementary values in all of the runs, where signals have these literals and latches the
+/// variables from `first` on.
 pub(crate) fn candidates(
     alloc: Global,
     nets: &SignalNets<'_>,
+    aig: &Aig,
+    lits: &[Lit],
     first: u32,
 ) -> Result<Classes, NoMemory>
-    requires ready { AreReady nets.now }
-    requires first { AreBelow nets.now first }
+    requires { All (λ x. x.0 < 2 * length aig.now) lits.now }
 {
-    nets.left.keeps();
-    nets.right.keeps();
-    let mut aig = Aig::new(alloc)?;
-    let cycle = Cycle {
-        nets: *nets,
-        inputs: 0,
-        first,
-        latches: Latches::Free,
-    };
-    let made = frame_of(alloc, &mut aig, &cycle, &[])?;
     let mut generator = Xoshiro256PlusPlus::seed_from_u64(1);
     let mut held = started(alloc, nets, &mut generator)?;
     let mut classes = Classes::new(alloc, &[])?;
     for n in 0..CYCLES {
         let words = words_of(alloc, aig.vars(), first, &held, &mut generator)?;
-        let table = signatures(alloc, &aig, &words)?;
+        let table = signatures(alloc, aig, &words)?;
         if n == 0 {
-            classes = phased(alloc, &table, &made.own)?;
+            classes = phased(alloc, &table, aig.size())?;
         }
-        split(alloc, &mut classes, &table, &made.own)?;
-        held = carried(alloc, nets, &table, &made.own)?;
+        split(alloc, &mut classes, &table, aig.size())?;
+        held = carried(alloc, nets, &table, lits)?;
     }
     Ok(classes)
 }
@@ -170,13 +159,13 @@ fn lit_words(table: &SignatureTable, l: Lit) -> [u64; 8]
     words
 }
 
-/// One class, in which a signal is complemented where its first value is 1.
-fn phased(alloc: Global, table: &SignatureTable, lits: &[Lit]) -> Result<Classes, NoMemory>
-    requires { All (λ x. x.0 < 2 * length table.now) lits.now }
+/// One class of the nodes, in which one is complemented where its first value is 1.
+fn phased(alloc: Global, table: &SignatureTable, count: u32) -> Result<Classes, NoMemory>
+    requires { count ≤ length table.now }
 {
     let mut bits = Vec::new(alloc);
-    for i in 0..lits.len() {
-        bits.push(lit_words(table, lits[i])[0] % 2 == 1)?;
+    for n in 0..count {
+        bits.push(table.block(n)[0] % 2 == 1)?;
     }
     Classes::new(alloc, &bits)
 }
@@ -186,14 +175,15 @@ fn split(
     alloc: Global,
     classes: &mut Classes,
     table: &SignatureTable,
-    lits: &[Lit],
+    count: u32,
 ) -> Result<(), NoMemory>
-    requires { All (λ x. x.0 < 2 * length table.now) lits.now }
+    requires { count ≤ length table.now }
 {
     let mut keys = Vec::new(alloc);
     keys.push(hash_of(&[0; 8], false))?;
-    for i in 0..lits.len() {
-        keys.push(hash_of(&lit_words(table, lits[i]), classes.phase(i + 1)))?;
+    for n in 0..count {
+        let phase = classes.phase((n as usize).saturating_add(1));
+        keys.push(hash_of(&table.block(n), phase))?;
     }
     classes.split_by(alloc, &keys)
 }

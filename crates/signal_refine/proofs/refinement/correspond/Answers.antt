@@ -1,8 +1,10 @@
--- Where nothing is left, nothing is tied.
-use Rattle.std.proofs.Common.{sym, subst}
-use Rattle.signal_refine.specs.Showing.{AreInductiveTies}
-use Rattle.signal_refine.proofs.Showing.{none_inductive}
+-- The signals' literals.
+use Rattle.std.proofs.Common.{◌≡◌, ◌∙◌, ◌*◌, ◌<◌, ℕ, Bool, List, length, sym, ap, subst}
+use Rattle.aig.specs.declared.node.Lit.{Lit}
+use Rattle.signal_refine.specs.Showing.{AreLits}
+use Rattle.signal_refine.proofs.Showing.{are_lits}
 use Rattle.signal_refine.proofs.refinement.correspond.Goals as goal
 
-pub returns : goal.returns
-returns c = subst (AreInductiveTies c.args.nets.now) (sym c.new.ensures.items) (none_inductive c.args.nets.now)
+pub rounds-requires-clause-lits : goal.rounds-requires-clause-lits
+rounds-requires-clause-lits c =
+    subst (AreLits c.args.nets.now c.first_latch-first.result c.signal_literals.new.aig) (sym c.deref.ensures.value) (are_lits c.args.nets.now c.first_latch-first.result _ c.signal_literals.new.aig c.in_ok-lits.lits.items c.in_ok-lits.ensures)

@@ -1,29 +1,64 @@
--- One tie more.
-use Rattle.std.proofs.Common.{◌≡◌, ◌∙◌, ◌+◌, ◌*◌, ◌<◌, ◌≤◌, ◌⊎◌, ℕ, List, length, get_or, slice_get, Some, sym, ap, subst, arith, inl, inr}
-use Rattle.std.proofs.lemmas.Option.{slice_get_within, get_or_from_slice_get}
+-- One node more.
+use Rattle.std.proofs.Common.{◌≡◌, ◌∙◌, ◌+◌, ◌*◌, ◌<◌, ◌≤◌, ℕ, Bool, length, sym, ap, subst, arith}
+use Rattle.std.specs.List.{All}
+use Rattle.std.proofs.lemmas.Bool.{leb-true}
+use Rattle.std.proofs.lemmas.Option.{slice_get_within}
+use Rattle.aig.specs.declared.node.Lit.{Lit}
+use Rattle.aig.specs.Values.{value}
 use Rattle.aig.proofs.Growth.{Grows-refl, Grows-trans, Grows-length}
-use Rattle.signal_refine.proofs.Framing.{within_grows}
-use Rattle.signal_refine.proofs.Settling.{shown_more, shown_grows}
+use Rattle.aig.proofs.Meaning.{value-grows}
+use Rattle.signal_refine.specs.Copies.{HaveAt, node_at}
+use Rattle.signal_refine.proofs.Framing.{within_grows, values_grow, push_value, length_push, within_push, nothing_has, nothing_within}
+use Rattle.signal_refine.proofs.Settling.{tied_more}
 use Rattle.signal_refine.proofs.classes.Classes.settle.Goals as goal
 
-pub loop-place-init : goal.loop-place-init
-loop-place-init c = record { grows = Grows-refl c.args.aig.now; shown = λ yes p k less at. absurd (omega (arith, less)) }
+pub loop-n-init : goal.loop-n-init
+loop-n-init c = record {
+  grows = Grows-refl c.args.aig.now;
+  each = ap length c.new-read.ensures.items;
+  within = nothing_within c.args.aig.now _ c.new-read.ensures.items;
+  values = λ a k on at. nothing_has (node_at c.args.asked.now.base.now k) c.args.aig.now a _ c.new-read.ensures.items;
+  few = λ yes. subst (λ k. length c.args.anchors.now ≤ k) c.size.ensures (leb-true (length c.args.anchors.now) c.size.result yes);
+  shown = λ yes a k on at p less. absurd (omega (arith, less));
+}
 
-pub try_tie-requires-clause-care : goal.try_tie-requires-clause-care
-try_tie-requires-clause-care c = let more = Grows-length c.args.aig.now c.loop-place.aig c.loop-place.invariant.grows in omega (arith, more, c.requires.care)
+pub sweep_node-requires-clause-care : goal.sweep_node-requires-clause-care
+sweep_node-requires-clause-care c = let more = Grows-length c.args.aig.now c.loop-n.aig c.loop-n.invariant.grows in omega (arith, more, c.requires.care)
 
-pub try_tie-requires-clause-lits : goal.try_tie-requires-clause-lits
-try_tie-requires-clause-lits c = within_grows c.args.aig.now c.loop-place.aig c.loop-place.invariant.grows c.args.asked.now.lits.now c.requires.lits
+pub sweep_node-requires-clause-leaves : goal.sweep_node-requires-clause-leaves
+sweep_node-requires-clause-leaves c = within_grows c.args.aig.now c.loop-n.aig c.loop-n.invariant.grows c.args.asked.now.leaves.now c.requires.leaves
 
-pub loop-place-preserved : goal.loop-place-preserved
-loop-place-preserved c =
+pub sweep_node-requires-clause-each : goal.sweep_node-requires-clause-each
+sweep_node-requires-clause-each c = c.loop-n.invariant.each
+
+pub sweep_node-requires-clause-within : goal.sweep_node-requires-clause-within
+sweep_node-requires-clause-within c = c.loop-n.invariant.within
+
+pub loop-n-preserved : goal.loop-n-preserved
+loop-n-preserved c =
     let w = c.args.asked.now in
+    let base = w.base.now in
+    let g0 = c.args.aig.now in
+    let g = c.loop-n.aig in
+    let h = c.sweep_node.new.aig in
+    let inv = c.loop-n.invariant in
+    let swept = c.in_ok-shown.ensures in
     record {
-      grows = Grows-trans c.args.aig.now c.loop-place.aig c.try_tie.new.aig c.loop-place.invariant.grows c.in_ok-shown.ensures.grows;
-      shown = λ yes.
-          shown_more c.args.aig.now w.lits.now w.care c.args.anchors.now c.loop-place.place _ c.loop-place-test.true (c.loop-place.invariant.shown (c.both-same.ensures.one yes))
-          (shown_grows c.args.aig.now c.loop-place.aig c.loop-place.invariant.grows w.lits.now w.care c.requires.lits c.requires.care c.loop-place.place _ (c.in_ok-shown.ensures.shown (c.both-same.ensures.other yes)));
+      grows = Grows-trans g0 g h inv.grows swept.grows;
+      each = ap length swept.is ∙ length_push c.loop-n.read.items swept.lit c.loop-n.n inv.each;
+      within = subst (All (λ (x : Lit). x.0 < 2 * length h)) (sym swept.is) (within_push g h swept.grows c.loop-n.read.items swept.lit inv.within swept.within);
+      values = λ a k on at.
+          subst (HaveAt (node_at base k) h a) (sym swept.is)
+          (push_value (node_at base k) g h swept.grows a c.loop-n.read.items swept.lit c.loop-n.n inv.each inv.within (inv.values a k on at)
+          (swept.value_is a k (value-grows g0 g inv.grows a w.care.0 c.requires.care ∙ on) (values_grow k g0 g inv.grows a w.leaves.now c.requires.leaves at) (inv.values a k on at)));
+      few = λ yes. inv.few (c.both-same.ensures.one yes);
+      shown = λ yes a k on at.
+          tied_more c.args.anchors.now (node_at base k) c.loop-n.n (inv.shown (c.both-same.ensures.one yes) a k on at)
+          (swept.shown (c.both-same.ensures.other yes) a k (value-grows g0 g inv.grows a w.care.0 c.requires.care ∙ on) (values_grow k g0 g inv.grows a w.leaves.now c.requires.leaves at) (inv.values a k on at));
     }
 
 pub returns : goal.returns
-returns c = λ yes p k at. c.loop-place.invariant.shown yes p k (let inside = slice_get_within c.args.anchors.now p k at in omega (arith, inside, c.loop-place-test.false)) at
+returns c = λ yes a k on at p anchor there.
+    let few = c.loop-n.invariant.few yes in
+    let inside = slice_get_within c.args.anchors.now p anchor there in
+    c.loop-n.invariant.shown yes a k on at p (omega (arith, inside, few, c.loop-n-test.false)) anchor there

@@ -1,12 +1,19 @@
-use Rattle.std.proofs.Common.{◌≡◌, ◌<◌, ℕ, slice_get, Some}
+use Rattle.std.proofs.Common.{◌≡◌, ◌*◌, ◌<◌, ◌≤◌, ℕ, Bool, true, length}
 use Rattle.std.specs.Prelude.{IsTrue}
+use Rattle.std.specs.List.{All}
 use Rattle.aig.specs.Graph.{Grows}
-use Rattle.signal_laws.specs.declared.anchor.Anchor.{Anchor}
-use Rattle.signal_refine.specs.Asking.{IsShownAt}
+use Rattle.aig.specs.Values.{value}
+use Rattle.aig.specs.declared.node.Lit.{Lit}
+use Rattle.signal_refine.specs.Copies.{HaveAt, node_at}
+use Rattle.signal_refine.specs.Asking.{IsTiedAt}
 use Rattle.signal_refine.proofs.classes.Classes.settle.Given as goal
 
-abbrev pub invariant-loop-place : goal.invariant-loop-place
-invariant-loop-place l = record {
+abbrev pub invariant-loop-n : goal.invariant-loop-n
+invariant-loop-n l = record {
   grows : Grows l.initial.aig l.aig;
-  shown : IsTrue l.same → (p : ℕ) (k : Anchor) → p < l.place → slice_get l.anchors p ≡ Some k → IsShownAt l.initial.aig l.asked.lits.now l.asked.care p k;
+  each : length l.read.items ≡ l.n;
+  within : All (λ (x : Lit). x.0 < 2 * length l.aig) l.read.items;
+  values : (a c : ℕ → Bool) → value l.initial.aig a l.asked.care.0 ≡ true → HaveAt c l.initial.aig a l.asked.leaves.now → HaveAt (node_at l.asked.base.now c) l.aig a l.read.items;
+  few : IsTrue l.same → length l.anchors ≤ length l.asked.base.now;
+  shown : IsTrue l.same → (a c : ℕ → Bool) → value l.initial.aig a l.asked.care.0 ≡ true → HaveAt c l.initial.aig a l.asked.leaves.now → (p : ℕ) → p < l.n → IsTiedAt l.anchors (node_at l.asked.base.now c) p;
 }

@@ -10,7 +10,7 @@ use Rattle.signal_refine.specs.Frames.{HaveValues, IsReadBy}
 use Rattle.signal_refine.proofs.Parts.{spot_is_at}
 use Rattle.signal_refine.proofs.Results.{ok_map}
 use Rattle.signal_refine.proofs.Sources.{gate_value}
-use Rattle.signal_refine.proofs.frame.literal.Goals as goal
+use Rattle.signal_refine.proofs.signals.literal.Goals as goal
 
 pub returns-in-Gate-clause-value : goal.returns-in-Gate-clause-value
 returns-in-Gate-clause-value c =
@@ -19,7 +19,7 @@ returns-in-Gate-clause-value c =
     let h = c.gate_at.new.aig in
     let s = c.spot-spot.result in
     let at = spot_is_at w g c.requires.fit c.keeps.ensures.sound c.keeps-2.ensures.sound c.args.place s c.spot-spot.ensures in
-    ok_map (IsGateLit s.net.now c.in-Gate.j (drop s.offset c.args.read.now) g h)
-    (λ (x : Lit). (a : ℕ → Bool) (v : Either ℕ ℕ → Bool) → IsReadBy w g a v → HaveValues (size_of w.nets) g a v c.args.read.now → value h a x.0 ≡ v (side_at (size_of w.nets) c.args.place)) c.gate_at.result
-    (λ x lit a v reading values. gate_value w c.args.place s at c.in-Gate.j (c.driver.ensures ∙ ap Some c.in-Gate.is) c.args.read.now (c.requires.each ∙ sym at.place) g h x lit a v reading.meets values)
+    ok_map (IsGateLit s.net.now c.in-Gate.j (drop s.offset c.args.lits.now) g h)
+    (λ (x : Lit). (a : ℕ → Bool) (v : Either ℕ ℕ → Bool) → IsReadBy w g a v → HaveValues (size_of w.nets) g a v c.args.lits.now → value h a x.0 ≡ v (side_at (size_of w.nets) c.args.place)) c.gate_at.result
+    (λ x lit a v reading values. gate_value w c.args.place s at c.in-Gate.j (c.driver.ensures ∙ ap Some c.in-Gate.is) c.args.lits.now (c.requires.each ∙ sym at.place) g h x lit a v reading.meets values)
     c.gate_at.ensures.gate

@@ -1,0 +1,36 @@
+-- One literal more.
+use Rattle.std.proofs.Common.{◌≡◌, ◌∙◌, ◌+◌, ◌*◌, ◌<◌, ℕ, Bool, List, [], ◌∷◌, length, get_or, sym, ap, subst, arith}
+use Rattle.std.specs.List.{All}
+use Rattle.std.proofs.lemmas.List.Elements.{All-append, All-cons, All-nil}
+use Rattle.aig.specs.declared.node.Lit.{Lit}
+use Rattle.aig.specs.declared.node.Node.{Node}
+use Rattle.signal_refine.specs.Copies.{HaveAt, node_at}
+use Rattle.signal_refine.proofs.Framing.{values_push, length_push, nothing_has}
+use Rattle.signal_refine.proofs.Halves.{have_there}
+use Rattle.signal_refine.proofs.copies.carried.Goals as goal
+
+pub loop-i-init : goal.loop-i-init
+loop-i-init c = record {
+  each = ap length c.new-made.ensures.items;
+  within = λ n all. subst (All (λ (x : Lit). x.0 < 2 * n)) (sym c.new-made.ensures.items) (All-nil (λ (x : Lit). x.0 < 2 * n));
+  values = λ base g a k w read lits. nothing_has w g a _ c.new-made.ensures.items;
+}
+
+pub loop-i-preserved : goal.loop-i-preserved
+loop-i-preserved c =
+    let old = c.loop-i.made.items in
+    let x = c.read_literal.result in
+    let items = c.in_ok-push.ensures.items in
+    record {
+      each = ap length items ∙ length_push old x c.loop-i.i c.loop-i.invariant.each;
+      within = λ n all.
+          subst (All (λ (y : Lit). y.0 < 2 * n)) (sym items)
+          (All-append (λ (y : Lit). y.0 < 2 * n) old (x ∷ []) (c.loop-i.invariant.within n all) (All-cons (λ (y : Lit). y.0 < 2 * n) x [] (c.read_literal.ensures.within n all) (All-nil (λ (y : Lit). y.0 < 2 * n))));
+      values = λ base g a k w read lits.
+          subst (HaveAt w g a) (sym items)
+          (values_push w g a old x (c.loop-i.invariant.values base g a k w read lits)
+          (c.read_literal.ensures.value base g a k read ∙ (have_there w base k c.args.lits.now lits c.loop-i.i c.loop-i-test.true ∙ ap w (sym c.loop-i.invariant.each))));
+    }
+
+pub returns : goal.returns
+returns c = record { each = c.loop-i.invariant.each ∙ (omega (arith, c.loop-i-test.false, c.loop-i.auto.i-end)); within = c.loop-i.invariant.within; values = c.loop-i.invariant.values }
