@@ -4,19 +4,17 @@ use Rattle.std.specs.Prelude.{◌==◌, unwrap_or}
 use Rattle.std.specs.List.{AllZip, Contains}
 use Rattle.std.proofs.lemmas.Bool.Decides.{Decides-eqb}
 use Rattle.circuit_theory.specs.Circuit.{Circuit, Named}
-use Rattle.circuit_theory.specs.Joined.{Either, Left, Right}
+use Rattle.circuit_theory.specs.Joined.{Either, Left, Right, beside}
 use Rattle.circuit_theory.specs.Agree.{IsPair, place_named}
-use Rattle.circuit_theory.specs.Interface.{AreNumbersOf, shared_inputs}
-use Rattle.circuit_theory.specs.Tree.{AreNumbered}
-use Rattle.circuit_theory.proofs.Lists.{Contains-map_from, at_of, of_at, zip_right, length-map, map-map}
-use Rattle.circuit_theory.proofs.Numbers.{numbers_are, slice_get-map}
+use Rattle.circuit_theory.proofs.Lists.{Contains-map_from, at_of, of_at, zip_right}
+use Rattle.circuit_theory.proofs.Numbers.{slice_get-map}
 use Rattle.circuit_laws.specs.reset_laws.Reset.{AgreeFromReset}
 use Rattle.circuit_laws.proofs.reset_laws.ResetAgreement.{lt_true, lt_false}
 use Rattle.flat_net.specs.declared.signals.Signal.{Signal}
 use Rattle.flat_net.specs.declared.parts.Port.{Port}
 use Rattle.flat_net.specs.Comparable.{IsComparable}
 use Rattle.flat_net.specs.Sound.{IsSound}
-use Rattle.flat_net.specs.View.{NetView, named, circuit_of, ports_of}
+use Rattle.flat_net.specs.View.{NetView, named, circuit_of}
 use Rattle.flat_net.proofs.Places.{All-at}
 use Rattle.sec_setup.specs.declared.ports.pairs.SignalPair.{SignalPair}
 use Rattle.sec_setup.specs.ports.Pairing.{IsOutputPair}
@@ -26,7 +24,6 @@ use Rattle.signal_laws.specs.declared.anchor.Anchor.{Anchor}
 use Rattle.signal_laws.specs.declared.anchor.Anchor.TheVariants as anchor
 use Rattle.signal_laws.specs.Ties.{side_at, anchor_value, AreTied}
 use Rattle.signal_laws.specs.Laws.{GiveOutputs}
-use Rattle.signal_laws.proofs.Holding.{tied_outputs_agree}
 use Rattle.signal_refine.specs.Asking.{same_bit}
 use Rattle.signal_induct.specs.declared.outputs.TiedPair.{TiedPair}
 use Rattle.signal_induct.specs.declared.induction.SignalInduction.{SignalInduction}
@@ -109,19 +106,5 @@ module _ (a b : NetView) (made : SignalInduction) (is : IsSignalInduction a b ma
   gives x tied p q (IsPair.outputs {name} own other) = output_given x tied name p q own other
   gives x tied p q (IsPair.nexts listed first second) = absurd (omega (arith, listed.1))
 
-  names_are : (n : NetView) → (ports_of n).inputs ≡ map (λ (i : Named ℕ). i.name) (circuit_of n).inputs
-  names_are n = sym (map-map (λ (i : Named ℕ). i.name) named n.inputs)
-
-  abbrev shared : List (List ℕ)
-  shared = shared_inputs (ports_of a) (ports_of b)
-
-  left_numbers : AreNumbersOf (map (λ (i : Named ℕ). i.name) (circuit_of a).inputs) shared is.own.left is.own.right
-  left_numbers = subst (λ (names : List (List ℕ)). AreNumbersOf names shared is.own.left is.own.right) (names_are a) is.are_own.left_is
-
-  right_numbers : AreNumbersOf (map (λ (i : Named ℕ). i.name) (circuit_of b).inputs) shared is.own.right is.own.left
-  right_numbers = subst (λ (names : List (List ℕ)). AreNumbersOf names shared is.own.right is.own.left) (names_are b) is.are_own.right_is
-
   pub all_agree : AgreeFromReset (circuit_of a) (circuit_of b)
-  all_agree =
-      tied_outputs_agree (circuit_of a) (circuit_of b) is.own.left is.own.right size anchors (numbers_are (circuit_of a) (circuit_of b) shared is.own.left is.own.right left_numbers right_numbers)
-      (left_numbers.each ∙ length-map (λ (i : Named ℕ). i.name) (circuit_of a).inputs) is.inductive gives
+  all_agree n l r alike t p q h pair = gives (beside (l t) (r t)) (is.hold n l r alike t h) p q pair

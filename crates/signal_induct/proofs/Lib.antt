@@ -2,3 +2,4 @@ pub mod Agreeing
 pub mod Counting
 pub mod Empty
 pub mod Firsts
+pub mod Held

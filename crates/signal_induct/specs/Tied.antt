@@ -2,7 +2,6 @@
 use Rattle.std.specs.Prelude.{◌≡◌, ℕ, suc, ◌+◌, ◌==◌, ◌&&◌, ◌||◌, not, Bool, true, false, if◌then◌else◌, List, [], ◌∷◌, ◌++◌, length, map, slice_get, find, unwrap_or, Option, option_map}
 use Rattle.std.specs.List.{AllZip}
 use Rattle.circuit_theory.specs.Interface.{AreOrders}
-use Rattle.sec_base.specs.declared.basics.Orders.{Orders}
 use Rattle.flat_net.specs.View.{NetView, circuit_of, ports_of}
 use Rattle.witness_report.specs.declared.witness.PairName.{PairName}
 use Rattle.witness_report.specs.declared.witness.PairName.TheVariants as pair_name
@@ -10,8 +9,10 @@ use Rattle.sec_setup.specs.declared.ports.pairs.SignalPair.{SignalPair}
 use Rattle.sec_setup.specs.ports.Pairing.{IsOutputPair}
 use Rattle.signal_laws.specs.declared.anchor.Anchor.{Anchor}
 use Rattle.signal_laws.specs.declared.anchor.Anchor.TheVariants as anchor
-use Rattle.signal_laws.specs.Laws.{AreInductive}
+use Rattle.signal_laws.specs.Laws.{AreHeld}
+use Rattle.signal_refine.specs.declared.nets.SignalNets.{SignalNets}
 use Rattle.signal_refine.specs.Asking.{same_bit}
+use Rattle.signal_refine.specs.Showing.{AreInductiveTies}
 use Rattle.signal_induct.specs.declared.outputs.TiedPair.{TiedPair}
 use Rattle.signal_induct.specs.declared.induction.SignalInduction.{SignalInduction}
 
@@ -50,12 +51,15 @@ tied_pair size anchors p = record { name = name_of p.name; equal = same_anchor (
 abbrev pub first_apart : List TiedPair → Option (List ℕ)
 first_apart pairs = option_map (λ (p : TiedPair). p.name) (find (λ (p : TiedPair). not p.equal) pairs)
 
--- By some numbers of the interface the ties are an inductive invariant of both circuits, and each output of A is compared with B's of its
--- name by them.
+-- By some numbers of the interface an inductive invariant of both circuits gives the ties, so that they hold in every cycle of two reset runs
+-- with equal inputs, and each output of A is compared with B's of its name by them.
 pub record IsSignalInduction (a b : NetView) (made : SignalInduction) : Type 0 where
-  pub own : Orders
-  pub are_own : AreOrders (ports_of a) (ports_of b) own.left own.right
-  pub inductive : AreInductive (circuit_of a) (circuit_of b) (own.left ++ own.right) (length a.drivers) made.ties.anchors.items
+  pub nets : SignalNets
+  pub left_is : nets.left.now ≡ a
+  pub right_is : nets.right.now ≡ b
+  pub are_own : AreOrders (ports_of a) (ports_of b) nets.orders.now.left nets.orders.now.right
+  pub inductive : AreInductiveTies nets made.ties.anchors.items
+  pub hold : AreHeld (circuit_of a) (circuit_of b) (length a.drivers) made.ties.anchors.items
   pub outputs : List SignalPair
   pub are_outputs : AllZip (IsOutputPair b) a.outputs outputs
   pub pairs_are : made.pairs ≡ map (tied_pair (length a.drivers) made.ties.anchors.items) outputs

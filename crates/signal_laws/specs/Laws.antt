@@ -18,10 +18,13 @@ AreInductive a b order size anchors = IsInductiveInvariant (joined a b) order (A
 abbrev pub GiveOutputs : Circuit ℕ → Circuit ℕ → ℕ → List Anchor → Type 0
 GiveOutputs a b size anchors = (x : Either ℕ ℕ → Bool) → AreTied size anchors x → (p q : ℕ) → IsPair [] a b p q → x (Left p) ≡ x (Right q)
 
--- Ties that are an inductive invariant hold in every cycle of two reset runs with equal inputs.
+-- the ties hold in every cycle of two reset runs with equal inputs
+abbrev pub AreHeld : Circuit ℕ → Circuit ℕ → ℕ → List Anchor → Type 0
+AreHeld a b size anchors = (n : ℕ) (l r : ℕ → ℕ → Bool) → AreAlikeFromReset a b n l r → (t : ℕ) → t < n → AreTied size anchors (beside (l t) (r t))
+
+-- Ties that are an inductive invariant do.
 abbrev pub TiesHold : Type 0
-TiesHold = (a b : Circuit ℕ) (left right : List ℕ) (size : ℕ) (anchors : List Anchor) → AreNumbered a b left right → length left ≡ length a.inputs → AreInductive a b (left ++ right) size anchors →
-    (n : ℕ) (l r : ℕ → ℕ → Bool) → AreAlikeFromReset a b n l r → (t : ℕ) → t < n → AreTied size anchors (beside (l t) (r t))
+TiesHold = (a b : Circuit ℕ) (left right : List ℕ) (size : ℕ) (anchors : List Anchor) → AreNumbered a b left right → length left ≡ length a.inputs → AreInductive a b (left ++ right) size anchors → AreHeld a b size anchors
 
 -- Where they give the outputs, the circuits agree.
 abbrev pub TiedOutputsAgree : Type 0
