@@ -83,32 +83,43 @@ fn narrowed(aig: &mut Aig, care: Lit, l: Lit, r: Lit) -> Result<Lit, NoMemory>
 /// For how many conflicts two literals are searched for a difference under every assignment, before the care counts.
 const FEW: u32 = 100;
 
-/// Whether the two literals are one under every assignment, as far as a short search shows.
-fn are_one(alloc: Global, aig: &Aig, conflicts: u32, l: Lit, r: Lit) -> Result<bool, NoMemory>
-    requires left { l.0 < 2 * length aig.now }
-    requires right { r.0 < 2 * length aig.now }
-    ensures { IfOk result (λ same. IsTrue same → Agree aig.now l.0 r.0) }
-{
+/// What is spent on short searches in a graph of so many nodes, with at most so many conflicts for each.
+pub(crate) fn short_budget(conflicts: u32, nodes: u32) -> Budget {
     let effort = Effort {
         conflicts: conflicts.min(FEW).saturating_mul(20),
         searches: true,
     };
-    let mut budget = Budget::new(effort, aig.size());
-    match prove(alloc, aig, &[], l, r, &mut budget)? {
+    Budget::new(effort, nodes)
+}
+
+/// Whether the two literals are one under every assignment, as far as a short search shows.
+fn are_one(alloc: Global, aig: &Aig, budget: &mut Budget, l: Lit, r: Lit) -> Result<bool, NoMemory>
+    requires left { l.0 < 2 * length aig.now }
+    requires right { r.0 < 2 * length aig.now }
+    ensures { IfOk result (λ same. IsTrue same → Agree aig.now l.0 r.0) }
+{
+    match prove(alloc, aig, &[], l, r, budget)? {
         Proved::Same => Ok(true),
         _ => Ok(false),
     }
 }
 
-/// Whether the two literals are one wherever the care holds.
-fn ask(alloc: Global, aig: &mut Aig, asked: &Asked<'_>, l: Lit, r: Lit) -> Result<Proved, NoMemory>
+/// Whether the two literals are one wherever the care holds. The budget is for a search before the care counts.
+fn ask(
+    alloc: Global,
+    aig: &mut Aig,
+    asked: &Asked<'_>,
+    budget: &mut Budget,
+    l: Lit,
+    r: Lit,
+) -> Result<Proved, NoMemory>
     requires care { asked.now.care.0 < 2 * length aig.old }
     requires left { l.0 < 2 * length aig.old }
     requires right { r.0 < 2 * length aig.old }
     ensures same { IfOk result (λ p. p ≡ proved.Same → (a : ℕ → Bool) → value aig.old a asked.now.care.0 ≡ true → value aig.old a l.0 ≡ value aig.old a r.0) }
     ensures grows { OnOk result (Grows aig.old aig.new) }
 {
-    if l.0 == r.0 || are_one(alloc, aig, asked.conflicts, l, r)? {
+    if l.0 == r.0 || are_one(alloc, aig, budget, l, r)? {
         return Ok(Proved::Same);
     }
     let same = equal(aig, l, r)?;
@@ -139,6 +150,7 @@ impl Classes {
         requires leaves { All (λ x. x.0 < 2 * length aig.old) asked.now.leaves.now }
         ensures { IfOk result (λ same. IsTrue same → AreShown asked.now.base.now asked.now.leaves.now asked.now.care anchors.now aig.old) }
     {
+        self.shortly = short_budget(asked.conflicts, asked.base.size());
         let mut read = Vec::new(alloc);
         let mut same = anchors.len() <= asked.base.size() as usize;
         for n in 0..asked.base.size() {
@@ -207,7 +219,7 @@ impl Classes {
         let Some(other) = anchor_literal(read, anchors[n]) else {
             return Ok(None);
         };
-        let answer = ask(alloc, aig, asked, own, other)?;
+        let answer = ask(alloc, aig, asked, &mut self.shortly, own, other)?;
         match answer {
             Proved::Same => Ok(Some(other)),
             told => {

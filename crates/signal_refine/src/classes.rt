@@ -1,13 +1,13 @@
 //! Classes of nodes that may be equal or complements: guesses, of which nothing is promised.
 
-use crate::ask::Asked;
+use crate::ask::{Asked, short_budget};
 use aig::{Aig, Lit, node_bits};
 use base_tables::PlaceTable;
 use sec_base::{Ids, NoMemory};
 use signal_laws::Anchor;
 use std::alloc::Global;
 use sweep_candidates::Model;
-use swept_queries::node_agreement::Proved;
+use swept_queries::node_agreement::{Budget, Proved};
 
 /// The class of the constant 0, and behind it that of each node by its number. A node whose phase is set has its complement there.
 #[derive(Drop)]
@@ -16,6 +16,8 @@ pub(crate) struct Classes {
     pub phases: Vec<bool>,
     /// How many ties were dropped at the limit.
     pub drops: u32,
+    /// What is left for short searches of a round.
+    pub shortly: Budget,
 }
 
 impl Classes {
@@ -33,6 +35,7 @@ impl Classes {
             blocks,
             phases,
             drops: 0,
+            shortly: short_budget(0, 0),
         })
     }
 

@@ -168,11 +168,11 @@ fn do_begin(
         first: round.first,
         latches: Latches::Started,
     };
-    let leaves = leaves_of(alloc, &mut aig, &cycle, round.count())?;
+    let starts = leaves_of(alloc, &mut aig, &cycle, round.count())?;
     aig.keeps();
     let asked = Asked {
         base: round.base,
-        leaves: &leaves,
+        leaves: &starts,
         care: Lit::TRUE,
         conflicts: round.conflicts,
     };

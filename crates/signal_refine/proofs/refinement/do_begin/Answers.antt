@@ -18,6 +18,6 @@ returns c =
     let h = c.leaves_of.new.aig in
     ok_map (λ (same : Bool). IsTrue same → AreShown base c.deref.result.now (record { 0 = 1 }) nodes h) (λ (begun : Bool). IsTrue begun → Begins n first base nodes) c.settle.result
     (λ same shown yes.
-    begins_where_shown n first c.requires.first base nodes c.in_ok-aig.aig h c.count.result c.in_ok-leaves.leaves.items c.in_ok-leaves.ensures (record { 0 = 1 }) (λ a. value-one h c.keeps-2.ensures.graph a)
+    begins_where_shown n first c.requires.first base nodes c.in_ok-aig.aig h c.count.result c.in_ok-starts.starts.items c.in_ok-starts.ensures (record { 0 = 1 }) (λ a. value-one h c.keeps-2.ensures.graph a)
     (subst (λ (l : List Lit). AreShown base l (record { 0 = 1 }) nodes h) c.deref.ensures.value (shown yes)))
     c.settle.ensures
