@@ -1,5 +1,5 @@
 -- How the job ends.
-use Rattle.std.specs.Prelude.{◌≡◌, ℕ, Bool, List, [], Option, Some, Result, Ok, Err}
+use Rattle.std.specs.Prelude.{◌≡◌, ℕ, Bool, List, [], Some, Result, Ok, Err}
 use Rattle.circuit_theory.specs.Interface.{first_mismatch}
 use Rattle.flat_net.specs.View.{NetView, ports_of}
 use Rattle.sec_setup.specs.Matching.{InterfacesMatch}

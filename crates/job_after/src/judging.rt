@@ -1,6 +1,6 @@
 //! Two nets searched for a difference behind the rows of a stimulus.
 
-ghost use Rattle.std.specs.Prelude.{◌≡◌, ◌≤◌, ◌++◌, IfOk, OnOk, option_to_list};
+ghost use Rattle.std.specs.Prelude.{◌≡◌, ◌≤◌, IfOk};
 ghost use Rattle.flat_net.specs.Comparable.{IsComparable};
 ghost use Rattle.job_after.specs.Ends.{FitsAfter, IsJudgedBy, after_end};
 ghost use Rattle.job_after.specs.Judged.{judgement_of, proofs_of};
@@ -13,11 +13,10 @@ use base_tables::NameTable;
 use circuit_report::sim_report::Misfit;
 use cycle_search::{SearchVerdict, Searched, search_cycles};
 use flat_net::Net;
-use job_base::{Finding, Judgement, Proofs, Refusal, Stop};
+use job_base::{Finding, Judgement, Proofs, Refusal, Stop, proofs_from};
 use job_circuit::replay::ReplayError;
 use job_circuit::replay::replay_header::opened_by;
-use obligations::PairResults;
-use obligations::outcome::{PairResult, Witness};
+use obligations::outcome::Witness;
 use sec_base::{MAX_CONFLICTS, NoMemory, Text};
 use sec_setup::ports::name_tables::{table_of_names, word_of};
 use std::alloc::Global;
@@ -105,28 +104,7 @@ fn proofs_of(alloc: Global, searched: Searched) -> Result<Proofs, NoMemory>
     ensures { IfOk result (λ proofs. proofs ≡ proofs_of searched.pairs) }
 {
     let Searched { pairs, .. } = searched;
-    pair_proofs(alloc, pairs)
-}
-
-/// The proofs of these pairs, in their order.
-fn pair_proofs(alloc: Global, pairs: PairResults) -> Result<Proofs, NoMemory>
-    ensures { IfOk result (λ proofs. proofs ≡ proofs_of pairs) }
-{
-    let mut proofs = Proofs::new(alloc);
-    for pair in pairs.into_vec() {
-        keep_proof(&mut proofs, pair)?;
-    }
-    Ok(proofs)
-}
-
-/// Puts the pair's proof behind the others, where it has one.
-fn keep_proof(proofs: &mut Proofs, pair: PairResult) -> Result<(), NoMemory>
-    ensures { OnOk result (proofs.new ≡ proofs.old ++ option_to_list pair.proof) }
-{
-    match pair.into_proof() {
-        Some(proof) => proofs.push(proof),
-        None => Ok(()),
-    }
+    proofs_from(alloc, None, pairs)
 }
 
 /// What is found by the judgement, or by its refusal.

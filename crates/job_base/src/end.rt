@@ -113,7 +113,11 @@ fn keep_proofs(proofs: &mut Proofs, pairs: PairResults) -> Result<(), NoMemory>
 }
 
 /// A first proof, where there is one, and behind it those of the pairs that met the limit, in their order.
-fn proofs_from(alloc: Global, first: Option<Proof>, pairs: PairResults) -> Result<Proofs, NoMemory>
+pub fn proofs_from(
+    alloc: Global,
+    first: Option<Proof>,
+    pairs: PairResults,
+) -> Result<Proofs, NoMemory>
     ensures { IfOk result (λ proofs. proofs ≡ option_to_list first ++ filter_map (λ pair. pair.proof) pairs) }
 {
     let mut proofs = Proofs::new(alloc);

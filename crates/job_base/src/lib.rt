@@ -8,6 +8,6 @@ pub mod sec_files;
 mod status;
 mod text;
 
-pub use end::{finish, proofs_of};
+pub use end::{finish, proofs_from, proofs_of};
 pub use finding::{File, Finding, Judgement, LineFault, Refusal, Stop, Unrefuted};
 pub use status::{Proofs, Status, StatusName};

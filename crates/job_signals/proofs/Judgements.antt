@@ -1,9 +1,8 @@
 -- What is judged of two nets, or why they aren't.
 use Rattle.std.specs.Prelude.{IsErrAnd}
-use Rattle.std.proofs.Common.{◌≡◌, ℕ, sym, subst, None, Result, Ok, Err}
+use Rattle.std.proofs.Common.{◌≡◌, sym, subst, None, Result, Ok, Err}
 use Rattle.circuit_theory.specs.Interface.{first_mismatch}
-use Rattle.circuit_laws.specs.reset_laws.Reset.{AgreeFromReset}
-use Rattle.flat_net.specs.View.{NetView, circuit_of, ports_of}
+use Rattle.flat_net.specs.View.{NetView, ports_of}
 use Rattle.sec_setup.specs.declared.error.SetupError.{SetupError}
 use Rattle.sec_setup.specs.declared.error.SetupError.TheVariants as unset
 use Rattle.sec_setup.specs.Matching.{InterfaceFails}

@@ -1,5 +1,5 @@
 -- Where two circuits can be compared behind the rows of a stimulus, they are.
-use Rattle.std.proofs.Common.{◌≡◌, ℕ, List, sym, subst, Option, Some, None}
+use Rattle.std.proofs.Common.{ℕ, List, sym, subst, Option, Some, None}
 use Rattle.job_base.specs.declared.finding.Judgement.{Judgement}
 use Rattle.job_base.specs.declared.finding.Finding.{Finding}
 use Rattle.job_base.specs.declared.finding.Finding.TheVariants as finding

@@ -1,5 +1,5 @@
 -- What both circuits that are read are found to be.
-use Rattle.std.specs.Prelude.{IfSome, IsErrOf}
+use Rattle.std.specs.Prelude.{IfSome}
 use Rattle.std.proofs.Common.{ℕ, Bool, List, Option, Result, Ok, Err}
 use Rattle.flat_net.specs.View.{NetView}
 use Rattle.job_base.specs.sec_files.Loading.{Loads}

@@ -18,7 +18,7 @@ use Rattle.job_after.specs.declared.judging.Judged.{Judged}
 use Rattle.job_after.specs.Judged.{IsBegun}
 use Rattle.job_after.specs.Report.{begun_text}
 use Rattle.job_after.specs.Ends.{FitsAfter, header_fault}
-use Rattle.job_signals.specs.job_tied.Judged.{Tied, IsJudged}
+use Rattle.job_signals.specs.job_tied.Judged.{IsJudged}
 use Rattle.job_signals.specs.job_tied.Ends.{IsJudgedBy, fault_of}
 
 module _ (a b : NetView) (names : List (List ℕ)) (rows : List (List Bool)) where

@@ -1,7 +1,6 @@
 //! Two nets searched for a difference.
 
-ghost use Rattle.std.specs.Prelude.{◌≡◌, ◌≤◌, ◌++◌, IfOk, OnOk, option_to_list};
-ghost use Rattle.std.specs.List.{filter_map};
+ghost use Rattle.std.specs.Prelude.{◌≡◌, ◌≤◌, IfOk};
 ghost use Rattle.flat_net.specs.Comparable.{IsComparable};
 ghost use Rattle.cycle_search.specs.search_report.Report.{search_text};
 ghost use Rattle.sec_jobs.specs.job_search.search_meaning.Judged.{judgement_of, proofs_of};
@@ -10,9 +9,7 @@ ghost use Rattle.sec_jobs.specs.job_search.Ends.{IsJudgedBy, judged_end};
 use cycle_search::search_report::report;
 use cycle_search::{SearchError, SearchVerdict, Searched, search_cycles};
 use flat_net::Net;
-use job_base::{Finding, Judgement, Proofs, Refusal, Stop};
-use obligations::PairResults;
-use obligations::outcome::PairResult;
+use job_base::{Finding, Judgement, Proofs, Refusal, Stop, proofs_from};
 use sec_base::{MAX_CONFLICTS, NoMemory, Text};
 use std::alloc::Global;
 
@@ -64,28 +61,7 @@ fn proofs_of(alloc: Global, searched: Searched) -> Result<Proofs, NoMemory>
     ensures { IfOk result (λ proofs. proofs ≡ proofs_of searched.pairs) }
 {
     let Searched { pairs, .. } = searched;
-    pair_proofs(alloc, pairs)
-}
-
-/// The proofs of these pairs, in their order.
-fn pair_proofs(alloc: Global, pairs: PairResults) -> Result<Proofs, NoMemory>
-    ensures { IfOk result (λ proofs. proofs ≡ proofs_of pairs) }
-{
-    let mut proofs = Proofs::new(alloc);
-    for pair in pairs.into_vec() {
-        keep_proof(&mut proofs, pair)?;
-    }
-    Ok(proofs)
-}
-
-/// Puts the pair's proof behind the others, where it has one.
-fn keep_proof(proofs: &mut Proofs, pair: PairResult) -> Result<(), NoMemory>
-    ensures { OnOk result (proofs.new ≡ proofs.old ++ option_to_list pair.proof) }
-{
-    match pair.into_proof() {
-        Some(proof) => proofs.push(proof),
-        None => Ok(()),
-    }
+    proofs_from(alloc, None, pairs)
 }
 
 /// What is found by the judgement, or by its refusal.
