@@ -15,3 +15,4 @@ pub mod Interned
 pub mod MergeLists
 pub mod circuit_theory
 pub use Rattle.base_tables.proofs.TableLemmas
+pub mod Making

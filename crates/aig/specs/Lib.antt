@@ -13,3 +13,4 @@ pub mod circuit_theory
 pub mod graph_copy
 pub mod lane_eval
 pub use Rattle.base_tables.specs.Table
+pub mod Making

@@ -4,6 +4,7 @@ ghost use Rattle.std.specs.Prelude.{◌≡◌, ℕ, ◌+◌, ◌*◌, ◌^◌, �
 ghost use Rattle.sec_base.specs.circuit_theory.Cover.{cover_value};
 ghost use Rattle.aig.specs.Graph.{Grows, flip, vars_of};
 ghost use Rattle.aig.specs.Values.{value, KeepsValues};
+ghost use Rattle.aig.specs.Making.{MakesPlace, MakesCube, MakesRow, MakesCover};
 ghost use Rattle.aig.specs.Rules.{IsCoverOf, IsRowOf, IsCubeOf, IsPlaceOf, place_lit, cover_room};
 
 use crate::graph::Aig;
@@ -12,7 +13,7 @@ use sec_base::{Cover, NoMemory};
 
 impl Aig {
     /// The literal of the cover's function of the fan-ins: one literal of the graph for each column, in their order. The
-    /// same arguments give the same literal. A cover of r rows and w columns makes at most r * (w + 1) nodes, and with
+    /// same arguments give the same literal. No node is made without need. A cover of r rows and w columns makes at most r * (w + 1) nodes, and with
     /// these the graph has fewer than 2^30. After `NoMemory`, which comes where memory was wanted, nodes may have been
     /// added, and those from before stand as they stood.
     pub fn cover(&mut self, cover: &Cover, fanins: &[Lit]) -> Result<Lit, NoMemory>
@@ -26,6 +27,7 @@ impl Aig {
         ensures older { KeepsValues self.old self.new }
         ensures few { length self.new ≤ length self.old + cover_room cover.now }
         ensures vars { vars_of self.new ≡ vars_of self.old }
+        ensures made { IfOk result (λ x. MakesCover self.old cover.now (map (λ f. f.0) fanins.now) self.new x.0) }
     {
         cover.keeps();
         self.keeps();
@@ -50,6 +52,7 @@ impl Aig {
         ensures grows { Grows self.old self.new }
         ensures few { length self.new ≤ length self.old + length row.now + 1 }
         ensures vars { vars_of self.new ≡ vars_of self.old }
+        ensures made { IfOk result (λ x. MakesRow self.old from.0 row.now (map (λ f. f.0) fanins.now) self.new x.0) }
     {
         let cube = self.cube(row, fanins)?;
         let left = Aig::not(from);
@@ -69,6 +72,7 @@ impl Aig {
         ensures grows { Grows self.old self.new }
         ensures few { length self.new ≤ length self.old + length places.now }
         ensures vars { vars_of self.new ≡ vars_of self.old }
+        ensures made { IfOk result (λ x. MakesCube self.old 1 places.now (map (λ f. f.0) fanins.now) self.new x.0) }
     {
         let mut lit = Lit::TRUE;
         for i in 0..places.len() {
@@ -88,6 +92,7 @@ impl Aig {
         ensures grows { Grows self.old self.new }
         ensures few { length self.new ≤ length self.old + 1 }
         ensures vars { vars_of self.new ≡ vars_of self.old }
+        ensures made { IfOk result (λ x. MakesPlace self.old from.0 (place_lit place fanin.0) self.new x.0) }
     {
         match place_lit(place, fanin) {
             None => Ok(from),

@@ -9,7 +9,8 @@ use Rattle.aig.specs.Graph.{Grows, flip}
 use Rattle.aig.specs.Rules.{simple_and, and_node, place_lit, IsWithAndBy, IsPlaceOf, IsCubeOf, IsRowOf, AreRowsOf, IsCoverOf}
 use Rattle.aig.specs.Builds.{Builds, BuildsAll}
 use Rattle.aig.proofs.Growth.{Grows-refl, Grows-trans, IsPlaceOf-grows, IsCubeOf-grows, IsRowOf-grows, BuildsAll-grows, Builds-grows}
-use Rattle.tree_graph.specs.Making.{MakesAnd, MakesPlace, MakesCube, MakesRow, MakesRows, MakesCover, Makes, MakesAll}
+use Rattle.aig.specs.Making.{MakesAnd, MakesPlace, MakesCube, MakesRow, MakesRows, MakesCover}
+use Rattle.tree_graph.specs.Making.{Makes, MakesAll}
 
 with_grown : (g h : List Node) (node : Node) → IsWith g node h → Grows g h
 with_grown g h node (inl (there, e)) = subst (Grows g) (sym e) (Grows-refl g)

@@ -9,7 +9,8 @@ use Rattle.aig.specs.declared.node.Node.TheVariants.{Input}
 use Rattle.aig.specs.Graph.{IsLitOf, flip}
 use Rattle.aig.specs.Rules.{simple_and, and_node, place_lit, IsAndBy, IsAndOf, IsWithAndBy, IsPlaceOf, IsCubeOf, IsRowOf, AreRowsOf, IsCoverOf}
 use Rattle.aig.specs.Builds.{Builds, BuildsAll}
-use Rattle.tree_graph.specs.Making.{MakesAnd, MakesPlace, MakesCube, MakesRow, MakesRows, MakesCover, Makes, MakesAll}
+use Rattle.aig.specs.Making.{MakesAnd, MakesPlace, MakesCube, MakesRow, MakesRows, MakesCover}
+use Rattle.tree_graph.specs.Making.{Makes, MakesAll}
 
 module _ (g : List Node) where
   with_kept : (node : Node) (x : ℕ) → IsLitOf g node x → IsWith g node g

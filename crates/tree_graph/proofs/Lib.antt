@@ -4,7 +4,6 @@ pub mod Built
 pub mod Ordered
 pub mod Inputs
 pub mod OneGraph
-pub mod Folds
 pub mod Lists
 pub mod Places
 pub mod Waiting

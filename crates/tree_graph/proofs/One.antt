@@ -11,7 +11,8 @@ use Rattle.aig.specs.declared.node.Node.TheVariants.{Input}
 use Rattle.aig.specs.Graph.{IsLitOf, flip}
 use Rattle.aig.specs.Rules.{simple_and, and_node, place_lit, IsAndBy, IsWithAndBy}
 use Rattle.aig.proofs.Insert.{push-cases}
-use Rattle.tree_graph.specs.Making.{MakesAnd, MakesPlace, MakesCube, MakesRow, MakesRows, MakesCover, Makes, MakesAll}
+use Rattle.aig.specs.Making.{MakesAnd, MakesPlace, MakesCube, MakesRow, MakesRows, MakesCover}
+use Rattle.tree_graph.specs.Making.{Makes, MakesAll}
 
 -- two graphs are one, in which no node stands twice, and two literals are one
 pub record AreOne (h k : List Node) (x y : ℕ) : Type 0 where

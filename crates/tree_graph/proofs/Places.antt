@@ -22,7 +22,8 @@ use Rattle.flat_net.proofs.Drivers.{gate_of_equation, latch_of_equation, no_port
 use Rattle.aig.specs.declared.node.Lit.{Lit}
 use Rattle.aig.specs.declared.node.Node.{Node}
 use Rattle.aig.specs.Builds.{BuildsAll}
-use Rattle.tree_graph.specs.Making.{Makes, MakesAll, MakesCover}
+use Rattle.aig.specs.Making.{MakesCover}
+use Rattle.tree_graph.specs.Making.{Makes, MakesAll}
 use Rattle.tree_graph.specs.Rooted.{IsTreeAt}
 use Rattle.tree_graph.specs.Walking.{reads_by, reads_of, fanins_at, taken_at, IsKnown, AreKnown, MakesEach, MakesGate}
 use Rattle.tree_graph.proofs.One.{tree_one, trees_one}

@@ -10,7 +10,8 @@ use Rattle.flat_net.specs.View.{NetView, cover_of}
 use Rattle.aig.specs.declared.node.Lit.{Lit}
 use Rattle.aig.specs.declared.node.Node.{Node}
 use Rattle.aig.specs.Builds.{Builds}
-use Rattle.tree_graph.specs.Making.{Makes, MakesCover}
+use Rattle.aig.specs.Making.{MakesCover}
+use Rattle.tree_graph.specs.Making.{Makes}
 use Rattle.tree_graph.specs.Rooted.{IsTreeAt}
 
 -- the fan-ins of a gate at a shift

@@ -4,7 +4,7 @@ ghost use Rattle.std.specs.Prelude.{◌≡◌, ℕ, ◌*◌, ◌<◌, ◌≤◌,
 ghost use Rattle.aig.specs.Graph.{flip};
 ghost use Rattle.aig.specs.Rules.{place_lit};
 ghost use Rattle.tree_graph.specs.declared.covers.TheConstants.{MOST_NODES};
-ghost use Rattle.tree_graph.specs.Making.{MakesAnd, MakesPlace, MakesCube, MakesRow, MakesCover};
+ghost use Rattle.aig.specs.Making.{MakesAnd, MakesPlace, MakesCube, MakesRow, MakesCover};
 
 use aig::{Aig, Lit, NoMemory};
 use flat_net::Cover;

@@ -12,7 +12,8 @@ use Rattle.event_nodes.specs.aig.Graph.{flip}
 use Rattle.event_nodes.specs.aig.Node.{Node}
 use Rattle.event_nodes.specs.aig.Node.TheVariants.{Constant, Input}
 use Rattle.event_nodes.specs.aig.Rules.{place_lit, simple_and}
-use Rattle.tree_graph.specs.Making.{Makes, MakesCover}
+use Rattle.tree_graph.specs.aig.Making.{MakesCover}
+use Rattle.tree_graph.specs.Making.{Makes}
 use Rattle.tree_graph.specs.Numbering.{IsGraphOf}
 use Rattle.tree_graph.specs.Rooted.{HasTree, IsTreeOf}
 use Rattle.call_rows.proofs.circuit_samples.Each.{each_pair}

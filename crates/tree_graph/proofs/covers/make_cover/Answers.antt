@@ -4,9 +4,9 @@ use Rattle.aig.specs.Graph.{flip}
 use Rattle.aig.specs.declared.node.Lit.{Lit}
 use Rattle.aig.proofs.Insert.{graph-some}
 use Rattle.aig.proofs.Folds.{row-at}
-use Rattle.tree_graph.specs.Making.{MakesRows}
+use Rattle.aig.specs.Making.{MakesRows}
 use Rattle.tree_graph.proofs.Built.{row_grown}
-use Rattle.tree_graph.proofs.Folds.{rows_step, rows_done}
+use Rattle.aig.proofs.Making.{rows_step, rows_done}
 use Rattle.tree_graph.proofs.covers.make_cover.Goals as goal
 
 pub loop-i-init : goal.loop-i-init

@@ -2,7 +2,7 @@ use Rattle.std.proofs.Common.{ℕ, ◌*◌, ◌<◌, ◌≤◌, List, length, ma
 use Rattle.aig.specs.declared.node.Node.{Node}
 use Rattle.aig.specs.Graph.{Grows}
 use Rattle.tree_graph.specs.declared.covers.TheConstants.{MOST_NODES}
-use Rattle.tree_graph.specs.Making.{MakesRows}
+use Rattle.aig.specs.Making.{MakesRows}
 use Rattle.tree_graph.proofs.covers.make_cover.Given as goal
 
 abbrev pub invariant-loop-i : goal.invariant-loop-i

@@ -4,7 +4,7 @@ use Rattle.circuit_theory.proofs.Lists.{length-map}
 use Rattle.aig.specs.declared.node.Lit.{Lit}
 use Rattle.aig.specs.Rules.{place_lit}
 use Rattle.tree_graph.proofs.Built.{place_grown}
-use Rattle.tree_graph.proofs.Folds.{cube_step, cube_done}
+use Rattle.aig.proofs.Making.{cube_step, cube_done}
 use Rattle.tree_graph.proofs.covers.make_cube.Goals as goal
 
 pub loop-i-init : goal.loop-i-init

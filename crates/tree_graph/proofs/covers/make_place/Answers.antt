@@ -3,7 +3,7 @@ use Rattle.std.specs.Prelude.{option_map, IfOk}
 use Rattle.aig.specs.declared.node.Lit.{Lit}
 use Rattle.aig.specs.Rules.{place_lit}
 use Rattle.aig.proofs.Insert.{place_lit-within}
-use Rattle.tree_graph.specs.Making.{MakesPlace}
+use Rattle.aig.specs.Making.{MakesPlace}
 use Rattle.tree_graph.proofs.covers.make_place.Goals as goal
 
 pub make_and-requires-clause-right : goal.make_and-requires-clause-right

@@ -2,7 +2,7 @@ use Rattle.std.proofs.Common.{ℕ, length, map, subst, arith}
 use Rattle.aig.proofs.Growth.{Grows-length}
 use Rattle.aig.specs.Graph.{flip}
 use Rattle.aig.specs.declared.node.Lit.{Lit}
-use Rattle.tree_graph.specs.Making.{MakesAnd}
+use Rattle.aig.specs.Making.{MakesAnd}
 use Rattle.tree_graph.proofs.Built.{cube_grown}
 use Rattle.tree_graph.proofs.covers.make_row.Goals as goal
 

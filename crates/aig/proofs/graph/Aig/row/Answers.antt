@@ -1,4 +1,6 @@
-use Rattle.std.proofs.Common.{length, map, arith}
+use Rattle.std.proofs.Common.{ℕ, length, map, subst, arith}
+use Rattle.aig.specs.Graph.{flip}
+use Rattle.aig.specs.Making.{MakesAnd}
 use Rattle.aig.proofs.Growth.{Grows-length, Grows-trans}
 use Rattle.aig.proofs.Folds.{row-is}
 use Rattle.aig.proofs.graph.Aig.row.Goals as goal
@@ -20,3 +22,13 @@ returns-clause-within c = c.not.ensures.within (length c.and.new.self) c.in_ok-b
 
 pub returns-clause-grows : goal.returns-clause-grows
 returns-clause-grows c = Grows-trans c.args.self.now c.cube.new.self c.and.new.self c.cube.ensures.grows c.and.ensures.grows
+
+pub returns-clause-made : goal.returns-clause-made
+returns-clause-made c =
+    let k = c.cube.new.self in
+    let h = c.and.new.self in
+    let z = c.in_ok-both.both.0 in
+    let own : MakesAnd k c.not-left.result.0 c.not-right.result.0 h z = (c.in_ok-both.ensures.made, c.in_ok-both.ensures.here) in
+    let and : MakesAnd k (flip c.args.from.0) (flip c.in_ok-cube.cube.0) h z =
+    subst (λ (l : ℕ). MakesAnd k l (flip c.in_ok-cube.cube.0) h z) c.not-left.ensures.literal (subst (λ (r : ℕ). MakesAnd k c.not-left.result.0 r h z) c.not-right.ensures.literal own) in
+    (k, c.in_ok-cube.cube.0, z, c.in_ok-cube.ensures.made, and, c.not.ensures.literal)

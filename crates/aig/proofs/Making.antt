@@ -1,10 +1,16 @@
--- One more place of a cube, and one more row of a cover.
-use Rattle.std.proofs.Common.{◌≡◌, ℕ, zero, suc, ◌+◌, ◌<◌, ◌≤◌, List, [], ◌∷◌, length, map, drop, get_or, refl, sym, ap, subst, ◌∙◌, arith}
+-- One more place of a cube that is made, and one more row of a cover.
+use Rattle.std.proofs.Common.{◌≡◌, ℕ, zero, suc, ◌+◌, ◌<◌, ◌≤◌, List, [], ◌∷◌, length, map, drop, get_or, Result, Ok, Err, refl, sym, ap, subst, ◌∙◌, arith}
+use Rattle.std.specs.Prelude.{IfOk, MatchResult}
 use Rattle.aig.specs.declared.node.Lit.{Lit}
 use Rattle.aig.specs.declared.node.Node.{Node}
-use Rattle.aig.specs.Rules.{place_lit}
+use Rattle.aig.specs.Rules.{place_lit, IsAndOf, IsWithAnd}
 use Rattle.aig.proofs.Folds.{numbers-drop, drop-next}
-use Rattle.tree_graph.specs.Making.{MakesPlace, MakesCube, MakesRow, MakesRows}
+use Rattle.aig.specs.Making.{MakesAnd, MakesPlace, MakesCube, MakesRow, MakesRows}
+
+-- an and, by both clauses of the call
+pub and_made : {E : Type 0} (g h : List Node) (l r : ℕ) (made : Result Lit E) → IfOk made (λ x. IsAndOf h l r x.0) → MatchResult made (λ x. IsWithAnd g l r h) (λ e. h ≡ g) → IfOk made (λ x. MakesAnd g l r h x.0)
+and_made g h l r (Ok x) is with = (with, is)
+and_made g h l r (Err e) is same = is
 
 pub cube_step : (g k h : List Node) (from : ℕ) (places : List ℕ) (fs : List Lit) (i : ℕ) (p : ℕ) (f d : Lit) (y x : ℕ) → p ≡ get_or places i 0 → f ≡ get_or fs i d → i < length places → i < length fs → MakesPlace g from (place_lit p f.0) k y →
     MakesCube k y (drop (i + 1) places) (drop (i + 1) (map (λ f. f.0) fs)) h x → MakesCube g from (drop i places) (drop i (map (λ f. f.0) fs)) h x
