@@ -170,4 +170,5 @@ def main():
             at_random(variables, seed).write(f"{folder}/random_{variables:03}_{seed}.cnf")
 
 
-main()
+if __name__ == "__main__":
+    main()
