@@ -1,9 +1,5 @@
 -- A job of the words allows at most 200,000 conflicts; where runs begin with initial values it cuts no latch open, and its mode is plain.
-<<<<<<< ours
-use Rattle.std.specs.Prelude.{◌==◌, ◌&&◌, ◌||◌, option_and_then, option_map, codes, bytes_eq, IfSome}
-=======
-use Rattle.std.specs.Prelude.{◌==◌, ◌&&◌, ◌||◌, not, is_some, option_and_then, option_map, codes, bytes_eq}
->>>>>>> theirs
+use Rattle.std.specs.Prelude.{◌==◌, ◌&&◌, ◌||◌, option_and_then, option_map, codes, bytes_eq, IfSome, not, is_some}
 use Rattle.std.specs.Str.Parse.{digits_value, without_leading_plus}
 use Rattle.clap.specs.Words.{Row, Text, fault_of, first_of, subcommand_of}
 use Rattle.clap.specs.ValueTests.{accepts}
@@ -15,11 +11,7 @@ use Rattle.sec_base.specs.declared.settings.Settings.{Settings}
 use Rattle.command_line.specs.declared.task.Task.{Task}
 use Rattle.command_line.specs.declared.task.Task.TheVariants as task
 use Rattle.command_line.specs.command_words.Command.{sec_app, most_conflicts, most_cycles, any_number}
-<<<<<<< ours
-use Rattle.command_line.specs.Jobs.{task_in, check_in, compared_in, checked_in, begun_in, paired_in, stands_alone, graph_in, sim_in, replay_in, settle_in, gen_in, lrat_in, cert_in, induct_in, form_in, settings_in, conflicts_in, mode_in, mode_of, refuses_reset, number_of, is_set, with_word, last_in, inducted_in, tied_in, searched_in}
-=======
-use Rattle.command_line.specs.Jobs.{task_in, check_in, compared_in, checked_in, begun_in, paired_in, renamed_in, stands_alone, graph_in, sim_in, replay_in, settle_in, gen_in, lrat_in, cert_in, induct_in, form_in, settings_in, conflicts_in, mode_in, mode_of, refuses_reset, number_of, is_set, with_word, inducted_in, tied_in, searched_in}
->>>>>>> theirs
+use Rattle.command_line.specs.Jobs.{task_in, check_in, compared_in, checked_in, begun_in, paired_in, stands_alone, graph_in, sim_in, replay_in, settle_in, gen_in, lrat_in, cert_in, induct_in, form_in, settings_in, conflicts_in, mode_in, mode_of, refuses_reset, number_of, is_set, with_word, last_in, inducted_in, tied_in, searched_in, renamed_in}
 use Rattle.command_line.specs.Allowed.{IsAllowed, JobsAreAllowed}
 
 some_is : {X : Type 0} {x y : X} → Some x ≡ Some y → x ≡ y

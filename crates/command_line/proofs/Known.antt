@@ -17,13 +17,8 @@ use Rattle.clap.specs.Walk.{Row, Rule, Text, Walk, answers_to, finished, first_o
 use Rattle.clap.specs.Simple.{App, Shape, built, built_leaf, entered, help_shape, inherited, label_of, marked_built, names_of, rows_at, subcommand_of, with_leaf_noted}
 use Rattle.clap.specs.declared.builder.value_parser.ValueParser.{ValueParser}
 use Rattle.command_line.specs.command_words.Command.{sec_app, check_app, graph_app, sim_app, replay_app, settle_app, gen_app, lrat_app, cert_app, induct_app, most_conflicts, most_cycles, any_number}
-<<<<<<< ours
-use Rattle.command_line.specs.Jobs.{begun_in, cert_in, check_in, checked_in, conflicts_in, form_in, gen_in, graph_in, induct_in, is_set, job_of, lrat_in, mode_in, number_of, paired_in, replay_in, settle_in, sim_in, stands_alone, task_in, tied_in}
-use Rattle.command_line.specs.Known.{HasFitMode, after_fits, cycles_fit, cycles_given, mode_fits, pair_fits, ties_fit, tied_fits}
-=======
-use Rattle.command_line.specs.Jobs.{begun_in, cert_in, check_in, checked_in, conflicts_in, form_in, gen_in, graph_in, induct_in, is_set, job_of, lrat_in, mode_in, number_of, paired_in, renamed_in, replay_in, settle_in, sim_in, stands_alone, task_in, tied_in}
-use Rattle.command_line.specs.Known.{HasFitMode, after_fits, cycles_fit, cycles_given, mode_fits, pair_fits, pairs_fit, tied_fits}
->>>>>>> theirs
+use Rattle.command_line.specs.Jobs.{begun_in, cert_in, check_in, checked_in, conflicts_in, form_in, gen_in, graph_in, induct_in, is_set, job_of, lrat_in, mode_in, number_of, paired_in, replay_in, settle_in, sim_in, stands_alone, task_in, tied_in, renamed_in}
+use Rattle.command_line.specs.Known.{HasFitMode, after_fits, cycles_fit, cycles_given, mode_fits, pair_fits, ties_fit, tied_fits, pairs_fit}
 use Rattle.command_line.proofs.Taken.{else_first, else_next, EachRule, IsNotHelp, IsOwn, no_help_walk}
 use Rattle.command_line.proofs.Leaves.{IsRead, first_good, first_has, leaf_read, second_check}
 

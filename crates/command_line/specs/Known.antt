@@ -23,30 +23,22 @@ after_fits rows = not (is_some (first_of (codes "after") rows)) || (is_set (code
 abbrev pub pair_fits : List Row → Bool
 pair_fits rows = not (is_some (first_of (codes "pair") rows)) || stands_alone (is_set (codes "settles") rows) (first_of (codes "assume") rows) (first_of (codes "cycles") rows) (first_of (codes "after") rows)
 
-<<<<<<< ours
--- An assumption and a stimulus aren't given, or one of them is beside `--signals`.
-abbrev pub ties_fit : Bool → Option Text → Option Text → Bool
-ties_fit signals assumed after = not (is_some assumed || is_some after) || (signals && not (is_some assumed && is_some after))
-
-=======
 -- `--pairs` isn't given, or stands beside `--expose` and beside none of these nor `--pair`
 abbrev pub pairs_fit : List Row → Bool
 pairs_fit rows =
     not (is_some (first_of (codes "pairs") rows))
     || (is_set (codes "expose") rows && (stands_alone (is_set (codes "settles") rows) (first_of (codes "assume") rows) (first_of (codes "cycles") rows) (first_of (codes "after") rows) && not (is_some (first_of (codes "pair") rows))))
 
--- `--after` isn't given, or stands beside `--signals`
->>>>>>> theirs
+-- An assumption and a stimulus aren't given, or one of them is beside `--signals`.
+abbrev pub ties_fit : Bool → Option Text → Option Text → Bool
+ties_fit signals assumed after = not (is_some assumed || is_some after) || (signals && not (is_some assumed && is_some after))
+
 abbrev pub tied_fits : List Row → Bool
 tied_fits rows = ties_fit (is_set (codes "signals") rows) (first_of (codes "assume") rows) (first_of (codes "after") rows)
 
 -- The mode among the subcommand's matches is one of the two, and `--reset` may stand beside it; `gen`, `lrat` and `induct` have none, and
-<<<<<<< ours
--- `cert` has a form in its place. Nothing refuses the cycles of `check`, nor its stimulus, nor its one name, nor the
+-- `cert` has a form in its place. Nothing refuses the cycles of `check`, nor its stimulus, nor its one name, nor its pairs, nor the
 -- stimulus or the assumption of `induct`.
-=======
--- `cert` has a form in its place. Nothing refuses the cycles of `check`, nor its stimulus, nor its one name, nor its pairs, nor the stimulus of `induct`.
->>>>>>> theirs
 abbrev pub mode_fits : Text → List Row → Bool
 mode_fits name rows =
     bytes_eq name (codes "gen") || (bytes_eq name (codes "lrat") || (if bytes_eq name (codes "induct") then tied_fits rows else if bytes_eq name (codes "cert") then is_some (form_in rows) else if bytes_eq name (codes "check") then is_some (mode_in rows) && (cycles_fit rows && (after_fits rows && (pair_fits rows && pairs_fit rows))) else is_some (mode_in rows)))

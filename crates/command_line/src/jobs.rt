@@ -6,11 +6,7 @@ ghost use Rattle.clap.specs.Words.{fault_of, first_of, found_of, rows_of, subcom
 ghost use Rattle.clap.specs.ValueTests.{accepts};
 ghost use Rattle.clap.specs.declared.builder.value_parser.ValueParser.TheVariants as parser;
 ghost use Rattle.command_line.specs.command_words.Command.{sec_app};
-<<<<<<< ours
-ghost use Rattle.command_line.specs.Jobs.{job_of, task_in, check_in, compared_in, graph_in, sim_in, replay_in, settle_in, gen_in, lrat_in, cert_in, induct_in, form_in, mode_of, mode_in, refuses_reset, is_set, number_of, conflicts_in, settings_in, checked_in, paired_in, stands_alone, search_in, last_in, after_in, inducted_in, tied_in, searched_in};
-=======
-ghost use Rattle.command_line.specs.Jobs.{job_of, task_in, check_in, compared_in, graph_in, sim_in, replay_in, settle_in, gen_in, lrat_in, cert_in, induct_in, form_in, mode_of, mode_in, refuses_reset, is_set, number_of, conflicts_in, settings_in, checked_in, paired_in, renamed_in, stands_alone, search_in, after_in, inducted_in, tied_in, searched_in};
->>>>>>> theirs
+ghost use Rattle.command_line.specs.Jobs.{job_of, task_in, check_in, compared_in, graph_in, sim_in, replay_in, settle_in, gen_in, lrat_in, cert_in, induct_in, form_in, mode_of, mode_in, refuses_reset, is_set, number_of, conflicts_in, settings_in, checked_in, paired_in, stands_alone, search_in, last_in, after_in, inducted_in, tied_in, searched_in, renamed_in};
 
 use crate::command_words::sec_command;
 use crate::task::Task;
@@ -24,22 +20,11 @@ use std::alloc::{AllocError, Global};
 #[derive(Clone, Copy)]
 pub enum WordsError {
     /// `clap`'s definition for the command doesn't take the words, the mode is neither `plain` nor `event`, `--reset` stands with
-<<<<<<< ours
     /// `event`, with `--expose` or with `--settles`, `--cycles` or `--after` of `check` stands without
-    /// `--reset`, `--after` with `--assume`, or of `induct` without `--signals`, `--pair` with
-    /// `--settles`, `--assume`, `--cycles` or `--after`, or the form of a certificate is neither `cnf`
-    /// nor `lrat`.
-=======
-    /// `event`, with `--expose` or with `--settles`, `--cycles` stands without `--reset`, `--after`
-<<<<<<< ours
-    /// without `--cycles` or `--signals` or with `--assume`, `--assume` behind `induct` without `--signals`, `--pair` with `--settles`, `--assume`,
-    /// `--cycles` or `--after`, or the form of a certificate is neither `cnf` nor `lrat`.
->>>>>>> theirs
-=======
-    /// without `--cycles` or `--signals` or with `--assume`, `--pair` with `--settles`, `--assume`,
-    /// `--cycles` or `--after`, `--pairs` with one of these or with `--pair` or without `--expose`, or the
-    /// form of a certificate is neither `cnf` nor `lrat`.
->>>>>>> theirs
+    /// `--reset`, `--after` with `--assume`, `--after` or `--assume` of `induct` without `--signals` or
+    /// both there, `--pair` with `--settles`, `--assume`, `--cycles` or `--after`, `--pairs` with one of
+    /// these or with `--pair` or without `--expose`, or the form of a certificate is neither `cnf` nor
+    /// `lrat`.
     Refused,
     /// Memory was wanted and couldn't be had.
     NoMemory,
@@ -242,23 +227,6 @@ fn paired_in(
     }))
 }
 
-<<<<<<< ours
-/// The last cycle that the word spells; without a word none is named.
-fn last_in(cycles: Option<&str>) -> Option<Option<u32>>
-    ensures { result ≡ last_in (option_map (λ w. w.now) cycles.entry) }
-{
-    match cycles {
-        Some(word) => {
-            let last = number_of(0, 1_000, word)?;
-            Some(Some(last as u32))
-        }
-        None => Some(None),
-    }
-}
-
-/// The search behind the rows of the stimulus, up to the cycle that the word spells, or without one in all cycles. It stands only beside
-/// `--reset`, and without an assumption.
-=======
 /// The comparison whose latches the file pairs. It stands only beside `--expose`, and beside none of `--settles`, `--assume`, `--cycles`,
 /// `--after` and `--pair`.
 fn renamed_in(
@@ -284,9 +252,21 @@ fn renamed_in(
     }))
 }
 
-/// The search behind the rows of the stimulus, up to the cycle that the word spells. It stands only beside `--reset` and `--cycles`, and
-/// without an assumption.
->>>>>>> theirs
+/// The last cycle that the word spells; without a word none is named.
+fn last_in(cycles: Option<&str>) -> Option<Option<u32>>
+    ensures { result ≡ last_in (option_map (λ w. w.now) cycles.entry) }
+{
+    match cycles {
+        Some(word) => {
+            let last = number_of(0, 1_000, word)?;
+            Some(Some(last as u32))
+        }
+        None => Some(None),
+    }
+}
+
+/// The search behind the rows of the stimulus, up to the cycle that the word spells, or without one in all cycles. It stands only beside
+/// `--reset`, and without an assumption.
 fn after_in(
     alloc: Global,
     a: &str,
