@@ -1,5 +1,5 @@
 -- A job of the words allows at most 200,000 conflicts; where runs begin with initial values it cuts no latch open, and its mode is plain.
-use Rattle.std.specs.Prelude.{◌==◌, ◌&&◌, ◌||◌, option_and_then, option_map, codes, bytes_eq}
+use Rattle.std.specs.Prelude.{◌==◌, ◌&&◌, ◌||◌, option_and_then, option_map, codes, bytes_eq, IfSome}
 use Rattle.std.specs.Str.Parse.{digits_value, without_leading_plus}
 use Rattle.clap.specs.Words.{Row, Text, fault_of, first_of, subcommand_of}
 use Rattle.clap.specs.ValueTests.{accepts}
@@ -11,7 +11,7 @@ use Rattle.sec_base.specs.declared.settings.Settings.{Settings}
 use Rattle.command_line.specs.declared.task.Task.{Task}
 use Rattle.command_line.specs.declared.task.Task.TheVariants as task
 use Rattle.command_line.specs.command_words.Command.{sec_app, most_conflicts, most_cycles, any_number}
-use Rattle.command_line.specs.Jobs.{task_in, check_in, compared_in, checked_in, begun_in, paired_in, stands_alone, graph_in, sim_in, replay_in, settle_in, gen_in, lrat_in, cert_in, induct_in, form_in, settings_in, conflicts_in, mode_in, mode_of, refuses_reset, number_of, is_set, with_word, inducted_in, tied_in, searched_in}
+use Rattle.command_line.specs.Jobs.{task_in, check_in, compared_in, checked_in, begun_in, paired_in, stands_alone, graph_in, sim_in, replay_in, settle_in, gen_in, lrat_in, cert_in, induct_in, form_in, settings_in, conflicts_in, mode_in, mode_of, refuses_reset, number_of, is_set, with_word, last_in, inducted_in, tied_in, searched_in}
 use Rattle.command_line.specs.Allowed.{IsAllowed, JobsAreAllowed}
 
 some_is : {X : Type 0} {x y : X} → Some x ≡ Some y → x ≡ y
@@ -110,6 +110,13 @@ few_cycles word n e =
     let number = where_true (accepts false most_cycles word) (Some (digits_value 10 (without_leading_plus word))) n e in
     subst (λ (k : ℕ). k ≤ 1000) (some_is number.1) (accepts-Accepts false most_cycles word number.0).3
 
+-- a last cycle that is named
+few_last : (cycles : Option Text) (last : Option ℕ) → last_in cycles ≡ Some last → IfSome last (λ n. n ≤ 1000)
+few_last None last e = subst (λ (o : Option ℕ). IfSome o (λ n. n ≤ 1000)) (some_is e) tt
+few_last (Some word) last e =
+    let n = map_some (λ (k : ℕ). Some k) (number_of most_cycles word) last e in
+    subst (λ (o : Option ℕ). IfSome o (λ k. k ≤ 1000)) n.2 (few_cycles word n.0 n.1)
+
 allowed_searched : (a b : Text) (assumed : Option Text) (n conflicts : ℕ) → (conflicts ≤ 200000) × (n ≤ 1000) → IsAllowed (searched_in a b assumed n conflicts)
 allowed_searched a b None n conflicts h = h
 allowed_searched a b (Some c) n conflicts h = h
@@ -125,12 +132,11 @@ allowed_checked settles a b s assumed (Some word) allowed always job e =
 -- the same behind the rows of a stimulus, where one is named
 allowed_begun : (settles : Bool) (a b : Text) (s : Settings) (assumed cycles after : Option Text) → AreAllowed s → (settles ≡ true → s.reset ≡ false) → (job : Task) → begun_in settles a b s assumed cycles after ≡ Some job → IsAllowed job
 allowed_begun settles a b s assumed cycles None allowed always job e = allowed_checked settles a b s assumed cycles allowed always job e
-allowed_begun settles a b s assumed None (Some z) allowed always job e = absurd (cc)
-allowed_begun settles a b s (Some c) (Some word) (Some z) allowed always job e = absurd (cc)
-allowed_begun settles a b s None (Some word) (Some z) allowed always job e =
-    let set = where_true s.reset (option_map (λ n. task.After a b z n s.conflicts) (number_of most_cycles word)) job e in
-    let cycles = map_some (λ n. task.After a b z n s.conflicts) (number_of most_cycles word) job set.1 in
-    subst IsAllowed cycles.2 (allowed.0, few_cycles word cycles.0 cycles.1)
+allowed_begun settles a b s (Some c) cycles (Some z) allowed always job e = absurd (cc)
+allowed_begun settles a b s None cycles (Some z) allowed always job e =
+    let set = where_true s.reset (option_map (λ n. task.After a b z n s.conflicts) (last_in cycles)) job e in
+    let last = map_some (λ n. task.After a b z n s.conflicts) (last_in cycles) job set.1 in
+    subst IsAllowed last.2 (allowed.0, few_last cycles last.0 last.1)
 
 -- or the comparison of the outputs of one name
 allowed_paired : (settles : Bool) (a b : Text) (s : Settings) (assumed cycles after pair : Option Text) → AreAllowed s → (settles ≡ true → s.reset ≡ false) → (job : Task) → paired_in settles a b s assumed cycles after pair ≡ Some job → IsAllowed job

@@ -1,5 +1,5 @@
 -- What each job of the words keeps.
-use Rattle.std.specs.Prelude.{◌≡◌, ◌≤◌, true, false, List, Some}
+use Rattle.std.specs.Prelude.{◌≡◌, ◌≤◌, true, false, List, Some, IfSome}
 use Rattle.clap.specs.Words.{Text}
 use Rattle.circuit_theory.specs.declared.Mode.TheVariants.{Plain}
 use Rattle.sec_base.specs.declared.limits.TheConstants.{MAX_CONFLICTS}
@@ -22,7 +22,7 @@ IsAllowed (task.Lrat f l) = Unit {0}
 IsAllowed (task.Cert a b pair lrat conflicts) = conflicts ≤ MAX_CONFLICTS
 IsAllowed (task.Search a b cycles conflicts) = (conflicts ≤ MAX_CONFLICTS) × (cycles ≤ 1000)
 IsAllowed (task.SearchUnder a b c cycles conflicts) = (conflicts ≤ MAX_CONFLICTS) × (cycles ≤ 1000)
-IsAllowed (task.After a b s cycles conflicts) = (conflicts ≤ MAX_CONFLICTS) × (cycles ≤ 1000)
+IsAllowed (task.After a b s cycles conflicts) = (conflicts ≤ MAX_CONFLICTS) × IfSome cycles (λ last. last ≤ 1000)
 IsAllowed (task.Induct a b conflicts) = conflicts ≤ MAX_CONFLICTS
 IsAllowed (task.InductSignals a b conflicts) = conflicts ≤ MAX_CONFLICTS
 IsAllowed (task.InductAfter a b s conflicts) = conflicts ≤ MAX_CONFLICTS

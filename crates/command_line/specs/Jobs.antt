@@ -66,12 +66,16 @@ abbrev pub checked_in : Bool → Text → Text → Settings → Option Text → 
 checked_in settles a b settings assumed None = Some (compared_in settles a b settings assumed)
 checked_in settles a b settings assumed (Some word) = search_in a b settings assumed word
 
--- the search behind the rows of a stimulus, up to the cycle that the word spells; it stands only beside `--reset` and `--cycles`, and
--- without an assumption
+-- the last cycle that the word spells; without a word none is named
+abbrev pub last_in : Option Text → Option (Option ℕ)
+last_in None = Some None
+last_in (Some word) = option_map (λ cycles. Some cycles) (number_of most_cycles word)
+
+-- the search behind the rows of a stimulus, up to the cycle that the word spells, or without one in all cycles; it stands only beside
+-- `--reset`, and without an assumption
 abbrev pub after_in : Text → Text → Text → Settings → Option Text → Option Text → Option Task
-after_in a b s settings assumed None = None
-after_in a b s settings (Some assumed) (Some word) = None
-after_in a b s settings None (Some word) = if settings.reset then option_map (λ cycles. task.After a b s cycles settings.conflicts) (number_of most_cycles word) else None
+after_in a b s settings (Some assumed) cycles = None
+after_in a b s settings None cycles = if settings.reset then option_map (λ last. task.After a b s last settings.conflicts) (last_in cycles) else None
 
 -- the same where a stimulus is named
 abbrev pub begun_in : Bool → Text → Text → Settings → Option Text → Option Text → Option Text → Option Task

@@ -6,7 +6,7 @@ ghost use Rattle.clap.specs.Words.{fault_of, first_of, found_of, rows_of, subcom
 ghost use Rattle.clap.specs.ValueTests.{accepts};
 ghost use Rattle.clap.specs.declared.builder.value_parser.ValueParser.TheVariants as parser;
 ghost use Rattle.command_line.specs.command_words.Command.{sec_app};
-ghost use Rattle.command_line.specs.Jobs.{job_of, task_in, check_in, compared_in, graph_in, sim_in, replay_in, settle_in, gen_in, lrat_in, cert_in, induct_in, form_in, mode_of, mode_in, refuses_reset, is_set, number_of, conflicts_in, settings_in, checked_in, paired_in, stands_alone, search_in, after_in, inducted_in, tied_in, searched_in};
+ghost use Rattle.command_line.specs.Jobs.{job_of, task_in, check_in, compared_in, graph_in, sim_in, replay_in, settle_in, gen_in, lrat_in, cert_in, induct_in, form_in, mode_of, mode_in, refuses_reset, is_set, number_of, conflicts_in, settings_in, checked_in, paired_in, stands_alone, search_in, last_in, after_in, inducted_in, tied_in, searched_in};
 
 use crate::command_words::sec_command;
 use crate::task::Task;
@@ -20,9 +20,10 @@ use std::alloc::{AllocError, Global};
 #[derive(Clone, Copy)]
 pub enum WordsError {
     /// `clap`'s definition for the command doesn't take the words, the mode is neither `plain` nor `event`, `--reset` stands with
-    /// `event`, with `--expose` or with `--settles`, `--cycles` stands without `--reset`, `--after`
-    /// without `--cycles` or `--signals` or with `--assume`, `--pair` with `--settles`, `--assume`,
-    /// `--cycles` or `--after`, or the form of a certificate is neither `cnf` nor `lrat`.
+    /// `event`, with `--expose` or with `--settles`, `--cycles` or `--after` of `check` stands without
+    /// `--reset`, `--after` with `--assume`, or of `induct` without `--signals`, `--pair` with
+    /// `--settles`, `--assume`, `--cycles` or `--after`, or the form of a certificate is neither `cnf`
+    /// nor `lrat`.
     Refused,
     /// Memory was wanted and couldn't be had.
     NoMemory,
@@ -222,8 +223,21 @@ fn paired_in(
     }))
 }
 
-/// The search behind the rows of the stimulus, up to the cycle that the word spells. It stands only beside `--reset` and `--cycles`, and
-/// without an assumption.
+/// The last cycle that the word spells; without a word none is named.
+fn last_in(cycles: Option<&str>) -> Option<Option<u32>>
+    ensures { result ≡ last_in (option_map (λ w. w.now) cycles.entry) }
+{
+    match cycles {
+        Some(word) => {
+            let last = number_of(0, 1_000, word)?;
+            Some(Some(last as u32))
+        }
+        None => Some(None),
+    }
+}
+
+/// The search behind the rows of the stimulus, up to the cycle that the word spells, or without one in all cycles. It stands only beside
+/// `--reset`, and without an assumption.
 fn after_in(
     alloc: Global,
     a: &str,
@@ -238,10 +252,7 @@ fn after_in(
     if !settings.reset || assumed.is_some() {
         return Ok(None);
     }
-    let Some(cycles) = cycles else {
-        return Ok(None);
-    };
-    let Some(cycles) = number_of(0, 1_000, cycles) else {
+    let Some(cycles) = last_in(cycles) else {
         return Ok(None);
     };
     let s = FilePath::from_str(alloc, stimulus)?;
@@ -250,7 +261,7 @@ fn after_in(
         a,
         b,
         s,
-        cycles: cycles as u32,
+        cycles,
         conflicts: settings.conflicts,
     }))
 }

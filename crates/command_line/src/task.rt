@@ -90,12 +90,13 @@ pub enum Task {
         cycles: u32,
         conflicts: u32,
     },
-    /// Search them for a difference behind the rows of a stimulus, whatever they power up with, in the cycles from 0 to a last one there.
+    /// Search them for a difference behind the rows of a stimulus, whatever they power up with, in the cycles from 0 to a last one there,
+    /// or without one in all cycles.
     After {
         a: FilePath,
         b: FilePath,
         s: FilePath,
-        cycles: u32,
+        cycles: Option<u32>,
         conflicts: u32,
     },
     /// Compare the circuits of two files from their initial values, by blocks of latches that are equal in every cycle.
