@@ -1,5 +1,5 @@
 -- A search up to the greatest depth decides all.
-use Rattle.std.proofs.Common.{◌≡◌, ◌<◌, ◌≤◌, ℕ, max, List, [], ◌∷◌, ◌++◌, map, sym, subst, arith, inl, inr, ◌⊎◌, Option, Some, None, false, Err}
+use Rattle.std.proofs.Common.{◌≡◌, ◌<◌, ◌≤◌, ℕ, max, List, [], ◌∷◌, ◌++◌, map, sym, subst, arith, inl, inr, ◌⊎◌, Option, Some, None, false, Err, refl}
 use Rattle.std.specs.List.{Contains}
 use Rattle.std.proofs.lemmas.Bool.{cases_lt}
 use Rattle.std.proofs.lemmas.List.Elements.{Contains-push, Contains-push_cases, Contains-append_left}
@@ -38,21 +38,24 @@ module _ (c e : Circuit ℕ) where
   pub none_deep : IsGreatestDepth c e [] 0
   none_deep = record { each = λ x h. absurd (omega (arith, h.1)); reached = inl refl }
 
+  -- the greater depth is that of the pair or of one before
+  abbrev Reached : List (NamedPair ℕ ℕ) → ℕ → Type 0
+  Reached pairs last = (last ≡ 0) ⊎ ((y : NamedPair ℕ ℕ) × Contains pairs y × IsPairDepth c e y.left y.right last)
+
+  most : (pairs : List (NamedPair ℕ ℕ)) (x : NamedPair ℕ ℕ) (greatest depth : ℕ) → IsPairDepth c e x.left x.right depth → (greatest < depth) ⊎ (depth ≤ greatest) → Reached pairs greatest → Reached (pairs ++ x ∷ []) (max depth greatest)
+  most pairs x greatest depth deep (inl over) before =
+      inr (x, Contains-push pairs x, subst (λ (d : ℕ). IsPairDepth c e x.left x.right d) (let same : depth ≡ max depth greatest = omega (arith, over) in same) deep)
+  most pairs x greatest depth deep (inr under) (inl zero) = inl (omega (arith, under, zero))
+  most pairs x greatest depth deep (inr under) (inr (y, k, is)) =
+      inr (y, Contains-append_left pairs (x ∷ []) y k, subst (λ (d : ℕ). IsPairDepth c e y.left y.right d) (let same : greatest ≡ max depth greatest = omega (arith, under) in same) is)
+
   -- with one pair more
   pub deeper : (pairs : List (NamedPair ℕ ℕ)) (x : NamedPair ℕ ℕ) (greatest depth : ℕ) → IsGreatestDepth c e pairs greatest → IsPairDepth c e x.left x.right depth → IsGreatestDepth c e (pairs ++ x ∷ []) (max depth greatest)
-  deeper pairs x greatest depth h deep = record { each = λ y k. by y (Contains-push_cases pairs x y k); reached = most (cases_lt greatest depth) h.reached }
+  deeper pairs x greatest depth h deep = record { each = λ y k. by y (Contains-push_cases pairs x y k); reached = most pairs x greatest depth deep (cases_lt greatest depth) h.reached }
     where
       by : (y : NamedPair ℕ ℕ) → Contains pairs y ⊎ (x ≡ y) → (d : ℕ) × IsPairDepth c e y.left y.right d × (d ≤ max depth greatest)
       by y (inl k) = let d = h.each y k in (d.0, d.1, omega (arith, d.2))
       by y (inr is) = (depth, subst (λ (z : NamedPair ℕ ℕ). IsPairDepth c e z.left z.right depth) is deep, omega arith)
-
-      abbrev Reached : Type 0
-      Reached = (max depth greatest ≡ 0) ⊎ ((y : NamedPair ℕ ℕ) × Contains (pairs ++ x ∷ []) y × IsPairDepth c e y.left y.right (max depth greatest))
-
-      most : (greatest < depth) ⊎ (depth ≤ greatest) → (greatest ≡ 0) ⊎ ((y : NamedPair ℕ ℕ) × Contains pairs y × IsPairDepth c e y.left y.right greatest) → Reached
-      most (inl over) before = inr (x, Contains-push pairs x, subst (λ (d : ℕ). IsPairDepth c e x.left x.right d) (let same : depth ≡ max depth greatest = omega (arith, over) in same) deep)
-      most (inr under) (inl zero) = inl (omega (arith, under, zero))
-      most (inr under) (inr (y, k, is)) = inr (y, Contains-append_left pairs (x ∷ []) y k, subst (λ (d : ℕ). IsPairDepth c e y.left y.right d) (let same : greatest ≡ max depth greatest = omega (arith, under) in same) is)
 
 -- the setup of nets in which no latch lies on a cycle
 pub setup_of : (a b : NetView) (s : Setup) → IsSettingOf a b s → IsAcyclic a × IsAcyclic b → IsSetup s
