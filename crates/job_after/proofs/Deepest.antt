@@ -1,5 +1,6 @@
 -- A search up to the greatest depth decides all.
-use Rattle.std.proofs.Common.{◌≡◌, ◌<◌, ◌≤◌, ℕ, max, List, [], ◌∷◌, ◌++◌, map, sym, subst, arith, inl, inr, ◌⊎◌, Option, Some, None, false, Err, refl}
+use Rattle.std.proofs.Common.{◌≡◌, ◌<◌, ◌≤◌, ℕ, max, List, [], ◌∷◌, ◌++◌, map, sym, subst, arith, inl, inr, ◌⊎◌, Option, Some, None, false, Result, Ok, Err, refl}
+use Rattle.std.specs.Prelude.{IsErrAnd}
 use Rattle.std.specs.List.{Contains}
 use Rattle.std.proofs.lemmas.Bool.{cases_lt}
 use Rattle.std.proofs.lemmas.List.Elements.{Contains-push, Contains-push_cases, Contains-append_left}
@@ -19,7 +20,8 @@ use Rattle.cycle_search.specs.declared.found.Searched.{Searched}
 use Rattle.cycle_search.specs.declared.found.SearchVerdict.TheVariants as verdict
 use Rattle.cycle_search.specs.Settings.{IsSettingOf}
 use Rattle.cycle_search.specs.Searches.{AreSearched, VerdictFits}
-use Rattle.job_after.specs.Last.{IsGreatestDepth, IsDeepest, IsLast, DecidesAll}
+use Rattle.job_after.specs.declared.fault.AfterFault.{AfterFault}
+use Rattle.job_after.specs.Last.{IsGreatestDepth, IsDeepest, IsLast, DecidesAll, setup_fault, EndsIn}
 
 -- without a wanted last cycle a search that ends with no difference stopped before a next one
 pub decided : (l r : NetView) (wanted : Option ℕ) (last conflicts : ℕ) (s : Searched) → IsLast l r wanted last → AreSearched l r last conflicts s → wanted ≡ None → s.verdict ≡ verdict.NoDifference None → ⊥
@@ -94,3 +96,24 @@ cyclic a b (unset.Interface name) match h = absurd h
 cyclic a b (unset.Cyclic side names) match h = (match, h)
 cyclic a b (unset.Unpaired side names) match h = tt
 cyclic a b unset.NoMemory match h = tt
+
+-- what is true of an error is true of the result that it is
+pub passed : (a b : NetView) (r : Result ℕ SetupError) (e : SetupError) → IsErrAnd r (λ x. x ≡ e) → DecidesAll a b (Err e) → DecidesAll a b r
+passed a b (Ok x) e h p = absurd h
+passed a b (Err x) e h p = subst (λ (y : SetupError). DecidesAll a b (Err y)) (sym h) p
+
+-- without a wanted last cycle it is that of the greatest depth
+pub last_of : (a b : NetView) (wanted : Option ℕ) (last : ℕ) → wanted ≡ None → IsDeepest a b last → IsLast a b wanted last
+last_of a b (Some n) last none h = absurd (cc)
+last_of a b None last none h = h
+
+-- or there is none
+pub endless_of : (a b : NetView) (wanted : Option ℕ) (r : Result ℕ AfterFault) (e : SetupError) → wanted ≡ None → IsErrAnd r (λ x. x ≡ setup_fault e) → DecidesAll a b (Err e) → EndsIn a b wanted r
+endless_of a b wanted (Ok x) e none h p = absurd h
+endless_of a b wanted (Err x) e none h p = subst (λ (y : AfterFault). EndsIn a b wanted (Err y)) (sym h) (by e p)
+  where
+    by : (e : SetupError) → DecidesAll a b (Err e) → EndsIn a b wanted (Err (setup_fault e))
+    by (unset.Interface name) p = p
+    by (unset.Cyclic side names) p = (none, p)
+    by (unset.Unpaired side names) p = tt
+    by unset.NoMemory p = tt
