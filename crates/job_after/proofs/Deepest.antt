@@ -31,10 +31,11 @@ decided l r None last conflicts s is are none e =
     let n = are.numbers in
     let fits : VerdictFits n l r last s.last pairs s.pairs (verdict.NoDifference None) = subst (VerdictFits n l r last s.last pairs s.pairs) e are.found.verdict_is in
     fits.1 (λ x h.
-    let d = is.greatest.each x h in
-    (d.0,
-    subst (λ (c : Circuit ℕ). IsPairDepth c n.b x.left x.right d.0) (sym are.are_numbers.left_is) (subst (λ (c : Circuit ℕ). IsPairDepth (circuit_of l) c x.left x.right d.0) (sym are.are_numbers.right_is) d.1),
-    omega (arith, d.2, fits.2)))
+    let d = is.greatest.each x h in (
+      d.0,
+      subst (λ (c : Circuit ℕ). IsPairDepth c n.b x.left x.right d.0) (sym are.are_numbers.left_is) (subst (λ (c : Circuit ℕ). IsPairDepth (circuit_of l) c x.left x.right d.0) (sym are.are_numbers.right_is) d.1),
+      omega (arith, d.2, fits.2),
+    ))
 
 module _ (c e : Circuit ℕ) where
   pub none_deep : IsGreatestDepth c e [] 0
