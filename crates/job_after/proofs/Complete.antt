@@ -1,6 +1,6 @@
 -- Where two circuits can be compared behind the rows of a stimulus, they are.
 use Rattle.std.specs.Prelude.{IsSomeAnd}
-use Rattle.std.proofs.Common.{◌≡◌, ◌∙◌, ◌⊎◌, ℕ, Bool, List, [], ◌∷◌, sym, ap, inl, inr, Option, Some, None}
+use Rattle.std.proofs.Common.{◌≡◌, ◌∙◌, ◌⊎◌, ℕ, Bool, List, [], ◌∷◌, sym, ap, subst, inl, inr, Option, Some, None}
 use Rattle.std.proofs.lemmas.Option.{none-some}
 use Rattle.circuit_theory.specs.declared.Side.{Side}
 use Rattle.flat_net.specs.View.{NetView}
@@ -19,7 +19,13 @@ use Rattle.job_base.specs.declared.finding.Finding.TheVariants as finding
 use Rattle.job_base.specs.Written.{status_of, judgement_status}
 use Rattle.job_base.proofs.sec_files.job_files.Accepted.{not_long, not_faulty, not_unsound, not_misread, no_long_stimulus, not_headless, no_row_refused, same_names}
 use Rattle.job_base.proofs.sec_files.job_files.Reading.{some_and, if_told}
-use Rattle.job_after.specs.Answer.{IsBegunRefusal, IsAfterFound, IsWide, CanBeBegun, CanBegin, IsAfterAnswer, IsAfterComplete}
+use Rattle.circuit_theory.specs.declared.Side.TheVariants.{A, B}
+use Rattle.sec_setup.specs.Cycles.{IsAcyclic}
+use Rattle.plain_check.proofs.under_base.compare_base.ToldCycles.{is_not_free}
+use Rattle.job_circuit.specs.job_replay.Replays.{OfReplay}
+use Rattle.job_after.specs.Last.{IsCyclic}
+use Rattle.job_after.proofs.Acyclic.{acyclic_begun}
+use Rattle.job_after.specs.Answer.{IsBegunRefusal, IsRefusedSearch, IsAfterFound, IsWide, CanBeBegun, CanBegin, AreAcyclicTexts, CanBeSearchedBehind, IsAfterAnswer, IsAfterComplete}
 
 module _ (TooLarge : NetView → NetView → Side → Type 0) (left right stimulus : Option (List ℕ)) (x y z : List ℕ) (is : left ≡ Some x) (other : right ≡ Some y) (told : stimulus ≡ Some z) (can : CanBeBegun TooLarge x y z) where
   -- the names and rows of the stimulus are those of the one that fits
@@ -100,11 +106,36 @@ judged judgement.NotShown = tt
 judged judgement.Different = tt
 judged judgement.Limit = tt
 
+can_begin : (cycles : Option ℕ) (left right stimulus : Option (List ℕ)) → CanBeSearchedBehind cycles left right stimulus → CanBegin IsWide left right stimulus
+can_begin (Some last) left right stimulus can = can
+can_begin None left right stimulus can = can.0
+
+-- a cycle that is told of circuits without cycles
+untold : (l r : NetView) (side : Side) (latches : List (List ℕ)) → IsCyclic l r side latches → IsAcyclic l × IsAcyclic r → ⊥
+untold l r A latches h free = is_not_free l [] latches h.1.1 free.0
+untold l r B latches h free = is_not_free r [] latches h.1.2 free.1
+
+-- none is told where all cycles can be compared, and none where a last one is named
+no_cycle : (cycles : Option ℕ) (left right stimulus : Option (List ℕ)) → CanBeSearchedBehind cycles left right stimulus → (side : Side) (latches : List (List ℕ)) →
+    (cycles ≡ None) × OfReplay left right stimulus (λ a b names rows. IsRefusedSearch a b names rows (λ l r. IsCyclic l r side latches)) → ⊥
+no_cycle (Some last) left right stimulus can side latches h = absurd (let e : Some last ≡ None = h.0 in cc)
+no_cycle None left right stimulus can side latches h =
+    let x = some_and left (λ s. IsSomeAnd right (λ t. AreAcyclicTexts s t)) can.1 in
+    let y = some_and right (λ t. AreAcyclicTexts x.0 t) x.2 in
+    let o = h.1 in
+    let l : Loads x.0 o.a = if_told left (λ t. Loads t o.a) x.0 x.1 o.left_loads in
+    let r : Loads y.0 o.b = if_told right (λ t. Loads t o.b) y.0 y.1 o.right_loads in
+    let free = y.2 o.a o.b l r in
+    untold o.said.left o.said.right side latches o.said.said (
+      subst IsAcyclic (sym o.said.left_begun.is) (acyclic_begun o.a o.said.left_known free.0),
+      subst IsAcyclic (sym o.said.right_begun.is) (acyclic_begun o.b o.said.right_known free.1),
+    )
+
 -- what is found has the status of a verdict
-pub after_complete : (cycles conflicts : ℕ) (left right stimulus : Option (List ℕ)) (f : Finding) → IsAfterFound cycles conflicts left right stimulus f → IsAfterComplete left right stimulus (status_of f)
+pub after_complete : (cycles : Option ℕ) (conflicts : ℕ) (left right stimulus : Option (List ℕ)) (f : Finding) → IsAfterFound cycles conflicts left right stimulus f → IsAfterComplete cycles left right stimulus (status_of f)
 after_complete cycles conflicts left right stimulus finding.Words h can = absurd h
-after_complete cycles conflicts left right stimulus (finding.Refused r) h can = absurd (no_refusal IsWide left right stimulus can r h)
-after_complete cycles conflicts left right stimulus (finding.Cyclic side names) h can = absurd h
+after_complete cycles conflicts left right stimulus (finding.Refused r) h can = absurd (no_refusal IsWide left right stimulus (can_begin cycles left right stimulus can) r h)
+after_complete cycles conflicts left right stimulus (finding.Cyclic side latches) h can = absurd (no_cycle cycles left right stimulus can side latches h)
 after_complete cycles conflicts left right stimulus (finding.Unpaired side names) h can = absurd h
 after_complete cycles conflicts left right stimulus (finding.Checked o s) h can = absurd h
 after_complete cycles conflicts left right stimulus (finding.Done text) h can = absurd h

@@ -6,3 +6,5 @@ pub mod Lifted
 pub mod Means
 pub mod Complete
 pub mod Zeros
+pub mod Deepest
+pub mod Acyclic

@@ -2,6 +2,7 @@
 use Rattle.std.specs.List.{Contains}
 use Rattle.std.proofs.Common.{◌≡◌, ◌∙◌, ℕ, Bool, List, [], refl, sym, ap, subst, inl, inr, Option, Some, None}
 use Rattle.std.specs.Prelude.{IfSome}
+use Rattle.circuit_theory.specs.declared.Side.{Side}
 use Rattle.circuit_theory.proofs.Lists.{of_at}
 use Rattle.base_shelves.specs.Outside.{Takes}
 use Rattle.flat_net.specs.View.{NetView, circuit_of}
@@ -44,7 +45,7 @@ not_done (verdict.NoDifference stopped) None e = cc
 not_done (verdict.Different w) None e = cc
 not_done (verdict.Limit name) None e = cc
 
-module _ (cycles conflicts : ℕ) (before now : Option (List ℕ)) (a b : NetView) (names : List (List ℕ)) (rows : List (List Bool)) (j : Judgement) (proofs : List Proof) (text : List ℕ)
+module _ (cycles : Option ℕ) (conflicts : ℕ) (before now : Option (List ℕ)) (a b : NetView) (names : List (List ℕ)) (rows : List (List Bool)) (j : Judgement) (proofs : List Proof) (text : List ℕ)
     (h : IsJudged a b names rows cycles conflicts j proofs text) (taken : Takes before now text) (x y z : List ℕ) (left : Loads x a) (right : Loads y b) (stimulus : IsStimulus z names rows) where
   abbrev texts : AreAfter x y z cycles conflicts before now
   texts = record {
@@ -132,7 +133,7 @@ module _ (cycles conflicts : ℕ) (before now : Option (List ℕ)) (a b : NetVie
       go (verdict.Different w) None is q = absurd (cc)
       go (verdict.Limit name) None is q =
           undecided_at name is
-          (subst (VerdictFits h.is.searched.numbers h.of.left h.of.right cycles h.of.made.last (named_pairs [] (circuit_of h.of.left) (circuit_of h.of.right)) h.of.made.pairs) is h.is.searched.found.verdict_is)
+          (subst (VerdictFits h.is.searched.numbers h.of.left h.of.right h.of.cycles h.of.made.last (named_pairs [] (circuit_of h.of.left) (circuit_of h.of.right)) h.of.made.pairs) is h.is.searched.found.verdict_is)
 
 -- what is said of nets and of a stimulus, of their texts
 pub of_three : (left right stimulus : Option (List ℕ)) (a b : NetView) (names : List (List ℕ)) (rows : List (List Bool)) (P : List ℕ → List ℕ → List ℕ → Type 0) → IfSome left (λ x. Loads x a) → IfSome right (λ y. Loads y b) →
@@ -145,7 +146,7 @@ of_three left right stimulus a b names rows P l r s f = record { left_loads = is
     all (Some x) (Some y) None here there last = tt
     all (Some x) (Some y) (Some z) here there last = f x y z here there last
 
-module _ (cycles conflicts : ℕ) (left right stimulus before now : Option (List ℕ)) where
+module _ (cycles : Option ℕ) (conflicts : ℕ) (left right stimulus before now : Option (List ℕ)) where
   -- a judgement that is written
   judged_means : (j : Judgement) (kept : List Proof) (text : List ℕ) → OfReplay left right stimulus (λ a b names rows. IsJudged a b names rows cycles conflicts j kept text) → (proofs : List Proof) (name : StatusName) →
       IsWrittenAs before now (finding.Judged j kept text) proofs name → AfterMeans cycles conflicts left right stimulus before now proofs name
@@ -184,12 +185,26 @@ module _ (cycles conflicts : ℕ) (left right stimulus before now : Option (List
   refused_means r proofs status.Cyclic w = tt
   refused_means r proofs status.Done w = absurd (let e : status.Refused ≡ status.Done = w.1 in cc)
 
+  -- a cycle of latches that is written
+  cyclic_means : (side : Side) (latches : List (List ℕ)) (proofs : List Proof) (name : StatusName) → IsWrittenAs before now (finding.Cyclic side latches) proofs name → AfterMeans cycles conflicts left right stimulus before now proofs name
+  cyclic_means side latches proofs status.Equal w = absurd (let e : status.Cyclic ≡ status.Equal = w.1 in cc)
+  cyclic_means side latches proofs status.Different w = absurd (let e : status.Cyclic ≡ status.Different = w.1 in cc)
+  cyclic_means side latches proofs status.NotShown w = absurd (let e : status.Cyclic ≡ status.NotShown = w.1 in cc)
+  cyclic_means side latches proofs status.Limit w = absurd (let e : status.Cyclic ≡ status.Limit = w.1 in cc)
+  cyclic_means side latches proofs status.Refused w = tt
+  cyclic_means side latches proofs status.Words w = tt
+  cyclic_means side latches proofs status.ReadFault w = tt
+  cyclic_means side latches proofs status.WriteFault w = tt
+  cyclic_means side latches proofs status.NoMemory w = tt
+  cyclic_means side latches proofs status.Cyclic w = tt
+  cyclic_means side latches proofs status.Done w = absurd (let e : status.Cyclic ≡ status.Done = w.1 in cc)
+
   -- what a written finding means
   pub after_means : (f : Finding) (proofs : List Proof) (name : StatusName) → IsAfterFound cycles conflicts left right stimulus f → IsWrittenAs before now f proofs name →
       AfterMeans cycles conflicts left right stimulus before now proofs name
   after_means finding.Words proofs name h w = absurd h
   after_means (finding.Refused r) proofs name h w = refused_means r proofs name w
-  after_means (finding.Cyclic side names) proofs name h w = absurd h
+  after_means (finding.Cyclic side names) proofs name h w = cyclic_means side names proofs name w
   after_means (finding.Unpaired side names) proofs name h w = absurd h
   after_means (finding.Checked o s) proofs name h w = absurd h
   after_means (finding.Done text) proofs name h w = absurd h

@@ -28,28 +28,40 @@ use Rattle.job_after.specs.declared.fault.AfterFault.{AfterFault}
 use Rattle.job_after.specs.declared.judging.Judged.{Judged}
 use Rattle.job_after.specs.Judged.{Behind, IsBegun, IsBehind, IsJudged, judgement_of, proofs_of}
 use Rattle.job_after.specs.Report.{after_text}
+use Rattle.job_after.specs.declared.fault.AfterFault.TheVariants as fault
+use Rattle.job_after.specs.Last.{EndsIn}
 use Rattle.job_after.specs.Ends.{FitsAfter, IsJudgedBy, search_fault, header_fault}
 
-module _ (a b : NetView) (names : List (List ℕ)) (rows : List (List Bool)) (cycles conflicts : ℕ) where
+module _ (a b : NetView) (names : List (List ℕ)) (rows : List (List Bool)) (wanted : Option ℕ) (conflicts : ℕ) where
   -- what is true of an error is true of the result that it is
-  pub refused_by : (r : Result Judged AfterFault) (e : AfterFault) → IsErrAnd r (λ x. x ≡ e) → IsJudgedBy a b names rows cycles conflicts (Err e) → IsJudgedBy a b names rows cycles conflicts r
+  pub refused_by : (r : Result Judged AfterFault) (e : AfterFault) → IsErrAnd r (λ x. x ≡ e) → IsJudgedBy a b names rows wanted conflicts (Err e) → IsJudgedBy a b names rows wanted conflicts r
   refused_by (Ok x) e h p = absurd h
-  refused_by (Err x) e h p = subst (λ (y : AfterFault). IsJudgedBy a b names rows cycles conflicts (Err y)) (sym h) p
+  refused_by (Err x) e h p = subst (λ (y : AfterFault). IsJudgedBy a b names rows wanted conflicts (Err y)) (sym h) p
 
   -- the stimulus doesn't fit
-  pub unfit : (e : ReplayError) → FitsAfter a b names (Err e) → IsJudgedBy a b names rows cycles conflicts (Err (header_fault e))
+  pub unfit : (e : ReplayError) → FitsAfter a b names (Err e) → IsJudgedBy a b names rows wanted conflicts (Err (header_fault e))
   unfit (header.Unknown name) h = h
   unfit (header.Missing name) h = h
   unfit header.NoMemory h = tt
 
   -- the nets that begin behind the rows aren't searched
-  pub refused : (l r : NetView) (left_known right_known : List (Option Bool)) → IsBegun a names rows left_known l → IsBegun b names rows right_known r → (e : SearchError) → Searches l r cycles conflicts (Err e) →
-      IsJudgedBy a b names rows cycles conflicts (Err (search_fault e))
-  refused l r left_known right_known lb rb (search.Interface name) h = record { left_known = left_known; right_known = right_known; left = l; right = r; left_begun = lb; right_begun = rb; said = h }
-  refused l r left_known right_known lb rb (search.TooLarge side) h = record { left_known = left_known; right_known = right_known; left = l; right = r; left_begun = lb; right_begun = rb; said = h }
-  refused l r left_known right_known lb rb search.NoMemory h = tt
+  pub refused : (l r : NetView) (left_known right_known : List (Option Bool)) (cycles : ℕ) → IsBegun a names rows left_known l → IsBegun b names rows right_known r → (e : SearchError) → Searches l r cycles conflicts (Err e) →
+      IsJudgedBy a b names rows wanted conflicts (Err (search_fault e))
+  refused l r left_known right_known cycles lb rb (search.Interface name) h = record { left_known = left_known; right_known = right_known; left = l; right = r; left_begun = lb; right_begun = rb; said = h }
+  refused l r left_known right_known cycles lb rb (search.TooLarge side) h = record { left_known = left_known; right_known = right_known; left = l; right = r; left_begun = lb; right_begun = rb; said = h }
+  refused l r left_known right_known cycles lb rb search.NoMemory h = tt
 
-  module _ (wide : All (λ (row : List Bool). length row ≡ length names) rows) (h : Behind) (is : IsBehind a b names rows cycles conflicts h) (distinct : AreDistinct (map (λ (p : Port). p.name) b.outputs)) where
+  -- they have no last cycle
+  pub endless : (l r : NetView) (left_known right_known : List (Option Bool)) → IsBegun a names rows left_known l → IsBegun b names rows right_known r → (e : AfterFault) → EndsIn l r wanted (Err e) →
+      IsJudgedBy a b names rows wanted conflicts (Err e)
+  endless l r left_known right_known lb rb (fault.Interface name) h = record { left_known = left_known; right_known = right_known; left = l; right = r; left_begun = lb; right_begun = rb; said = h }
+  endless l r left_known right_known lb rb (fault.Cyclic side latches) h = (h.0, record { left_known = left_known; right_known = right_known; left = l; right = r; left_begun = lb; right_begun = rb; said = h.1 })
+  endless l r left_known right_known lb rb fault.NoMemory h = tt
+  endless l r left_known right_known lb rb (fault.Unknown name) h = absurd h
+  endless l r left_known right_known lb rb (fault.Missing name) h = absurd h
+  endless l r left_known right_known lb rb (fault.TooLarge side) h = absurd h
+
+  module _ (wide : All (λ (row : List Bool). length row ≡ length names) rows) (h : Behind) (is : IsBehind a b names rows wanted conflicts h) (distinct : AreDistinct (map (λ (p : Port). p.name) b.outputs)) where
     right_distinct : AreDistinct (map (λ (p : Port). p.name) h.right.outputs)
     right_distinct = subst (λ (n : NetView). AreDistinct (map (λ (p : Port). p.name) n.outputs)) (sym is.right_begun.is) distinct
 
@@ -59,17 +71,17 @@ module _ (a b : NetView) (names : List (List ℕ)) (rows : List (List Bool)) (cy
     agree : h.made.verdict ≡ verdict.Equal → AgreeBehind names rows Each (circuit_of a) (circuit_of b)
     agree e =
         behind_agree names rows wide a b h.left_known h.right_known is.left_begun.each is.right_begun.each is.left_begun.are_known is.right_begun.are_known
-        (of_begun (λ l r. AgreeFromReset (circuit_of l) (circuit_of r)) (search_agree h.left h.right cycles conflicts h.made is.searched right_distinct e))
+        (of_begun (λ l r. AgreeFromReset (circuit_of l) (circuit_of r)) (search_agree h.left h.right h.cycles conflicts h.made is.searched right_distinct e))
 
     agree_up_to : (stopped : Option Side) → h.made.verdict ≡ verdict.NoDifference stopped → AgreeBehind names rows (UpTo h.made.last) (circuit_of a) (circuit_of b)
     agree_up_to stopped e =
         behind_agree_up_to names rows wide a b h.left_known h.right_known is.left_begun.each is.right_begun.each is.left_begun.are_known is.right_begun.are_known h.made.last
-        (of_begun (λ l r. AgreeUpTo h.made.last (circuit_of l) (circuit_of r)) (search_agree_up_to h.left h.right cycles conflicts h.made is.searched right_distinct stopped e))
+        (of_begun (λ l r. AgreeUpTo h.made.last (circuit_of l) (circuit_of r)) (search_agree_up_to h.left h.right h.cycles conflicts h.made is.searched right_distinct stopped e))
 
     agree_before : AgreeBehind names rows (Before h.made.last) (circuit_of a) (circuit_of b)
     agree_before =
         behind_agree_before names rows wide a b h.left_known h.right_known is.left_begun.each is.right_begun.each is.left_begun.are_known is.right_begun.are_known h.made.last
-        (λ k low. of_begun (λ l r. AgreeUpTo k (circuit_of l) (circuit_of r)) (search_agree_before h.left h.right cycles conflicts h.made is.searched right_distinct k low))
+        (λ k low. of_begun (λ l r. AgreeUpTo k (circuit_of l) (circuit_of r)) (search_agree_before h.left h.right h.cycles conflicts h.made is.searched right_distinct k low))
 
     -- what is shown of the nets that begin is shown of the nets
     shown_of : IfSome h.shown (λ w. IsShownBehind h.left h.right names rows w) → (w : Witness) → h.shown ≡ Some w → IsShownBehind a b names rows w
@@ -79,7 +91,7 @@ module _ (a b : NetView) (names : List (List ℕ)) (rows : List (List Bool)) (cy
 
     -- both are judged
     pub judged_by : (j : Judgement) (proofs : List Proof) (text : List ℕ) → IfSome h.shown (λ w. IsShownBehind h.left h.right names rows w) → j ≡ judgement_of h.made.verdict h.shown → proofs ≡ proofs_of h.made.pairs →
-        text ≡ after_text h.left h.right cycles conflicts (length rows) h.left_known h.right_known h.shown h.made → IsJudged a b names rows cycles conflicts j proofs text
+        text ≡ after_text h.left h.right h.cycles conflicts (length rows) h.left_known h.right_known h.shown h.made → IsJudged a b names rows wanted conflicts j proofs text
     judged_by j proofs text told judgement kept written = record {
       of = h;
       is = is;

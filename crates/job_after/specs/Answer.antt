@@ -33,16 +33,18 @@ use Rattle.cycle_search.specs.declared.found.SearchVerdict.TheVariants as verdic
 use Rattle.cycle_search.specs.Outputs.{IsOneTooLarge}
 use Rattle.cycle_search.specs.Searches.{IsNumbering}
 use Rattle.restart.specs.Agreement.{AgreeBehind, Each, UpTo, Before}
+use Rattle.sec_setup.specs.Cycles.{IsAcyclic}
+use Rattle.job_after.specs.Last.{IsCyclic}
 use Rattle.job_after.specs.Report.{after_text}
 use Rattle.restart.specs.Sequence.{BeginsWithRows}
 use Rattle.job_after.specs.Judged.{IsBegun, Behind, IsBehind, IsJudged}
 
--- the paths of two circuits and of a stimulus, the last cycle behind its rows, and the limit of conflicts
+-- the paths of two circuits and of a stimulus, the last cycle behind its rows where one is named, and the limit of conflicts
 pub record AfterJob : Type 0 where
   pub left : List ℕ
   pub right : List ℕ
   pub stimulus : List ℕ
-  pub cycles : ℕ
+  pub cycles : Option ℕ
   pub conflicts : ℕ
 
 -- the stimulus names this first, and it is no input of one of the circuits
@@ -90,14 +92,15 @@ abbrev pub IsWide : NetView → NetView → Side → Type 0
 IsWide l r side = IsOneTooLarge l r 0 side
 
 -- what is found of three files
-abbrev pub IsAfterFound : ℕ → ℕ → Option (List ℕ) → Option (List ℕ) → Option (List ℕ) → Finding → Type 0
+abbrev pub IsAfterFound : Option ℕ → ℕ → Option (List ℕ) → Option (List ℕ) → Option (List ℕ) → Finding → Type 0
 IsAfterFound cycles conflicts left right stimulus (finding.Refused r) = IsBegunRefusal IsWide left right stimulus r
 IsAfterFound cycles conflicts left right stimulus (finding.Judged j proofs text) = OfReplay left right stimulus (λ a b names rows. IsJudged a b names rows cycles conflicts j proofs text)
+IsAfterFound cycles conflicts left right stimulus (finding.Cyclic side latches) = (cycles ≡ None) × OfReplay left right stimulus (λ a b names rows. IsRefusedSearch a b names rows (λ l r. IsCyclic l r side latches))
 IsAfterFound cycles conflicts left right stimulus other = ⊥
 
 -- The circuits that two texts spell, the stimulus of the third, the nets that the two load as, what was found of them behind the rows of
 -- the stimulus, and that this is written.
-pub record AreAfter (x y z : List ℕ) (cycles conflicts : ℕ) (before now : Option (List ℕ)) : Type 0 where
+pub record AreAfter (x y z : List ℕ) (cycles : Option ℕ) (conflicts : ℕ) (before now : Option (List ℕ)) : Type 0 where
   pub left_clock : Option (List ℕ)
   pub right_clock : Option (List ℕ)
   pub left : Circuit Place
@@ -113,23 +116,23 @@ pub record AreAfter (x y z : List ℕ) (cycles conflicts : ℕ) (before now : Op
   pub right_loads : Loads y right_net
   pub of : Behind
   pub is : IsBehind left_net right_net names rows cycles conflicts of
-  pub printed : Takes before now (after_text of.left of.right cycles conflicts (length rows) of.left_known of.right_known of.shown of.made)
+  pub printed : Takes before now (after_text of.left of.right of.cycles conflicts (length rows) of.left_known of.right_known of.shown of.made)
 
 -- In any two runs of the circuits that begin by the rows and have equal inputs, each output is equal in every cycle behind the rows.
-pub record AfterAgree (x y z : List ℕ) (cycles conflicts : ℕ) (before now : Option (List ℕ)) : Type 0 where
+pub record AfterAgree (x y z : List ℕ) (cycles : Option ℕ) (conflicts : ℕ) (before now : Option (List ℕ)) : Type 0 where
   pub of : AreAfter x y z cycles conflicts before now
   pub is_verdict : of.of.made.verdict ≡ verdict.Equal
   pub says : AgreeBehind of.names of.rows Each of.left of.right
 
 -- In any two such runs each output is equal in the cycles up to the printed one, of later ones nothing is said; or a pair's functions differ
 -- in the printed cycle and no difference is shown, each output being equal in every cycle before it.
-pub record AfterAgreeUpTo (x y z : List ℕ) (cycles conflicts : ℕ) (before now : Option (List ℕ)) : Type 0 where
+pub record AfterAgreeUpTo (x y z : List ℕ) (cycles : Option ℕ) (conflicts : ℕ) (before now : Option (List ℕ)) : Type 0 where
   pub of : AreAfter x y z cycles conflicts before now
   pub says : ((stopped : Option Side) × (of.of.made.verdict ≡ verdict.NoDifference stopped) × AgreeBehind of.names of.rows (UpTo of.of.made.last) of.left of.right)
       ⊎ ((w : ResetWitness) × (of.of.made.verdict ≡ verdict.Different w) × (of.of.shown ≡ None) × AgreeBehind of.names of.rows (Before of.of.made.last) of.left of.right)
 
 -- The printed sequence begins with the rows, and makes the circuits differ behind them in all runs that read it, whatever they power up with.
-pub record AfterDiffer (x y z : List ℕ) (cycles conflicts : ℕ) (before now : Option (List ℕ)) : Type 0 where
+pub record AfterDiffer (x y z : List ℕ) (cycles : Option ℕ) (conflicts : ℕ) (before now : Option (List ℕ)) : Type 0 where
   pub of : AreAfter x y z cycles conflicts before now
   pub witness : Witness
   pub is_shown : of.of.shown ≡ Some witness
@@ -140,7 +143,7 @@ pub record AfterDiffer (x y z : List ℕ) (cycles conflicts : ℕ) (before now :
 -- The report names a pair of outputs. In each cycle before the last each output is equal. In the last one the query of this pair, of the
 -- circuits as they begin behind the rows, has more than 16 variables and met the limit, which one of the proofs shows: its clauses, and a
 -- log of exactly as many chains as conflicts are allowed.
-pub record AfterUndecided (x y z : List ℕ) (cycles conflicts : ℕ) (proofs : List Proof) (before now : Option (List ℕ)) : Type 0 where
+pub record AfterUndecided (x y z : List ℕ) (cycles : Option ℕ) (conflicts : ℕ) (proofs : List Proof) (before now : Option (List ℕ)) : Type 0 where
   pub of : AreAfter x y z cycles conflicts before now
   pub says : AgreeBehind of.names of.rows (Before of.of.made.last) of.left of.right
   pub numbers : Numbered
@@ -159,7 +162,7 @@ pub record OfThree (left right stimulus : Option (List ℕ)) (P : List ℕ → L
   pub said : IfSome left (λ x. IfSome right (λ y. IfSome stimulus (λ z. P x y z)))
 
 -- What the status says of three texts, and of what is written.
-abbrev pub AfterMeans : ℕ → ℕ → Option (List ℕ) → Option (List ℕ) → Option (List ℕ) → Option (List ℕ) → Option (List ℕ) → List Proof → StatusName → Type 0
+abbrev pub AfterMeans : Option ℕ → ℕ → Option (List ℕ) → Option (List ℕ) → Option (List ℕ) → Option (List ℕ) → Option (List ℕ) → List Proof → StatusName → Type 0
 AfterMeans cycles conflicts left right stimulus before now proofs status.Equal = OfThree left right stimulus (λ x y z. AfterAgree x y z cycles conflicts before now)
 AfterMeans cycles conflicts left right stimulus before now proofs status.Different = OfThree left right stimulus (λ x y z. AfterDiffer x y z cycles conflicts before now)
 AfterMeans cycles conflicts left right stimulus before now proofs status.NotShown = OfThree left right stimulus (λ x y z. AfterAgreeUpTo x y z cycles conflicts before now)
@@ -194,6 +197,15 @@ IsAfterAnswer status.Limit = Unit {0}
 IsAfterAnswer status.NoMemory = Unit {0}
 IsAfterAnswer other = ⊥
 
+-- no latch of either circuit lies on a cycle
+abbrev pub AreAcyclicTexts : List ℕ → List ℕ → Type 0
+AreAcyclicTexts x y = (a b : NetView) → Loads x a → Loads y b → IsAcyclic a × IsAcyclic b
+
+-- they can be compared up to the last cycle that is named, or without one in all cycles
+abbrev pub CanBeSearchedBehind : Option ℕ → Option (List ℕ) → Option (List ℕ) → Option (List ℕ) → Type 0
+CanBeSearchedBehind (Some last) left right stimulus = CanBegin IsWide left right stimulus
+CanBeSearchedBehind None left right stimulus = CanBegin IsWide left right stimulus × IsSomeAnd left (λ x. IsSomeAnd right (λ y. AreAcyclicTexts x y))
+
 -- circuits that can be compared so are, if no read and no write fails
-abbrev pub IsAfterComplete : Option (List ℕ) → Option (List ℕ) → Option (List ℕ) → StatusName → Type 0
-IsAfterComplete left right stimulus name = CanBegin IsWide left right stimulus → IsAfterAnswer name
+abbrev pub IsAfterComplete : Option ℕ → Option (List ℕ) → Option (List ℕ) → Option (List ℕ) → StatusName → Type 0
+IsAfterComplete cycles left right stimulus name = CanBeSearchedBehind cycles left right stimulus → IsAfterAnswer name

@@ -1,5 +1,5 @@
 -- How the job ends.
-use Rattle.std.specs.Prelude.{◌≡◌, ℕ, Bool, List, [], Option, Some, Result, Ok, Err}
+use Rattle.std.specs.Prelude.{◌≡◌, ℕ, Bool, List, [], Option, Some, None, Result, Ok, Err}
 use Rattle.circuit_theory.specs.Interface.{first_mismatch}
 use Rattle.flat_net.specs.View.{NetView, ports_of}
 use Rattle.sec_setup.specs.Matching.{InterfacesMatch}
@@ -20,6 +20,7 @@ use Rattle.cycle_search.specs.declared.found.SearchError.TheVariants as search
 use Rattle.job_after.specs.declared.fault.AfterFault.{AfterFault}
 use Rattle.job_after.specs.declared.fault.AfterFault.TheVariants as fault
 use Rattle.job_after.specs.declared.judging.Judged.{Judged}
+use Rattle.job_after.specs.Last.{IsCyclic}
 use Rattle.job_after.specs.Judged.{IsJudged}
 use Rattle.job_after.specs.Answer.{AfterJob, IsAfterFound, IsUnfit, IsRefusedSearch, IsWide}
 
@@ -42,13 +43,14 @@ FitsAfter a b names (Err (header.Missing name)) = FitsOr a b names (Err (header.
 FitsAfter a b names (Err header.NoMemory) = Unit {0}
 
 -- the judgement of both nets, or the first refusal
-abbrev pub IsJudgedBy : NetView → NetView → List (List ℕ) → List (List Bool) → ℕ → ℕ → Result Judged AfterFault → Type 0
-IsJudgedBy a b names rows cycles conflicts (Ok j) = IsJudged a b names rows cycles conflicts j.judgement j.proofs j.text
-IsJudgedBy a b names rows cycles conflicts (Err (fault.Unknown name)) = IsUnfit a b names name
-IsJudgedBy a b names rows cycles conflicts (Err (fault.Missing name)) = FitsOr a b names (Err (header.Missing name))
-IsJudgedBy a b names rows cycles conflicts (Err (fault.Interface name)) = IsRefusedSearch a b names rows (λ l r. first_mismatch (ports_of l) (ports_of r) ≡ Some name)
-IsJudgedBy a b names rows cycles conflicts (Err (fault.TooLarge side)) = IsRefusedSearch a b names rows (λ l r. InterfacesMatch l r × IsWide l r side)
-IsJudgedBy a b names rows cycles conflicts (Err fault.NoMemory) = Unit {0}
+abbrev pub IsJudgedBy : NetView → NetView → List (List ℕ) → List (List Bool) → Option ℕ → ℕ → Result Judged AfterFault → Type 0
+IsJudgedBy a b names rows wanted conflicts (Ok j) = IsJudged a b names rows wanted conflicts j.judgement j.proofs j.text
+IsJudgedBy a b names rows wanted conflicts (Err (fault.Unknown name)) = IsUnfit a b names name
+IsJudgedBy a b names rows wanted conflicts (Err (fault.Missing name)) = FitsOr a b names (Err (header.Missing name))
+IsJudgedBy a b names rows wanted conflicts (Err (fault.Interface name)) = IsRefusedSearch a b names rows (λ l r. first_mismatch (ports_of l) (ports_of r) ≡ Some name)
+IsJudgedBy a b names rows wanted conflicts (Err (fault.Cyclic side latches)) = (wanted ≡ None) × IsRefusedSearch a b names rows (λ l r. IsCyclic l r side latches)
+IsJudgedBy a b names rows wanted conflicts (Err (fault.TooLarge side)) = IsRefusedSearch a b names rows (λ l r. InterfacesMatch l r × IsWide l r side)
+IsJudgedBy a b names rows wanted conflicts (Err fault.NoMemory) = Unit {0}
 
 -- what is found by it
 abbrev pub after_end : Result Judged AfterFault → Result Finding Stop
@@ -56,6 +58,7 @@ after_end (Ok j) = Ok (finding.Judged j.judgement j.proofs j.text)
 after_end (Err (fault.Unknown name)) = Ok (finding.Refused (refusal.Misfit (misfit.Unknown name)))
 after_end (Err (fault.Missing name)) = Ok (finding.Refused (refusal.Misfit (misfit.Missing name)))
 after_end (Err (fault.Interface name)) = Ok (finding.Refused (refusal.Interface name))
+after_end (Err (fault.Cyclic side latches)) = Ok (finding.Cyclic side latches)
 after_end (Err (fault.TooLarge side)) = Ok (finding.Refused (refusal.TooLarge side))
 after_end (Err fault.NoMemory) = Err stop.NoMemory
 

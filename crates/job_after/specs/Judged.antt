@@ -14,6 +14,7 @@ use Rattle.cycle_search.specs.declared.found.SearchVerdict.TheVariants as verdic
 use Rattle.cycle_search.specs.Searches.{AreSearched}
 use Rattle.restart.specs.Behind.{begun, AreKnownBehind}
 use Rattle.restart.specs.Agreement.{AgreeBehind, Each, UpTo, Before}
+use Rattle.job_after.specs.Last.{IsLast}
 use Rattle.job_after.specs.Report.{after_text}
 use Rattle.restart.specs.Sequence.{IsShownBehind}
 
@@ -35,31 +36,36 @@ judgement_of (verdict.Limit name) None = judgement.Limit
 abbrev pub proofs_of : List PairResult → List Proof
 proofs_of pairs = filter_map (λ (p : PairResult). p.proof) pairs
 
--- both nets as they begin behind the rows, what is known of their latches there, what was found of them, and the difference that is shown
+-- both nets as they begin behind the rows, what is known of their latches there, the last cycle that was to be compared, what was found of
+-- them, and the difference that is shown
 pub record Behind : Type 0 where
   pub left_known : List (Option Bool)
   pub right_known : List (Option Bool)
   pub left : NetView
   pub right : NetView
+  pub cycles : ℕ
   pub made : Searched
   pub shown : Option Witness
 
--- this is so behind these rows
-pub record IsBehind (a b : NetView) (names : List (List ℕ)) (rows : List (List Bool)) (cycles conflicts : ℕ) (h : Behind) : Type 0 where
+-- This is so behind these rows. Without a wanted last cycle no latch lies on a cycle, and a search that finds no difference and doesn't end
+-- with equal stopped because a circuit is too large in the next cycle.
+pub record IsBehind (a b : NetView) (names : List (List ℕ)) (rows : List (List Bool)) (wanted : Option ℕ) (conflicts : ℕ) (h : Behind) : Type 0 where
   pub left_begun : IsBegun a names rows h.left_known h.left
   pub right_begun : IsBegun b names rows h.right_known h.right
-  pub searched : AreSearched h.left h.right cycles conflicts h.made
+  pub last_is : IsLast h.left h.right wanted h.cycles
+  pub searched : AreSearched h.left h.right h.cycles conflicts h.made
+  pub decided : wanted ≡ None → h.made.verdict ≡ verdict.NoDifference None → ⊥
 
 -- What is judged and written. Where no difference is shown: equal says that the outputs agree in every cycle behind the rows; no
 -- difference, that they do in each cycle up to the last; one that isn't shown, that they do in each cycle before it. One that is shown
 -- makes the named outputs differ in all runs that read its sequence, which begins with the rows.
-pub record IsJudged (a b : NetView) (names : List (List ℕ)) (rows : List (List Bool)) (cycles conflicts : ℕ) (j : Judgement) (proofs : List Proof) (text : List ℕ) : Type 0 where
+pub record IsJudged (a b : NetView) (names : List (List ℕ)) (rows : List (List Bool)) (wanted : Option ℕ) (conflicts : ℕ) (j : Judgement) (proofs : List Proof) (text : List ℕ) : Type 0 where
   pub of : Behind
-  pub is : IsBehind a b names rows cycles conflicts of
+  pub is : IsBehind a b names rows wanted conflicts of
   pub agree : of.made.verdict ≡ verdict.Equal → AgreeBehind names rows Each (circuit_of a) (circuit_of b)
   pub agree_up_to : (stopped : Option Side) → of.made.verdict ≡ verdict.NoDifference stopped → AgreeBehind names rows (UpTo of.made.last) (circuit_of a) (circuit_of b)
   pub agree_before : AgreeBehind names rows (Before of.made.last) (circuit_of a) (circuit_of b)
   pub differ : (w : Witness) → of.shown ≡ Some w → IsShownBehind a b names rows w
   pub judgement_is : j ≡ judgement_of of.made.verdict of.shown
   pub proofs_are : proofs ≡ proofs_of of.made.pairs
-  pub text_is : text ≡ after_text of.left of.right cycles conflicts (length rows) of.left_known of.right_known of.shown of.made
+  pub text_is : text ≡ after_text of.left of.right of.cycles conflicts (length rows) of.left_known of.right_known of.shown of.made

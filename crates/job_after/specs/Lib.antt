@@ -3,3 +3,4 @@ pub mod Judged
 pub mod Ends
 pub mod Answer
 pub mod Read
+pub mod Last

@@ -18,8 +18,8 @@ pub struct AfterComparison<'a> {
     pub left: &'a str,
     pub right: &'a str,
     pub stimulus: &'a str,
-    /// The last cycle behind the rows that is to be compared; the first one is 0.
-    pub cycles: u32,
+    /// The last cycle behind the rows that is to be compared; the first one is 0. None: all are.
+    pub cycles: Option<u32>,
     /// The greatest number of conflicts of each query, 0 to 200,000.
     pub conflicts: u32,
 }

@@ -2,7 +2,8 @@
 
 use cycle_search::SearchError;
 use job_circuit::replay::ReplayError;
-use sec_base::{NoMemory, Side, Word};
+use sec_base::{NoMemory, Side, Word, Words};
+use sec_setup::SetupError;
 
 /// Why two circuits aren't compared.
 #[derive(Drop)]
@@ -13,6 +14,9 @@ pub enum AfterFault {
     Missing(Word),
     /// The first name that one circuit has and the other lacks.
     Interface(Word),
+    /// Where all cycles are to be compared: the names of the latches of a cycle of this circuit, each read by the next, the last by the
+    /// first, beginning with the least name in byte order; A comes first.
+    Cyclic(Side, Words),
     /// This circuit, as it begins behind the rows, is too large for the comparison.
     TooLarge(Side),
     /// Memory was wanted and couldn't be had.
@@ -41,6 +45,21 @@ impl From<SearchError> for AfterFault {
             SearchError::Interface(name) => AfterFault::Interface(name),
             SearchError::TooLarge(side) => AfterFault::TooLarge(side),
             SearchError::NoMemory => AfterFault::NoMemory,
+        }
+    }
+}
+
+impl From<SetupError> for AfterFault {
+    ghost use Rattle.std.specs.Prelude.{◌≡◌};
+    ghost use Rattle.job_after.specs.Last.{setup_fault};
+
+    ghost from_gives = { λ s e. e ≡ setup_fault s };
+
+    fn from(error: SetupError) -> AfterFault {
+        match error {
+            SetupError::Interface(name) => AfterFault::Interface(name),
+            SetupError::Cyclic(side, names) => AfterFault::Cyclic(side, names),
+            _ => AfterFault::NoMemory,
         }
     }
 }

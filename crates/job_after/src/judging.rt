@@ -8,6 +8,7 @@ ghost use Rattle.job_after.specs.Judged.{judgement_of, proofs_of};
 use crate::after_report::{After, report};
 use crate::fault::AfterFault;
 use crate::known::begin;
+use crate::last::last_cycle;
 use crate::shown::{Start, shown_of};
 use base_tables::NameTable;
 use circuit_report::sim_report::Misfit;
@@ -31,24 +32,26 @@ pub struct Judged {
     pub text: Text,
 }
 
-/// Compares the circuits behind the rows, where the stimulus fits both and their interfaces match.
+/// Compares the circuits behind the rows, where the stimulus fits both and their interfaces match, up to the wanted cycle, or without one in
+/// all cycles, where no latch lies on a cycle.
 pub(crate) fn judge_after(
     alloc: Global,
     mut a: Net,
     mut b: Net,
     stimulus: &Stimulus,
-    cycles: u32,
+    wanted: Option<u32>,
     conflicts: u32,
 ) -> Result<Judged, AfterFault>
     requires left { IsComparable a }
     requires right { IsComparable b }
     requires conflicts { conflicts ≤ MAX_CONFLICTS }
-    ensures { IsJudgedBy a b stimulus.now.names stimulus.now.rows cycles conflicts result }
+    ensures { IsJudgedBy a b stimulus.now.names stimulus.now.rows wanted conflicts result }
 {
     let header = table_of_names(alloc, &stimulus.names)?;
     match_header(alloc, &a, &b, &header)?;
     let left = begin(alloc, &mut a, &header, &stimulus.rows)?;
     let right = begin(alloc, &mut b, &header, &stimulus.rows)?;
+    let cycles = last_cycle(alloc, &a, &b, wanted)?;
     let searched = search_cycles(alloc, &a, &b, cycles, conflicts)?;
     let start = Start {
         header: &header,
@@ -149,6 +152,7 @@ pub fn after_end(judged: Result<Judged, AfterFault>) -> Result<Finding, Stop>
             Ok(Finding::Refused(Refusal::Misfit(Misfit::Missing(name))))
         }
         Err(AfterFault::Interface(name)) => Ok(Finding::Refused(Refusal::Interface(name))),
+        Err(AfterFault::Cyclic(side, names)) => Ok(Finding::Cyclic(side, names)),
         Err(AfterFault::TooLarge(side)) => Ok(Finding::Refused(Refusal::TooLarge(side))),
         Err(AfterFault::NoMemory) => Err(Stop::NoMemory),
     }

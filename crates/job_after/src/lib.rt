@@ -6,6 +6,7 @@ mod comparison;
 mod fault;
 mod judging;
 mod known;
+mod last;
 mod reading;
 mod shown;
 

@@ -60,7 +60,7 @@ IsComplete held (Some (task.Lrat f l)) name = IsLratComplete (held f) (held l) n
 IsComplete held (Some (task.Cert a b pair lrat conflicts)) name = IsCertComplete (record { pair = pair; refuted = lrat; conflicts = conflicts }) (held a) (held b) name
 IsComplete held (Some (task.Search a b cycles conflicts)) name = IsSearchComplete (held a) (held b) name
 IsComplete held (Some (task.SearchUnder a b c cycles conflicts)) name = IsUnderComplete cycles conflicts (held a) (held b) (held c) name
-IsComplete held (Some (task.After a b s cycles conflicts)) name = IsAfterComplete (held a) (held b) (held s) name
+IsComplete held (Some (task.After a b s cycles conflicts)) name = IsAfterComplete cycles (held a) (held b) (held s) name
 IsComplete held (Some (task.Induct a b conflicts)) name = IsInductComplete (held a) (held b) name
 IsComplete held (Some (task.InductSignals a b conflicts)) name = IsInductComplete (held a) (held b) name
 IsComplete held (Some (task.InductAfter a b s conflicts)) name = IsTiedComplete (held a) (held b) (held s) name

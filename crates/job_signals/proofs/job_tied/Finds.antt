@@ -20,5 +20,6 @@ nets_end left right stimulus failed a b names rows (Ok j) l r s c = (c.0, record
 nets_end left right stimulus failed a b names rows (Err (fault.Unknown name)) l r s c = record { a = a; b = b; names = names; rows = rows; left_loads = l; right_loads = r; spells = s; said = c }
 nets_end left right stimulus failed a b names rows (Err (fault.Missing name)) l r s c = record { a = a; b = b; names = names; rows = rows; left_loads = l; right_loads = r; spells = s; said = c }
 nets_end left right stimulus failed a b names rows (Err (fault.Interface name)) l r s c = record { a = a; b = b; names = names; rows = rows; left_loads = l; right_loads = r; spells = s; said = c }
+nets_end left right stimulus failed a b names rows (Err (fault.Cyclic side latches)) l r s c = absurd c
 nets_end left right stimulus failed a b names rows (Err (fault.TooLarge side)) l r s c = record { a = a; b = b; names = names; rows = rows; left_loads = l; right_loads = r; spells = s; said = c }
 nets_end left right stimulus failed a b names rows (Err fault.NoMemory) l r s c = tt

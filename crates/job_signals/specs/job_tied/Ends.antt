@@ -31,6 +31,7 @@ IsJudgedBy a b names rows (Ok j) = (j.proofs ≡ []) × IsJudged a b names rows 
 IsJudgedBy a b names rows (Err (fault.Unknown name)) = IsUnfit a b names name
 IsJudgedBy a b names rows (Err (fault.Missing name)) = FitsOr a b names (Err (header.Missing name))
 IsJudgedBy a b names rows (Err (fault.Interface name)) = IsRefusedSearch a b names rows (λ l r. first_mismatch (ports_of l) (ports_of r) ≡ Some name)
+IsJudgedBy a b names rows (Err (fault.Cyclic side latches)) = ⊥
 IsJudgedBy a b names rows (Err (fault.TooLarge side)) = IsRefusedSearch a b names rows (λ l r. InterfacesMatch l r × IsHeavy l r side)
 IsJudgedBy a b names rows (Err fault.NoMemory) = Unit {0}
 

@@ -38,6 +38,7 @@ use Rattle.job_check.proofs.check_meaning.design_rows.NoFaults.{tested_is_sound}
 use Rattle.job_check.proofs.check_meaning.design_rows.Examples.{at_top, flat_rank}
 use Rattle.job_check.proofs.check_meaning.design_rows.Tested.{PassesTests, tested_is_small}
 use Rattle.job_check.proofs.check_meaning.design_rows.Spelling.{Spells, PortsMatch, accepted, net_is_small, small_ports}
+use Rattle.job_check.proofs.check_meaning.check_texts.Comparing.{broken}
 use Rattle.job_check.proofs.check_meaning.design_rows.SpelledTexts.{late_spells, early_spells}
 use Rattle.premise_rows.specs.job_rows.Replays.{both_and_none}
 use Rattle.premise_rows.specs.start_premises.Begun.{toggles, toggles_turned, one_reset, TextsCanBegin}
@@ -178,6 +179,12 @@ reset_stimulus = record { short = omega arith; form = reset_form }
 both_stimulus : IsStimulus both_and_none (codes "a" ∷ codes "b" ∷ []) ((true ∷ true ∷ []) ∷ (false ∷ false ∷ []) ∷ [])
 both_stimulus = record { short = omega arith; form = both_form }
 
+retimed : CanBeBegun IsWide late early both_and_none
+unfolding circuit_of_design walk
+retimed =
+    searched late early both_and_none design.late design.early small_late small_early late_spells early_spells (codes "a" ∷ codes "b" ∷ []) ((true ∷ true ∷ []) ∷ (false ∷ false ∷ []) ∷ []) both_stimulus (λ own others. refl)
+    (record { known = refl; complete = λ own others. refl }) refl 7 8 refl refl (omega arith) (omega arith)
+
 pub texts_can_begin : TextsCanBegin
 unfolding circuit_of_design walk
 texts_can_begin = record {
@@ -187,9 +194,11 @@ texts_can_begin = record {
   toggles_tied =
       tied toggles toggles_turned one_reset toggles_design turned_design (small_of (codes "q") 9) (small_of (codes "w") 12) toggles_spells turned_spells (codes "r" ∷ []) ((true ∷ []) ∷ []) reset_stimulus (λ own others. refl)
       (record { known = refl; complete = λ own others. refl }) refl 9 12 refl refl (omega arith) (omega arith);
-  retimed_searched =
-      searched late early both_and_none design.late design.early small_late small_early late_spells early_spells (codes "a" ∷ codes "b" ∷ []) ((true ∷ true ∷ []) ∷ (false ∷ false ∷ []) ∷ []) both_stimulus (λ own others. refl)
-      (record { known = refl; complete = λ own others. refl }) refl 7 8 refl refl (omega arith) (omega arith);
+  retimed_searched = retimed;
+  retimed_wholly = (
+    retimed,
+    λ a b la lb. broken small_late small_early a b (net_is_small late design.late small_late late_spells a la) (net_is_small early design.early small_early early_spells b lb) refl refl false,
+  );
   retimed_tied =
       tied late early both_and_none design.late design.early small_late small_early late_spells early_spells (codes "a" ∷ codes "b" ∷ []) ((true ∷ true ∷ []) ∷ (false ∷ false ∷ []) ∷ []) both_stimulus (λ own others. refl)
       (record { known = refl; complete = λ own others. refl }) refl 7 8 refl refl (omega arith) (omega arith);

@@ -1,6 +1,6 @@
 -- Texts that meet the premise of what is promised of comparisons behind a reset sequence.
-use Rattle.std.specs.Prelude.{ℕ, List, codes}
-use Rattle.job_after.specs.Answer.{IsWide, CanBeBegun}
+use Rattle.std.specs.Prelude.{ℕ, List, Some, None, codes}
+use Rattle.job_after.specs.Answer.{IsWide, CanBeBegun, CanBeSearchedBehind}
 use Rattle.job_signals.specs.job_tied.Found.{IsHeavy}
 use Rattle.job_check.specs.check_meaning.design_rows.Texts.{late, early}
 use Rattle.premise_rows.specs.job_rows.Replays.{both_and_none}
@@ -18,9 +18,10 @@ abbrev pub one_reset : List ℕ
 one_reset = codes "inputs r\n1\n"
 
 -- Two circuits, each with a cycle of latches, behind one cycle of reset, and a retiming behind two cycles: by a search over cycles, and by
--- ties of signals.
+-- ties of signals; the retiming also by a search over all cycles.
 pub record TextsCanBegin : Type 0 where
   pub toggles_searched : CanBeBegun IsWide toggles toggles_turned one_reset
   pub toggles_tied : CanBeBegun IsHeavy toggles toggles_turned one_reset
   pub retimed_searched : CanBeBegun IsWide late early both_and_none
+  pub retimed_wholly : CanBeSearchedBehind None (Some late) (Some early) (Some both_and_none)
   pub retimed_tied : CanBeBegun IsHeavy late early both_and_none
