@@ -217,19 +217,23 @@ allowed_inducted : (signals : Bool) (a b : Text) (n : ℕ) → n ≤ 200000 → 
 allowed_inducted false a b n h = h
 allowed_inducted true a b n h = h
 
-allowed_tied : (signals : Bool) (a b : Text) (n : ℕ) (after : Option Text) → n ≤ 200000 → (job : Task) → tied_in signals a b n after ≡ Some job → IsAllowed job
-allowed_tied signals a b n None h job e = subst IsAllowed (some_is e) (allowed_inducted signals a b n h)
-allowed_tied false a b n (Some s) h job e = absurd (cc)
-allowed_tied true a b n (Some s) h job e = let here : IsAllowed (task.InductAfter a b s n) = h in subst IsAllowed (some_is e) here
+allowed_tied : (signals : Bool) (a b : Text) (n : ℕ) (assumed after : Option Text) → n ≤ 200000 → (job : Task) → tied_in signals a b n assumed after ≡ Some job → IsAllowed job
+allowed_tied signals a b n None None h job e = subst IsAllowed (some_is e) (allowed_inducted signals a b n h)
+allowed_tied false a b n None (Some s) h job e = absurd (cc)
+allowed_tied false a b n (Some c) after h job e = absurd (cc)
+allowed_tied true a b n (Some c) None h job e = let here : IsAllowed (task.InductUnder a b c n) = h in subst IsAllowed (some_is e) here
+allowed_tied true a b n (Some c) (Some s) h job e = absurd (cc)
+allowed_tied true a b n None (Some s) h job e = let here : IsAllowed (task.InductAfter a b s n) = h in subst IsAllowed (some_is e) here
 
 allowed_induct : (rows : List Row) (job : Task) → induct_in rows ≡ Some job → IsAllowed job
 allowed_induct rows job e =
     let signals : Bool = is_set (codes "signals") rows in
+    let assumed : Option Text = first_of (codes "assume") rows in
     let after : Option Text = first_of (codes "after") rows in
-    let a = and_then_some (λ x. with_word (codes "b") rows (λ y. option_and_then (λ n. tied_in signals x y n after) (conflicts_in rows))) (first_of (codes "a") rows) job e in
-    let b = and_then_some (λ y. option_and_then (λ n. tied_in signals a.0 y n after) (conflicts_in rows)) (first_of (codes "b") rows) job a.2 in
-    let conflicts = and_then_some (λ n. tied_in signals a.0 b.0 n after) (conflicts_in rows) job b.2 in
-    allowed_tied signals a.0 b.0 conflicts.0 after (few rows conflicts.0 conflicts.1) job conflicts.2
+    let a = and_then_some (λ x. with_word (codes "b") rows (λ y. option_and_then (λ n. tied_in signals x y n assumed after) (conflicts_in rows))) (first_of (codes "a") rows) job e in
+    let b = and_then_some (λ y. option_and_then (λ n. tied_in signals a.0 y n assumed after) (conflicts_in rows)) (first_of (codes "b") rows) job a.2 in
+    let conflicts = and_then_some (λ n. tied_in signals a.0 b.0 n assumed after) (conflicts_in rows) job b.2 in
+    allowed_tied signals a.0 b.0 conflicts.0 assumed after (few rows conflicts.0 conflicts.1) job conflicts.2
 
 -- the tasks of the subcommands behind the seventh, the sixth, the fifth, the fourth, the third, the second and the first
 abbrev certs : List ℕ → List Row → Option Task

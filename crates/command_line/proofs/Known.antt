@@ -18,7 +18,7 @@ use Rattle.clap.specs.Simple.{App, Shape, built, built_leaf, entered, help_shape
 use Rattle.clap.specs.declared.builder.value_parser.ValueParser.{ValueParser}
 use Rattle.command_line.specs.command_words.Command.{sec_app, check_app, graph_app, sim_app, replay_app, settle_app, gen_app, lrat_app, cert_app, induct_app, most_conflicts, most_cycles, any_number}
 use Rattle.command_line.specs.Jobs.{begun_in, cert_in, check_in, checked_in, conflicts_in, form_in, gen_in, graph_in, induct_in, is_set, job_of, lrat_in, mode_in, number_of, paired_in, replay_in, settle_in, sim_in, stands_alone, task_in, tied_in}
-use Rattle.command_line.specs.Known.{HasFitMode, after_fits, cycles_fit, cycles_given, mode_fits, pair_fits, tied_fits}
+use Rattle.command_line.specs.Known.{HasFitMode, after_fits, cycles_fit, cycles_given, mode_fits, pair_fits, ties_fit, tied_fits}
 use Rattle.command_line.proofs.Taken.{else_first, else_next, EachRule, IsNotHelp, IsOwn, no_help_walk}
 use Rattle.command_line.proofs.Leaves.{IsRead, first_good, first_has, leaf_read, second_check}
 
@@ -138,13 +138,16 @@ cert_job rows a b pair n ea eb ep en passes form = by (form_in rows) refl form
     by None e h = absurd (true≢false (sym h))
     by (Some f) e h = rw (ea, eb, ep, e, conflicts) refl
 
-tied_job : (signals : Bool) (a b : Text) (n : ℕ) (after : Option Text) → (not (is_some after) || signals) ≡ true → is_some (tied_in signals a b n after) ≡ true
-tied_job signals a b n None h = refl
-tied_job false a b n (Some s) h = h
-tied_job true a b n (Some s) h = refl
+tied_job : (signals : Bool) (a b : Text) (n : ℕ) (assumed after : Option Text) → ties_fit signals assumed after ≡ true → is_some (tied_in signals a b n assumed after) ≡ true
+tied_job signals a b n None None h = refl
+tied_job false a b n None (Some s) h = h
+tied_job true a b n None (Some s) h = refl
+tied_job false a b n (Some c) after h = h
+tied_job true a b n (Some c) None h = refl
+tied_job true a b n (Some c) (Some s) h = h
 
 induct_job : (rows : List Row) (a b n : Text) → first_of (codes "a") rows ≡ Some a → first_of (codes "b") rows ≡ Some b → first_of (codes "conflicts") rows ≡ Some n → value_kinds false most_conflicts n ≡ [] → tied_fits rows ≡ true → is_some (induct_in rows) ≡ true
-induct_job rows a b n ea eb en passes fits = rw (ea, eb, conflicts) (tied_job (is_set (codes "signals") rows) a b (digits_value 10 (without_leading_plus n)) (first_of (codes "after") rows) fits)
+induct_job rows a b n ea eb en passes fits = rw (ea, eb, conflicts) (tied_job (is_set (codes "signals") rows) a b (digits_value 10 (without_leading_plus n)) (first_of (codes "assume") rows) (first_of (codes "after") rows) fits)
   where
     conflicts : conflicts_in rows ≡ Some (digits_value 10 (without_leading_plus n))
     conflicts = ap (option_and_then (number_of most_conflicts)) en ∙ number_known most_conflicts n passes
@@ -258,7 +261,7 @@ cert_is words e help known =
     cert_job rows a.0 b.0 p.0 n.0 a.1 b.1 p.1 n.1 n.2 known
 
 induct_own : EachRule (IsOwn (part induct_app.top).rules) (part induct_app.top).rules
-induct_own = ((refl, omega arith), ((refl, omega arith), ((refl, omega arith), ((refl, omega arith), ((refl, omega arith), ((refl, tt), tt))))))
+induct_own = ((refl, omega arith), ((refl, omega arith), ((refl, omega arith), ((refl, omega arith), ((refl, omega arith), ((refl, omega arith), ((refl, tt), tt)))))))
 
 induct_is : IsJob (part induct_app.top)
 induct_is words e help known =

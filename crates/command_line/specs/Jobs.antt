@@ -130,15 +130,19 @@ abbrev pub inducted_in : Bool → Text → Text → ℕ → Task
 inducted_in false a b conflicts = task.Induct a b conflicts
 inducted_in true a b conflicts = task.InductSignals a b conflicts
 
--- the same where a stimulus is named, behind whose rows both are compared; that stands only beside `--signals`
-abbrev pub tied_in : Bool → Text → Text → ℕ → Option Text → Option Task
-tied_in signals a b conflicts None = Some (inducted_in signals a b conflicts)
-tied_in false a b conflicts (Some s) = None
-tied_in true a b conflicts (Some s) = Some (task.InductAfter a b s conflicts)
+-- The same where an assumption is named, or a stimulus, behind whose rows both are compared. Each stands only beside `--signals`, and not
+-- beside the other.
+abbrev pub tied_in : Bool → Text → Text → ℕ → Option Text → Option Text → Option Task
+tied_in signals a b conflicts None None = Some (inducted_in signals a b conflicts)
+tied_in false a b conflicts None (Some s) = None
+tied_in true a b conflicts None (Some s) = Some (task.InductAfter a b s conflicts)
+tied_in false a b conflicts (Some c) after = None
+tied_in true a b conflicts (Some c) None = Some (task.InductUnder a b c conflicts)
+tied_in true a b conflicts (Some c) (Some s) = None
 
 abbrev pub induct_in : List Row → Option Task
 induct_in rows =
-    with_word (codes "a") rows (λ a. with_word (codes "b") rows (λ b. option_and_then (λ conflicts. tied_in (is_set (codes "signals") rows) a b conflicts (first_of (codes "after") rows)) (conflicts_in rows)))
+    with_word (codes "a") rows (λ a. with_word (codes "b") rows (λ b. option_and_then (λ conflicts. tied_in (is_set (codes "signals") rows) a b conflicts (first_of (codes "assume") rows) (first_of (codes "after") rows)) (conflicts_in rows)))
 
 -- the task of a subcommand's matches
 abbrev pub task_in : Text → List Row → Option Task

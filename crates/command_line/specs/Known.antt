@@ -23,12 +23,16 @@ after_fits rows = not (is_some (first_of (codes "after") rows)) || (is_some (fir
 abbrev pub pair_fits : List Row → Bool
 pair_fits rows = not (is_some (first_of (codes "pair") rows)) || stands_alone (is_set (codes "settles") rows) (first_of (codes "assume") rows) (first_of (codes "cycles") rows) (first_of (codes "after") rows)
 
--- `--after` isn't given, or stands beside `--signals`
+-- An assumption and a stimulus aren't given, or one of them is beside `--signals`.
+abbrev pub ties_fit : Bool → Option Text → Option Text → Bool
+ties_fit signals assumed after = not (is_some assumed || is_some after) || (signals && not (is_some assumed && is_some after))
+
 abbrev pub tied_fits : List Row → Bool
-tied_fits rows = not (is_some (first_of (codes "after") rows)) || is_set (codes "signals") rows
+tied_fits rows = ties_fit (is_set (codes "signals") rows) (first_of (codes "assume") rows) (first_of (codes "after") rows)
 
 -- The mode among the subcommand's matches is one of the two, and `--reset` may stand beside it; `gen`, `lrat` and `induct` have none, and
--- `cert` has a form in its place. Nothing refuses the cycles of `check`, nor its stimulus, nor its one name, nor the stimulus of `induct`.
+-- `cert` has a form in its place. Nothing refuses the cycles of `check`, nor its stimulus, nor its one name, nor the
+-- stimulus or the assumption of `induct`.
 abbrev pub mode_fits : Text → List Row → Bool
 mode_fits name rows =
     bytes_eq name (codes "gen") || (bytes_eq name (codes "lrat") || (if bytes_eq name (codes "induct") then tied_fits rows else if bytes_eq name (codes "cert") then is_some (form_in rows) else if bytes_eq name (codes "check") then is_some (mode_in rows) && (cycles_fit rows && (after_fits rows && pair_fits rows)) else is_some (mode_in rows)))
@@ -80,6 +84,8 @@ SignalsAreTaken =
     × (job_of (codes "induct" ∷ codes "--signals" ∷ codes "a" ∷ codes "b" ∷ codes "--conflicts" ∷ codes "7" ∷ []) ≡ Some (task.InductSignals (codes "a") (codes "b") 7))
     × AreTaken (codes "induct" ∷ codes "a" ∷ codes "b" ∷ codes "--signals" ∷ codes "--after" ∷ codes "s" ∷ [])
     × (job_of (codes "induct" ∷ codes "a" ∷ codes "b" ∷ codes "--signals" ∷ codes "--after" ∷ codes "s" ∷ []) ≡ Some (task.InductAfter (codes "a") (codes "b") (codes "s") 20000))
+    × AreTaken (codes "induct" ∷ codes "a" ∷ codes "b" ∷ codes "--signals" ∷ codes "--assume" ∷ codes "c" ∷ [])
+    × (job_of (codes "induct" ∷ codes "a" ∷ codes "b" ∷ codes "--signals" ∷ codes "--assume" ∷ codes "c" ∷ []) ≡ Some (task.InductUnder (codes "a") (codes "b") (codes "c") 20000))
 
 -- words with `--reset`, and what they ask for
 abbrev pub ResetIsTaken : Type 0

@@ -21,7 +21,7 @@ use std::alloc::{AllocError, Global};
 pub enum WordsError {
     /// `clap`'s definition for the command doesn't take the words, the mode is neither `plain` nor `event`, `--reset` stands with
     /// `event`, with `--expose` or with `--settles`, `--cycles` stands without `--reset`, `--after`
-    /// without `--cycles` or `--signals` or with `--assume`, `--pair` with `--settles`, `--assume`,
+    /// without `--cycles` or `--signals` or with `--assume`, `--assume` behind `induct` without `--signals`, `--pair` with `--settles`, `--assume`,
     /// `--cycles` or `--after`, or the form of a certificate is neither `cnf` nor `lrat`.
     Refused,
     /// Memory was wanted and couldn't be had.
@@ -521,27 +521,51 @@ fn induct_in(alloc: Global, matches: &ArgMatches<'_>) -> Result<Option<Task>, No
         return Ok(None);
     };
     let signals = is_set(matches, "signals");
+    let assumed = word(matches, "assume");
     match word(matches, "after") {
-        Some(stimulus) => tied_in(alloc, signals, a, b, stimulus, conflicts),
-        None => {
-            let (a, b) = paths_of(alloc, a, b)?;
-            Ok(Some(inducted_in(signals, a, b, conflicts)))
-        }
+        Some(stimulus) => tied_in(alloc, signals, a, b, assumed, stimulus, conflicts),
+        None => match assumed {
+            Some(assumed) => tied_under(alloc, signals, a, b, assumed, conflicts),
+            None => {
+                let (a, b) = paths_of(alloc, a, b)?;
+                Ok(Some(inducted_in(signals, a, b, conflicts)))
+            }
+        },
     }
 }
 
-/// The comparison by ties of signals behind the rows of the stimulus. It stands only beside `--signals`.
+/// The comparison by ties of signals under an assumption. It stands only beside `--signals`.
+fn tied_under(
+    alloc: Global,
+    signals: bool,
+    a: &str,
+    b: &str,
+    assumed: &str,
+    conflicts: u32,
+) -> Result<Option<Task>, NoMemory>
+    ensures { IfOk result (λ task. task ≡ tied_in signals a.now b.now conflicts (Some assumed.now) None) }
+{
+    if !signals {
+        return Ok(None);
+    }
+    let c = FilePath::from_str(alloc, assumed)?;
+    let (a, b) = paths_of(alloc, a, b)?;
+    Ok(Some(Task::InductUnder { a, b, c, conflicts }))
+}
+
+/// The comparison by ties of signals behind the rows of the stimulus. It stands only beside `--signals`, and without an assumption.
 fn tied_in(
     alloc: Global,
     signals: bool,
     a: &str,
     b: &str,
+    assumed: Option<&str>,
     stimulus: &str,
     conflicts: u32,
 ) -> Result<Option<Task>, NoMemory>
-    ensures { IfOk result (λ task. task ≡ tied_in signals a.now b.now conflicts (Some stimulus.now)) }
+    ensures { IfOk result (λ task. task ≡ tied_in signals a.now b.now conflicts (option_map (λ w. w.now) assumed.entry) (Some stimulus.now)) }
 {
-    if !signals {
+    if !signals || assumed.is_some() {
         return Ok(None);
     }
     let s = FilePath::from_str(alloc, stimulus)?;

@@ -110,6 +110,13 @@ pub enum Task {
         b: FilePath,
         conflicts: u32,
     },
+    /// Compare them by ties of signals in the runs whose inputs make the output of a third file's circuit 1 in each cycle.
+    InductUnder {
+        a: FilePath,
+        b: FilePath,
+        c: FilePath,
+        conflicts: u32,
+    },
     /// Compare them by ties of signals behind the rows of a stimulus, whatever they power up with.
     InductAfter {
         a: FilePath,
@@ -203,6 +210,12 @@ impl Drop for Task {
             Task::InductSignals {
                 a: _,
                 b: _,
+                conflicts: _,
+            } => {}
+            Task::InductUnder {
+                a: _,
+                b: _,
+                c: _,
                 conflicts: _,
             } => {}
             Task::InductAfter {

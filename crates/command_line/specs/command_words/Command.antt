@@ -71,7 +71,7 @@ abbrev pub cert_app : App
 cert_app = fold with_rule (new_app (codes "cert")) (place (codes "a") ∷ place (codes "b") ∷ place (codes "pair") ∷ place (codes "form") ∷ conflicts ∷ [])
 
 abbrev pub induct_app : App
-induct_app = fold with_rule (new_app (codes "induct")) (place (codes "a") ∷ place (codes "b") ∷ conflicts ∷ flag (codes "signals") ∷ option (codes "after") ∷ [])
+induct_app = fold with_rule (new_app (codes "induct")) (place (codes "a") ∷ place (codes "b") ∷ conflicts ∷ flag (codes "signals") ∷ option (codes "after") ∷ option (codes "assume") ∷ [])
 
 -- `sec` with one of its subcommands
 abbrev pub top_app : App

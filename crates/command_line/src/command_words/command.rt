@@ -128,6 +128,7 @@ fn words_of<'a>(which: Subcommand) -> (&'a str, &'a [Word<'a>])
                 Word::Conflicts,
                 Word::Flag("signals"),
                 Word::Option("after"),
+                Word::Option("assume"),
             ],
         ),
     }
