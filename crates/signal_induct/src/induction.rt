@@ -47,13 +47,21 @@ pub fn induct_signals(
 {
     let graph = Aig::new(alloc)?;
     graph.keeps();
-    let always = Assumed {
-        graph: &graph,
+    let nothing = nothing_assumed(&graph);
+    induct_where(alloc, a, b, orders, &nothing, conflicts)
+}
+
+/// What is met always.
+fn nothing_assumed(graph: &Aig) -> Assumed<'_>
+    ensures graph { result.graph.now ≡ graph.now }
+    ensures lit { result.lit.0 ≡ 1 }
+{
+    Assumed {
+        graph,
         lit: Lit::TRUE,
         numbers: &[],
         row: &[],
-    };
-    induct_where(alloc, a, b, orders, &always, conflicts)
+    }
 }
 
 /// The same of the runs in which the assumption is met in every cycle. Inputs have the numbers of `orders`.

@@ -96,12 +96,7 @@ fn met_words(
 }
 
 /// Eight words for each of so many variables: those of these that have the variable's number.
-fn words_at(
-    alloc: Global,
-    words: &[u64],
-    numbers: &[u32],
-    count: u32,
-) -> Result<Vec<u64>, NoMemory>
+fn words_at(alloc: Global, words: &[u64], numbers: &[u32], count: u32) -> Result<Vec<u64>, NoMemory>
     ensures { IfOk result (λ made. length made.items ≡ 8 * count) }
 {
     let mut made = Vec::new(alloc);

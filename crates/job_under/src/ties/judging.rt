@@ -1,16 +1,16 @@
 //! Two nets compared by ties of signals under a third.
 
-ghost use Rattle.std.specs.Prelude.{◌≡◌, ℕ, ◌≤◌, ◌<◌, ◌×◌, None, [], length, map, IfOk};
-ghost use Rattle.circuit_theory.specs.Interface.{first_mismatch, shared_inputs};
+ghost use Rattle.std.specs.Prelude.{◌≡◌, ◌≤◌, ◌<◌, None, [], ◌∷◌, length, map, IfOk};
+ghost use Rattle.circuit_theory.specs.Interface.{first_mismatch, shared_inputs, AreOrders};
+ghost use Rattle.flat_net.specs.declared.parts.Port.{Port};
 ghost use Rattle.flat_net.specs.Comparable.{IsComparable};
 ghost use Rattle.flat_net.specs.View.{ports_of};
-ghost use Rattle.aig.specs.Builds.{HasTreeValues};
 ghost use Rattle.assume_queries.specs.assume_sequences.assume_taken.Premises.{IsPremiseOf};
 ghost use Rattle.job_base.specs.declared.finding.Judgement.TheVariants as judgement;
 ghost use Rattle.signal_induct.specs.Tied.{first_apart};
 ghost use Rattle.job_signals.specs.Judged.{judgement_of};
 ghost use Rattle.job_under.specs.ties.Judged.{ties_text};
-ghost use Rattle.job_under.specs.ties.Ends.{AreJudgedOr, AreJudgedBy, oversized};
+ghost use Rattle.job_under.specs.ties.Ends.{AreJudgedBy, oversized};
 
 use crate::judging::{Judged, judged_limit};
 use crate::ties::report::report_ties;
@@ -22,7 +22,7 @@ use cycle_under::UnderError;
 use flat_net::Net;
 use induct::InductError;
 use job_base::{Judgement, Proofs};
-use sec_base::{MAX_CONFLICTS, NoMemory, Word};
+use sec_base::{MAX_CONFLICTS, NoMemory, Orders, Word};
 use sec_setup::{interface, shared_names};
 use signal_induct::{SignalInduction, TiedPair, first_apart, induct_where};
 use signal_refine::Assumed;
@@ -48,14 +48,14 @@ pub(crate) fn judge_ties(
         Ok(shared) => shared,
         Err(error) => return Err(UnderError::from(mismatch_of(error))),
     };
-    match take(alloc, c, &shared, conflicts)? {
+    let taken = take(alloc, c, &shared, conflicts)?;
+    match taken {
         Taken::Met(premise) => {
             let judged = judge_where(alloc, a, b, c, &premise, conflicts)?;
             Ok(judged)
         }
         Taken::Limit(proof) => {
-            let name = &c.outputs()[0].name;
-            let judged = judged_limit(alloc, a, b, name, proof, conflicts)?;
+            let judged = judged_limit(alloc, a, b, name_of(c), proof, conflicts)?;
             Ok(judged)
         }
     }
@@ -80,20 +80,56 @@ fn judge_where(
         Ok(orders) => orders,
         Err(error) => return Err(UnderError::from(mismatch_of(error))),
     };
+    tie_under(alloc, a, b, c, premise, &orders, conflicts)
+}
+
+/// The same where inputs have these numbers.
+fn tie_under(
+    alloc: Global,
+    a: &Net,
+    b: &Net,
+    c: &Net,
+    premise: &Premise,
+    orders: &Orders,
+    conflicts: u32,
+) -> Result<Judged, UnderError>
+    requires right { IsComparable b.now }
+    requires matches { first_mismatch (ports_of a.now) (ports_of b.now) ≡ None }
+    requires premise { IsPremiseOf (shared_inputs (ports_of a.now) (ports_of b.now)) c.now (length (shared_inputs (ports_of a.now) (ports_of b.now))) premise.now }
+    requires orders { AreOrders (ports_of a.now) (ports_of b.now) orders.now.left orders.now.right }
+    ensures { AreJudgedBy a.now b.now c.now conflicts result }
+{
     premise.own.aig.keeps();
     let numbers = numbers_of(alloc, &premise.own.places)?;
-    let assumed = Assumed {
-        graph: &premise.own.aig,
-        lit: premise.own.function.lit,
-        numbers: &numbers,
-        row: premise.meeting.as_slice(),
-    };
-    let made = match induct_where(alloc, a, b, &orders, &assumed, conflicts) {
+    let assumed = assumed_of(premise, &numbers);
+    let made = match induct_where(alloc, a, b, orders, &assumed, conflicts) {
         Ok(made) => made,
         Err(error) => return Err(oversized(error)),
     };
-    let judged = judged_ties(alloc, a, b, &c.outputs()[0].name, &made)?;
+    let judged = judged_ties(alloc, a, b, name_of(c), &made)?;
     Ok(judged)
+}
+
+/// The assumption, whose variables are inputs with these numbers.
+fn assumed_of<'a>(premise: &'a Premise, numbers: &'a [u32]) -> Assumed<'a>
+    ensures graph { result.graph.now ≡ premise.now.own.aig }
+    ensures lit { result.lit.0 ≡ premise.now.own.function.lit.0 }
+    ensures numbers { result.numbers.now ≡ numbers.now }
+{
+    Assumed {
+        graph: &premise.own.aig,
+        lit: premise.own.function.lit,
+        numbers,
+        row: premise.meeting.as_slice(),
+    }
+}
+
+/// The name of the output of a net that has one.
+fn name_of(c: &Net) -> &Word
+    requires { 0 < length c.now.outputs }
+    ensures { (p : Port) → c.now.outputs ≡ p ∷ [] → result.now ≡ p.name }
+{
+    &c.outputs()[0].name
 }
 
 /// The number of each variable's input.
