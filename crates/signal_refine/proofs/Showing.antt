@@ -80,7 +80,7 @@ module _ (n : SignalNets) (first : ℕ) (below : AreBelow n first) (base : List 
         AreLeaves (free_cycle n first) g0 g1 c1 leaves → IsCopy base leaves nodes g1 g2 c2 now → (kept : List Lit) → AreCarried now.read.items lits kept →
         ((w : ℕ → Bool) (g : List Node) (a : ℕ → Bool) → HaveAt w g a kept → HaveAt w g a before.now) →
         AreLeaves (record { nets = n; inputs = limit; first = first; latches = latches.Carried before }) g2 g3 c3 next → Grows g3 g4 → (care : Lit) → IsStepCare w now leaves next g3 g4 care → AreShown base next care nodes g4 → Steps (IsMet w n) n first base nodes
-    steps_where_shown limit limit_is lits are_lits g0 g1 g2 g3 g4 c1 c2 c3 leaves next before now are_leaves is_copy kept carried are_before are_next grows care caring shown x y successive here then tied =
+    steps_where_shown limit limit_is lits are_lits g0 g1 g2 g3 g4 c1 c2 c3 leaves next before now are_leaves is_copy kept carried are_before are_next grows care caring shown x y successive here onward tied =
         (bits n first below y, cycle_reading y successive.next, shown a (bits n first below y) cared (values_grow (bits n first below y) g3 g4 grows a next are_next.within next_values))
       where
         old : ℕ → Bool
@@ -137,4 +137,4 @@ module _ (n : SignalNets) (first : ℕ) (below : AreBelow n first) (base : List 
         cared : value g4 a care.0 ≡ true
         cared =
             caring a old (bits n first below y) (values_grow old g1 g3 (Grows-trans g1 g2 g3 is_copy.grows are_next.grows) a leaves are_leaves.within leaf_values) next_values
-            (here old (λ p i number. sym (ap old (zero_more i)) ∙ tied.1.inputs p i number)) (met_bits y successive.next then) one
+            (here old (λ p i number. sym (ap old (zero_more i)) ∙ tied.1.inputs p i number)) (met_bits y successive.next onward) one

@@ -189,7 +189,8 @@ fn step_care(
     let later = met_literal(alloc, aig, &round.assumed, next)?;
     let met = and_both(aig, here, later)?;
     let equal = care_of(aig, &now.own, &now.read)?;
-    and_both(aig, met, equal)
+    let care = and_both(aig, met, equal)?;
+    Ok(care)
 }
 
 /// Whether the ties hold in each cycle in which latches have their initial values.

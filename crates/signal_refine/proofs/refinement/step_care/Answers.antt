@@ -10,7 +10,6 @@ use Rattle.signal_refine.specs.Assuming.{IsStepCare}
 use Rattle.signal_refine.specs.Copies.{HaveAt}
 use Rattle.signal_refine.proofs.Caring.{one_before}
 use Rattle.signal_refine.proofs.Framing.{within_grows, values_grow}
-use Rattle.signal_refine.proofs.Results.{ok_map}
 use Rattle.signal_refine.proofs.refinement.step_care.Goals as goal
 
 pub met_literal-requires-2-clause-leaves : goal.met_literal-requires-2-clause-leaves
@@ -60,10 +59,19 @@ returns-clause-care c =
     let grows = Grows-trans g0 g1 g4 c.in_ok-here.ensures.grows (Grows-trans g1 g2 g4 c.in_ok-later.ensures.grows (Grows-trans g2 g3 g4 c.in_ok-met.ensures.grows c.in_ok-equal.ensures.grows)) in
     let cares : IsCare own read g4 equal =
     subst (λ (l : List Lit). IsCare l read g4 equal) c.deref.ensures.value (subst (λ (l : List Lit). IsCare c.deref.result.now l g4 equal) c.deref-2.ensures.value c.in_ok-equal.ensures.care) in
-    ok_map (λ (x : Lit). (a : ℕ → Bool) → value g4 a met.0 ≡ true → value g4 a equal.0 ≡ true → value g5 a x.0 ≡ true) (λ (x : Lit). IsStepCare w now c.args.leaves.now c.args.next.now g0 g5 x) c.and_both-2.result
-    (λ x h a m d at next holds then one.
+    λ a m d at next holds onward one.
     let first : value g2 a here.0 ≡ true = value-grows g1 g2 c.in_ok-later.ensures.grows a here.0 c.in_ok-here.ensures.within ∙ c.in_ok-here.ensures.value a m at holds in
-    let second = c.in_ok-later.ensures.value a d (values_grow d g0 g1 c.in_ok-here.ensures.grows a c.args.next.now c.requires.next next) then in
-    h a (value-grows g3 g4 c.in_ok-equal.ensures.grows a met.0 c.in_ok-met.ensures.within ∙ c.in_ok-met.ensures.value a first second)
-    (cares a (one_before g4 g5 c.and_both-2.ensures.grows own read (within_grows g0 g4 grows own c.requires.own) (within_grows g0 g4 grows read c.requires.read) a one)))
-    c.and_both-2.ensures.value
+    let second = c.in_ok-later.ensures.value a d (values_grow d g0 g1 c.in_ok-here.ensures.grows a c.args.next.now c.requires.next next) onward in
+    c.in_ok-care.ensures.value a (value-grows g3 g4 c.in_ok-equal.ensures.grows a met.0 c.in_ok-met.ensures.within ∙ c.in_ok-met.ensures.value a first second)
+    (cares a (one_before g4 g5 c.in_ok-care.ensures.grows own read (within_grows g0 g4 grows own c.requires.own) (within_grows g0 g4 grows read c.requires.read) a one))
+
+pub returns-clause-grows : goal.returns-clause-grows
+returns-clause-grows c =
+    let g0 = c.args.aig.now in
+    let g1 = c.met_literal.new.aig in
+    let g2 = c.met_literal-2.new.aig in
+    let g3 = c.and_both.new.aig in
+    let g4 = c.care_of.new.aig in
+    let g5 = c.and_both-2.new.aig in
+    Grows-trans g0 g1 g5 c.in_ok-here.ensures.grows
+    (Grows-trans g1 g2 g5 c.in_ok-later.ensures.grows (Grows-trans g2 g3 g5 c.in_ok-met.ensures.grows (Grows-trans g3 g4 g5 c.in_ok-equal.ensures.grows c.in_ok-care.ensures.grows)))
