@@ -78,8 +78,8 @@ pub fn induct_where(
     requires orders { AreOrders (ports_of a.now) (ports_of b.now) orders.now.left orders.now.right }
     requires assumed { assumed.now.lit.0 < 2 * length assumed.now.graph.now }
     ensures light { IfOk result (λ _. (net_weight a.now ≤ MAX_WEIGHT) × (net_weight b.now ≤ MAX_WEIGHT)) }
-    ensures made { IfOk result (IsInductionWhere (IsMet assumed.now (record { left = a; right = b; orders = orders })) a.now b.now) }
-    ensures agree { IfOk result (λ made. first_apart made.pairs ≡ None → AgreeFromResetWhere (IsMet assumed.now (record { left = a; right = b; orders = orders })) (circuit_of a.now) (circuit_of b.now)) }
+    ensures made { IfOk result (IsInductionWhere (IsMet assumed.now (record { left = a.entry; right = b.entry; orders = orders.entry })) a.now b.now) }
+    ensures agree { IfOk result (λ made. first_apart made.pairs ≡ None → AgreeFromResetWhere (IsMet assumed.now (record { left = a.entry; right = b.entry; orders = orders.entry })) (circuit_of a.now) (circuit_of b.now)) }
     ensures refused { IfErr result (IsRefusal a.now b.now) }
 {
     if !is_light(a) {
@@ -107,8 +107,8 @@ fn induct_light(
     requires orders { AreOrders (ports_of a.now) (ports_of b.now) orders.now.left orders.now.right }
     requires assumed { assumed.now.lit.0 < 2 * length assumed.now.graph.now }
     requires light { (net_weight a.now ≤ MAX_WEIGHT) × (net_weight b.now ≤ MAX_WEIGHT) }
-    ensures made { IfOk result (IsInductionWhere (IsMet assumed.now (record { left = a; right = b; orders = orders })) a.now b.now) }
-    ensures agree { IfOk result (λ made. first_apart made.pairs ≡ None → AgreeFromResetWhere (IsMet assumed.now (record { left = a; right = b; orders = orders })) (circuit_of a.now) (circuit_of b.now)) }
+    ensures made { IfOk result (IsInductionWhere (IsMet assumed.now (record { left = a.entry; right = b.entry; orders = orders.entry })) a.now b.now) }
+    ensures agree { IfOk result (λ made. first_apart made.pairs ≡ None → AgreeFromResetWhere (IsMet assumed.now (record { left = a.entry; right = b.entry; orders = orders.entry })) (circuit_of a.now) (circuit_of b.now)) }
 {
     let left = are_small(orders.left.as_slice());
     let right = are_small(orders.right.as_slice());
@@ -134,8 +134,8 @@ fn tie(
     requires light { (net_weight a.now ≤ MAX_WEIGHT) × (net_weight b.now ≤ MAX_WEIGHT) }
     requires left_small { All (λ i. i < 2 ^ 30) orders.now.left }
     requires right_small { All (λ i. i < 2 ^ 30) orders.now.right }
-    ensures made { IfOk result (IsInductionWhere (IsMet assumed.now (record { left = a; right = b; orders = orders })) a.now b.now) }
-    ensures agree { IfOk result (λ made. first_apart made.pairs ≡ None → AgreeFromResetWhere (IsMet assumed.now (record { left = a; right = b; orders = orders })) (circuit_of a.now) (circuit_of b.now)) }
+    ensures made { IfOk result (IsInductionWhere (IsMet assumed.now (record { left = a.entry; right = b.entry; orders = orders.entry })) a.now b.now) }
+    ensures agree { IfOk result (λ made. first_apart made.pairs ≡ None → AgreeFromResetWhere (IsMet assumed.now (record { left = a.entry; right = b.entry; orders = orders.entry })) (circuit_of a.now) (circuit_of b.now)) }
 {
     a.keeps();
     b.keeps();
