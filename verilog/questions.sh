@@ -198,7 +198,7 @@ started() {
 # report and `told` to the status: search NAME OLD NEW WORDS..
 search() {
   local words=() bound=()
-  mapfile -t words < <(valued --conflicts)
+  mapfile -t words < <(valued --conflicts --assume)
   ! command -v timeout >/dev/null || bound=(timeout 30)
   found=$scratch/$1.$number told=0
   sec_to "$found" check "$2" "$3" "${words[@]}" --reset --cycles "$cycles" "${@:4}" || told=$?
@@ -208,7 +208,7 @@ search() {
 # tied NAME OLD NEW WORDS..
 tied() {
   local words=() bound=()
-  mapfile -t words < <(valued --conflicts)
+  mapfile -t words < <(valued --conflicts --assume)
   ! command -v timeout >/dev/null || bound=(timeout 30)
   found=$scratch/$1.$number told=0
   sec_to "$found" induct "$2" "$3" "${words[@]}" --signals "${@:4}" 2> "$scratch/said" || told=$?
@@ -314,8 +314,8 @@ behind_a_reset() {
   esac
 }
 
-# Asks from the initial values of two files, and sets `way` too. By induct no inputs are assumed, so an answer of equal says more. With
-# --cycles a given number of cycles is asked about, with feedback too.
+# Asks from the initial values of two files, and sets `way` too. By induct without --signals no inputs are assumed, so an answer of equal says
+# more. With --cycles a given number of cycles is asked about, with feedback too.
 from_initial_values() {
   local words=() given=()
   mapfile -t given < <(valued --cycles)

@@ -1,6 +1,8 @@
 -- Where two circuits can be compared by a search under an assumption, they are.
 use Rattle.std.specs.Prelude.{IfSome, IsSomeAnd}
 use Rattle.std.proofs.Common.{◌≡◌, ℕ, List, Option, Some, Err}
+use Rattle.flat_net.specs.View.{NetView}
+use Rattle.pair_decide.specs.declared.query.Proof.{Proof}
 use Rattle.job_base.specs.sec_files.Loading.{Loads, IsTooLong, HasFault, HasDesignFault, HasRecordFault}
 use Rattle.job_base.specs.declared.finding.File.TheVariants as file
 use Rattle.job_base.specs.declared.finding.LineFault.TheVariants as line_fault
@@ -15,10 +17,11 @@ use Rattle.job_base.proofs.sec_files.job_files.Accepted.{is_short, has_no_fault,
 use Rattle.job_base.proofs.sec_files.job_files.Reading.{some_and, if_told}
 use Rattle.cycle_under.specs.declared.found.UnderError.{UnderError}
 use Rattle.cycle_under.specs.declared.found.UnderError.TheVariants as under
-use Rattle.job_under.specs.Found.{IsRefusedBy, IsUnderRefusal, IsUnderFound}
-use Rattle.job_under.specs.Answer.{CanBeSearchedUnder, IsUnderAnswer, IsUnderComplete}
+use Rattle.job_under.specs.Judged.{IsJudged}
+use Rattle.job_under.specs.Found.{IsRefusedBy, IsRefusal, IsFoundBy, SearchRefuses, IsUnderFound}
+use Rattle.job_under.specs.Answer.{CanBeJudgedBy, CanJudgeBy, IsUnderAnswer, IsUnderComplete}
 
-module _ (cycles conflicts : ℕ) (left right assumed : Option (List ℕ)) (x y z : List ℕ) (is : left ≡ Some x) (also : right ≡ Some y) (third : assumed ≡ Some z) (can : CanBeSearchedUnder cycles conflicts x y z) where
+module _ (Refuses : NetView → NetView → NetView → UnderError → Type 0) (Judges : NetView → NetView → NetView → Judgement → List Proof → List ℕ → Type 0) (left right assumed : Option (List ℕ)) (x y z : List ℕ) (is : left ≡ Some x) (also : right ≡ Some y) (third : assumed ≡ Some z) (can : CanBeJudgedBy Refuses x y z) where
   of_left : (P : List ℕ → Type 0) → IfSome left P → P x
   of_left P h = if_told left P x is h
 
@@ -28,11 +31,11 @@ module _ (cycles conflicts : ℕ) (left right assumed : Option (List ℕ)) (x y 
   of_assumed : (P : List ℕ → Type 0) → IfSome assumed P → P z
   of_assumed P h = if_told assumed P z third h
 
-  not_refused : (e : UnderError) → (e ≡ under.NoMemory → ⊥) → IsRefusedBy cycles conflicts left right assumed e → ⊥
+  not_refused : (e : UnderError) → (e ≡ under.NoMemory → ⊥) → IsRefusedBy Refuses left right assumed e → ⊥
   not_refused e told h = can.stands h.a h.b h.c (of_left (λ t. Loads t h.a) h.left_loads) (of_right (λ t. Loads t h.b) h.right_loads) (of_assumed (λ t. Loads t h.c) h.assumed_loads) e told h.said
 
   -- nothing is refused
-  stands : (r : Refusal) → IsUnderRefusal cycles conflicts left right assumed r → ⊥
+  stands : (r : Refusal) → IsRefusal Refuses left right assumed r → ⊥
   stands (refusal.TooLong file.A) h = is_short x can.left (of_left IsTooLong h)
   stands (refusal.TooLong file.B) h = is_short y can.right (of_right IsTooLong h.1)
   stands (refusal.TooLong file.C) h = is_short z can.assumed (of_assumed IsTooLong h.2)
@@ -66,7 +69,7 @@ module _ (cycles conflicts : ℕ) (left right assumed : Option (List ℕ)) (x y 
   judged judgement.Different = tt
   judged judgement.Limit = tt
 
-  answered : (f : Finding) → IsUnderFound cycles conflicts left right assumed f → IsUnderAnswer (status_of f)
+  answered : (f : Finding) → IsFoundBy Refuses Judges left right assumed f → IsUnderAnswer (status_of f)
   answered finding.Words h = absurd h
   answered (finding.Refused r) h = absurd (stands r h)
   answered (finding.Cyclic side names) h = absurd h
@@ -80,9 +83,13 @@ module _ (cycles conflicts : ℕ) (left right assumed : Option (List ℕ)) (x y 
   answered (finding.Judged j proofs text) h = judged j
 
 -- what is found has the status of a verdict
+pub found_complete : (Refuses : NetView → NetView → NetView → UnderError → Type 0) (Judges : NetView → NetView → NetView → Judgement → List Proof → List ℕ → Type 0) (left right assumed : Option (List ℕ)) (f : Finding) → IsFoundBy Refuses Judges left right assumed f →
+    CanJudgeBy Refuses left right assumed → IsUnderAnswer (status_of f)
+found_complete Refuses Judges left right assumed f found can =
+    let l = some_and left (λ x. IsSomeAnd right (λ y. IsSomeAnd assumed (λ z. CanBeJudgedBy Refuses x y z))) can in
+    let r = some_and right (λ y. IsSomeAnd assumed (λ z. CanBeJudgedBy Refuses l.0 y z)) l.2 in
+    let s = some_and assumed (λ z. CanBeJudgedBy Refuses l.0 r.0 z) r.2 in
+    answered Refuses Judges left right assumed l.0 r.0 s.0 l.1 r.1 s.1 s.2 f found
+
 pub under_complete : (cycles conflicts : ℕ) (left right assumed : Option (List ℕ)) (f : Finding) → IsUnderFound cycles conflicts left right assumed f → IsUnderComplete cycles conflicts left right assumed (status_of f)
-under_complete cycles conflicts left right assumed f found can =
-    let l = some_and left (λ x. IsSomeAnd right (λ y. IsSomeAnd assumed (λ z. CanBeSearchedUnder cycles conflicts x y z))) can in
-    let r = some_and right (λ y. IsSomeAnd assumed (λ z. CanBeSearchedUnder cycles conflicts l.0 y z)) l.2 in
-    let s = some_and assumed (λ z. CanBeSearchedUnder cycles conflicts l.0 r.0 z) r.2 in
-    answered cycles conflicts left right assumed l.0 r.0 s.0 l.1 r.1 s.1 s.2 f found
+under_complete cycles conflicts left right assumed f found = found_complete (SearchRefuses cycles conflicts) (λ a b c j proofs text. IsJudged a b c cycles conflicts j proofs text) left right assumed f found

@@ -16,8 +16,8 @@ use Rattle.sec_jobs.specs.job_search.search_meaning.Judged.{judgement_of, proofs
 use Rattle.job_under.specs.declared.judging.Judged.{Judged}
 use Rattle.job_under.specs.Report.{searched_text}
 use Rattle.job_under.specs.Judged.{IsJudgedSearch}
-use Rattle.job_under.specs.Found.{IsUnderFound}
-use Rattle.job_under.specs.Ends.{IsJudgedBy, under_end}
+use Rattle.job_under.specs.Found.{IsFoundBy}
+use Rattle.job_under.specs.Ends.{IsJudgedOr, IsJudgedBy, under_end}
 use Rattle.job_under.proofs.Says.{agree, agree_up_to, differ}
 
 module _ (a b c : NetView) (cycles conflicts : ℕ) where
@@ -41,14 +41,14 @@ module _ (a b c : NetView) (cycles conflicts : ℕ) where
   }
 
 -- the nets are judged
-pub nets_end : (cycles conflicts : ℕ) (left right assumed : Option (List ℕ)) (failed : Type 0) (a b c : NetView) (judged : Result Judged UnderError) → IfSome left (λ x. Loads x a) → IfSome right (λ y. Loads y b) → IfSome assumed (λ z. Loads z c) →
-    IsJudgedBy a b c cycles conflicts judged → EndsBy (IsUnderFound cycles conflicts left right assumed) failed (under_end judged)
-nets_end cycles conflicts left right assumed failed a b c (Ok j) l r s k = record { a = a; b = b; c = c; left_loads = l; right_loads = r; assumed_loads = s; said = k }
-nets_end cycles conflicts left right assumed failed a b c (Err (under.Interface name)) l r s k = record { a = a; b = b; c = c; left_loads = l; right_loads = r; assumed_loads = s; said = k }
-nets_end cycles conflicts left right assumed failed a b c (Err (under.Assume fault)) l r s k = record { a = a; b = b; c = c; left_loads = l; right_loads = r; assumed_loads = s; said = k }
-nets_end cycles conflicts left right assumed failed a b c (Err (under.Vacuous by)) l r s k = (by, record { a = a; b = b; c = c; left_loads = l; right_loads = r; assumed_loads = s; said = k })
-nets_end cycles conflicts left right assumed failed a b c (Err (under.TooLarge side)) l r s k = record { a = a; b = b; c = c; left_loads = l; right_loads = r; assumed_loads = s; said = k }
-nets_end cycles conflicts left right assumed failed a b c (Err under.NoMemory) l r s k = tt
+pub nets_end : (Refuses : NetView → NetView → NetView → UnderError → Type 0) (Judges : NetView → NetView → NetView → Judgement → List Proof → List ℕ → Type 0) (left right assumed : Option (List ℕ)) (failed : Type 0) (a b c : NetView) (judged : Result Judged UnderError) → IfSome left (λ x. Loads x a) → IfSome right (λ y. Loads y b) → IfSome assumed (λ z. Loads z c) →
+    IsJudgedOr Refuses Judges a b c judged → EndsBy (IsFoundBy Refuses Judges left right assumed) failed (under_end judged)
+nets_end Refuses Judges left right assumed failed a b c (Ok j) l r s k = record { a = a; b = b; c = c; left_loads = l; right_loads = r; assumed_loads = s; said = k }
+nets_end Refuses Judges left right assumed failed a b c (Err (under.Interface name)) l r s k = record { a = a; b = b; c = c; left_loads = l; right_loads = r; assumed_loads = s; said = k }
+nets_end Refuses Judges left right assumed failed a b c (Err (under.Assume fault)) l r s k = record { a = a; b = b; c = c; left_loads = l; right_loads = r; assumed_loads = s; said = k }
+nets_end Refuses Judges left right assumed failed a b c (Err (under.Vacuous by)) l r s k = (by, record { a = a; b = b; c = c; left_loads = l; right_loads = r; assumed_loads = s; said = k })
+nets_end Refuses Judges left right assumed failed a b c (Err (under.TooLarge side)) l r s k = record { a = a; b = b; c = c; left_loads = l; right_loads = r; assumed_loads = s; said = k }
+nets_end Refuses Judges left right assumed failed a b c (Err under.NoMemory) l r s k = tt
 
 -- a judgement ends with no read fault
 pub no_fault_judged : (r : Result Judged UnderError) → IsErrOf (under_end r) stop.ReadFault → ⊥

@@ -50,7 +50,7 @@ not_done (verdict.Different w) e = cc
 not_done (verdict.Limit name) e = cc
 
 -- what is said of all texts that load as the three nets
-of_three : (left right assumed : Option (List ℕ)) (a b c : NetView) (P : List ℕ → List ℕ → List ℕ → Type 0) → IfSome left (λ x. Loads x a) → IfSome right (λ y. Loads y b) → IfSome assumed (λ z. Loads z c) →
+pub of_three : (left right assumed : Option (List ℕ)) (a b c : NetView) (P : List ℕ → List ℕ → List ℕ → Type 0) → IfSome left (λ x. Loads x a) → IfSome right (λ y. Loads y b) → IfSome assumed (λ z. Loads z c) →
     ((x y z : List ℕ) → Loads x a → Loads y b → Loads z c → P x y z) → OfThreeTexts left right assumed P
 of_three left right assumed a b c P l r s f = record { left_loads = is_loaded left a l; right_loads = is_loaded right b r; assumed_loads = is_loaded assumed c s; said = all left right assumed l r s }
   where
@@ -140,7 +140,7 @@ module _ (cycles conflicts : ℕ) (before now : Option (List ℕ)) (a b c : NetV
       go (verdict.Limit name) is q = undecided_at name is (subst (VerdictFitsUnder (assumed_by h.is.assumed) h.is.assumed.weight h.is.numbers a b cycles h.made.last pairs h.made.pairs) is h.is.found.verdict_is)
 
 -- the assumption's query wasn't decided
-assumption_undecided : (conflicts : ℕ) (before now : Option (List ℕ)) (a b c : NetView) (j : Judgement) (proofs : List Proof) (text : List ℕ) → IsJudgedUndecided a b c conflicts j proofs text → Takes before now text →
+pub assumption_undecided : (conflicts : ℕ) (before now : Option (List ℕ)) (a b c : NetView) (j : Judgement) (proofs : List Proof) (text : List ℕ) → IsJudgedUndecided a b c conflicts j proofs text → Takes before now text →
     (x y z : List ℕ) → Loads x a → Loads y b → Loads z c → AssumptionUndecided x y z conflicts proofs before now
 assumption_undecided conflicts before now a b c j proofs text h taken x y z left right assumed = record {
   spelled = spelled x y z a b c left right assumed;

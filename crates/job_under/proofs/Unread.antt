@@ -4,6 +4,10 @@ use Rattle.std.proofs.lemmas.List.Elements.{All-nil, All-cons}
 use Rattle.base_shelves.specs.Outside.{Rose}
 use Rattle.job_base.specs.declared.sec_files.loader.LoadError.{LoadError}
 use Rattle.job_base.specs.sec_files.Loading.{LoadFails}
+use Rattle.flat_net.specs.View.{NetView}
+use Rattle.pair_decide.specs.declared.query.Proof.{Proof}
+use Rattle.cycle_under.specs.declared.found.UnderError.{UnderError}
+use Rattle.job_base.specs.declared.finding.Judgement.{Judgement}
 use Rattle.job_base.specs.declared.finding.File.TheVariants as file
 use Rattle.job_base.specs.declared.finding.Refusal.{Refusal}
 use Rattle.job_base.specs.declared.finding.Refusal.TheVariants as refusal
@@ -16,11 +20,11 @@ use Rattle.job_base.specs.sec_files.job_files.Ends.{load_end}
 use Rattle.job_base.specs.sec_files.job_files.Reading.{IsLoaded, Held, ReadFailed}
 use Rattle.job_base.proofs.sec_files.job_files.Loading.{load_ends}
 use Rattle.job_base.proofs.sec_files.job_files.Reading.{first_failed, second_failed}
-use Rattle.job_under.specs.Found.{under_paths, IsUnreadRefusal, IsUnread, IsUnderRefusal, IsUnderFound}
+use Rattle.job_under.specs.Found.{under_paths, IsUnreadRefusal, IsUnread, IsRefusal, IsFoundBy}
 
-module _ (cycles conflicts : ℕ) (left right assumed : Option (List ℕ)) where
+module _ (Refuses : NetView → NetView → NetView → UnderError → Type 0) (Judges : NetView → NetView → NetView → Judgement → List Proof → List ℕ → Type 0) (left right assumed : Option (List ℕ)) where
   -- circuits that aren't read aren't compared
-  refused_so : (r : Refusal) → IsUnreadRefusal left right assumed r → IsUnderRefusal cycles conflicts left right assumed r
+  refused_so : (r : Refusal) → IsUnreadRefusal left right assumed r → IsRefusal Refuses left right assumed r
   refused_so (refusal.TooLong f) h = h
   refused_so (refusal.Text f line kind) h = h
   refused_so (refusal.Design f fault) h = h
@@ -33,7 +37,7 @@ module _ (cycles conflicts : ℕ) (left right assumed : Option (List ℕ)) where
   refused_so refusal.Vacuous h = absurd h
   refused_so (refusal.Pair name) h = h
 
-  found_so : (f : Finding) → IsUnread left right assumed f → IsUnderFound cycles conflicts left right assumed f
+  found_so : (f : Finding) → IsUnread left right assumed f → IsFoundBy Refuses Judges left right assumed f
   found_so finding.Words h = absurd h
   found_so (finding.Refused r) h = refused_so r h
   found_so (finding.Cyclic side names) h = absurd h
@@ -46,7 +50,7 @@ module _ (cycles conflicts : ℕ) (left right assumed : Option (List ℕ)) where
   found_so (finding.Unrefuted u) h = absurd h
   found_so (finding.Judged j proofs text) h = absurd h
 
-  pub unread_ends : (failed : Type 0) (r : Result Finding Stop) → EndsBy (IsUnread left right assumed) failed r → EndsBy (IsUnderFound cycles conflicts left right assumed) failed r
+  pub unread_ends : (failed : Type 0) (r : Result Finding Stop) → EndsBy (IsUnread left right assumed) failed r → EndsBy (IsFoundBy Refuses Judges left right assumed) failed r
   unread_ends failed (Ok f) h = found_so f h
   unread_ends failed (Err stop.ReadFault) h = h
   unread_ends failed (Err stop.NoMemory) h = tt

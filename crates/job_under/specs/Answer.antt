@@ -26,7 +26,8 @@ use Rattle.cycle_search.specs.Searches.{IsNumbering}
 use Rattle.cycle_under.specs.declared.found.UnderError.{UnderError}
 use Rattle.cycle_under.specs.declared.found.UnderError.TheVariants as refused
 use Rattle.cycle_under.specs.Cycles.{pair_under}
-use Rattle.cycle_under.specs.Searches.{AgreeBeforeUnder, AreSearchedUnder, SearchesUnder}
+use Rattle.cycle_under.specs.Searches.{AgreeBeforeUnder, AreSearchedUnder}
+use Rattle.job_under.specs.Found.{SearchRefuses}
 use Rattle.job_under.specs.Report.{searched_text, undecided_text}
 
 -- in any two runs that begin with the initial values, have equal inputs and meet the assumption each output is equal in the cycles up to a
@@ -100,17 +101,21 @@ UnderMeans cycles conflicts left right assumed before now proofs status.Limit =
 UnderMeans cycles conflicts left right assumed before now proofs status.Done = ⊥
 UnderMeans cycles conflicts left right assumed before now proofs other = Unit {0}
 
--- The three texts are accepted, and the search of the nets that they load as refuses nothing for them: the interfaces match, the third is an
--- assumption on shared inputs that some row meets, and no circuit's outputs weigh more than 2,000,000 in cycle 0.
-pub record CanBeSearchedUnder (cycles conflicts : ℕ) (x y z : List ℕ) : Type 0 where
+-- The three texts are accepted, and nothing is refused of the nets that they load as.
+pub record CanBeJudgedBy (Refuses : NetView → NetView → NetView → UnderError → Type 0) (x y z : List ℕ) : Type 0 where
   pub left : IsAccepted x
   pub right : IsAccepted y
   pub assumed : IsAccepted z
-  pub stands : (a b c : NetView) → Loads x a → Loads y b → Loads z c → (e : UnderError) → e ≢ refused.NoMemory → SearchesUnder a b c cycles conflicts (Err e) → ⊥
+  pub stands : (a b c : NetView) → Loads x a → Loads y b → Loads z c → (e : UnderError) → e ≢ refused.NoMemory → Refuses a b c e → ⊥
 
--- the three texts are told, and can be searched so
+-- the three texts are told, and can be judged so
+abbrev pub CanJudgeBy : (NetView → NetView → NetView → UnderError → Type 0) → Option (List ℕ) → Option (List ℕ) → Option (List ℕ) → Type 0
+CanJudgeBy Refuses left right assumed = IsSomeAnd left (λ x. IsSomeAnd right (λ y. IsSomeAnd assumed (λ z. CanBeJudgedBy Refuses x y z)))
+
+-- The three texts are accepted, and the search of the nets that they load as refuses nothing for them: the interfaces match, the third is an
+-- assumption on shared inputs that some row meets, and no circuit's outputs weigh more than 2,000,000 in cycle 0.
 abbrev pub CanSearchUnder : ℕ → ℕ → Option (List ℕ) → Option (List ℕ) → Option (List ℕ) → Type 0
-CanSearchUnder cycles conflicts left right assumed = IsSomeAnd left (λ x. IsSomeAnd right (λ y. IsSomeAnd assumed (λ z. CanBeSearchedUnder cycles conflicts x y z)))
+CanSearchUnder cycles conflicts left right assumed = CanJudgeBy (SearchRefuses cycles conflicts) left right assumed
 
 -- a verdict, or want of memory
 abbrev pub IsUnderAnswer : StatusName → Type 0

@@ -2,9 +2,11 @@
 use Rattle.std.specs.Prelude.{ℕ, List, Option, IfSome, Result, Ok, Err}
 use Rattle.flat_net.specs.Comparable.{IsComparable}
 use Rattle.flat_net.specs.View.{NetView}
+use Rattle.pair_decide.specs.declared.query.Proof.{Proof}
 use Rattle.job_base.specs.sec_files.Loading.{Loads}
 use Rattle.job_base.specs.Ends.{EndsBy}
 use Rattle.job_base.specs.declared.finding.Refusal.TheVariants as refusal
+use Rattle.job_base.specs.declared.finding.Judgement.{Judgement}
 use Rattle.job_base.specs.declared.finding.Finding.{Finding}
 use Rattle.job_base.specs.declared.finding.Finding.TheVariants as finding
 use Rattle.job_base.specs.declared.finding.Stop.{Stop}
@@ -12,11 +14,10 @@ use Rattle.job_base.specs.declared.finding.Stop.TheVariants as stop
 use Rattle.job_base.specs.sec_files.job_files.Reading.{Held, ReadFailed}
 use Rattle.cycle_under.specs.declared.found.UnderError.{UnderError}
 use Rattle.cycle_under.specs.declared.found.UnderError.TheVariants as under
-use Rattle.cycle_under.specs.Searches.{SearchesUnder}
 use Rattle.job_under.specs.declared.judging.Judged.{Judged}
 use Rattle.job_under.specs.declared.reading.ReadThree.{ReadThree}
 use Rattle.job_under.specs.declared.reading.ReadThree.TheVariants as read
-use Rattle.job_under.specs.Found.{under_paths, IsUnread, IsUnderFound}
+use Rattle.job_under.specs.Found.{under_paths, IsUnread, SearchRefuses, IsUnderFound}
 use Rattle.job_under.specs.Judged.{IsJudged}
 
 -- the paths of two circuits and of the assumption, the last cycle, and the limit of conflicts
@@ -33,10 +34,14 @@ IsRead held before now left right assumed (read.Whole a b c) =
     IfSome (held left) (λ x. Loads x a) × IfSome (held right) (λ y. Loads y b) × IfSome (held assumed) (λ z. Loads z c) × IsComparable a × IsComparable b × IsComparable c
 IsRead held before now left right assumed (read.Ended end) = EndsBy (IsUnread (held left) (held right) (held assumed)) (ReadFailed held before now (under_paths left right assumed)) end
 
--- the judgement of both nets under the third, or the first refusal of the search
+-- the judgement of both nets under the third, or the first refusal
+abbrev pub IsJudgedOr : (NetView → NetView → NetView → UnderError → Type 0) → (NetView → NetView → NetView → Judgement → List Proof → List ℕ → Type 0) → NetView → NetView → NetView → Result Judged UnderError → Type 0
+IsJudgedOr Refuses Judges a b c (Ok j) = Judges a b c j.judgement j.proofs j.text
+IsJudgedOr Refuses Judges a b c (Err e) = Refuses a b c e
+
+-- that of the search
 abbrev pub IsJudgedBy : NetView → NetView → NetView → ℕ → ℕ → Result Judged UnderError → Type 0
-IsJudgedBy a b c cycles conflicts (Ok j) = IsJudged a b c cycles conflicts j.judgement j.proofs j.text
-IsJudgedBy a b c cycles conflicts (Err e) = SearchesUnder a b c cycles conflicts (Err e)
+IsJudgedBy a b c cycles conflicts r = IsJudgedOr (SearchRefuses cycles conflicts) (λ l m n j proofs text. IsJudged l m n cycles conflicts j proofs text) a b c r
 
 -- what is found by it
 abbrev pub under_end : Result Judged UnderError → Result Finding Stop

@@ -78,7 +78,7 @@ fn judged_search(
 }
 
 /// The judgement where it wasn't decided whether some row of inputs meets the assumption.
-fn judged_limit(
+pub(crate) fn judged_limit(
     alloc: Global,
     a: &Net,
     b: &Net,

@@ -1,9 +1,11 @@
-//! The job that searches two circuits for a difference in runs from their initial values whose inputs meet an assumption.
+//! The jobs that search two circuits for a difference, or compare them by ties of their signals, in runs from their initial values whose
+//! inputs meet an assumption.
 #![tactic(auto)]
 
 mod comparison;
 mod judging;
 mod reading;
+pub mod ties;
 mod under_report;
 
 pub use comparison::{UnderComparison, compare_under};

@@ -25,6 +25,8 @@ use Rattle.job_settles.proofs.Means.{settles_means, settles_complete}
 use Rattle.job_signals.proofs.Means.{signals_means}
 use Rattle.job_under.proofs.Means.{under_means}
 use Rattle.job_under.proofs.Complete.{under_complete}
+use Rattle.job_under.proofs.ties.Means.{ties_mean}
+use Rattle.job_under.proofs.ties.Complete.{ties_complete}
 use Rattle.job_signals.proofs.job_tied.Means.{tied_means}
 use Rattle.job_signals.proofs.Complete.{signals_complete}
 use Rattle.job_signals.proofs.job_tied.Complete.{tied_complete}
@@ -60,6 +62,7 @@ means held (Some (task.SearchUnder a b c cycles conflicts)) before now f proofs 
 means held (Some (task.After a b s cycles conflicts)) before now f proofs name found w = after_means cycles conflicts (held a) (held b) (held s) before now f proofs name found w
 means held (Some (task.Induct a b conflicts)) before now f proofs name found w = induct_means conflicts (held a) (held b) before now f proofs name found w
 means held (Some (task.InductSignals a b conflicts)) before now f proofs name found w = signals_means (held a) (held b) before now f proofs name found w
+means held (Some (task.InductUnder a b c conflicts)) before now f proofs name found w = ties_mean conflicts (held a) (held b) (held c) before now f proofs name found w
 means held (Some (task.InductAfter a b s conflicts)) before now f proofs name found w = tied_means (held a) (held b) (held s) before now f proofs name found w
 
 -- a run that ends before it has found anything says nothing
@@ -80,6 +83,7 @@ memory_means held (Some (task.SearchUnder a b c cycles conflicts)) before now pr
 memory_means held (Some (task.After a b s cycles conflicts)) before now proofs = tt
 memory_means held (Some (task.Induct a b conflicts)) before now proofs = tt
 memory_means held (Some (task.InductSignals a b conflicts)) before now proofs = tt
+memory_means held (Some (task.InductUnder a b c conflicts)) before now proofs = tt
 memory_means held (Some (task.InductAfter a b s conflicts)) before now proofs = tt
 
 pub fault_means : (held : Held) (job : Option Task) (before now : Option (List ℕ)) (proofs : List Proof) → Means held job before now proofs status.ReadFault
@@ -99,6 +103,7 @@ fault_means held (Some (task.SearchUnder a b c cycles conflicts)) before now pro
 fault_means held (Some (task.After a b s cycles conflicts)) before now proofs = tt
 fault_means held (Some (task.Induct a b conflicts)) before now proofs = tt
 fault_means held (Some (task.InductSignals a b conflicts)) before now proofs = tt
+fault_means held (Some (task.InductUnder a b c conflicts)) before now proofs = tt
 fault_means held (Some (task.InductAfter a b s conflicts)) before now proofs = tt
 
 -- a job that can be done is done, by what is found of it
@@ -119,6 +124,7 @@ is_complete held (Some (task.SearchUnder a b c cycles conflicts)) f found = unde
 is_complete held (Some (task.After a b s cycles conflicts)) f found = after_complete cycles conflicts (held a) (held b) (held s) f found
 is_complete held (Some (task.Induct a b conflicts)) f found = induct_complete conflicts (held a) (held b) f found
 is_complete held (Some (task.InductSignals a b conflicts)) f found = signals_complete (held a) (held b) f found
+is_complete held (Some (task.InductUnder a b c conflicts)) f found = ties_complete conflicts (held a) (held b) (held c) f found
 is_complete held (Some (task.InductAfter a b s conflicts)) f found = tied_complete (held a) (held b) (held s) f found
 
 -- so is one that ends at want of memory
@@ -139,6 +145,7 @@ memory_is_complete held (Some (task.SearchUnder a b c cycles conflicts)) = λ ca
 memory_is_complete held (Some (task.After a b s cycles conflicts)) = λ can. tt
 memory_is_complete held (Some (task.Induct a b conflicts)) = λ can. tt
 memory_is_complete held (Some (task.InductSignals a b conflicts)) = λ can. tt
+memory_is_complete held (Some (task.InductUnder a b c conflicts)) = λ can. tt
 memory_is_complete held (Some (task.InductAfter a b s conflicts)) = λ can. tt
 
 -- so a run is complete that ends with a finding, or at want of memory

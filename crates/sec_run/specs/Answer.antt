@@ -22,6 +22,7 @@ use Rattle.job_settles.specs.Found.{IsSettlesFound}
 use Rattle.job_signals.specs.Found.{IsSignalsFound}
 use Rattle.job_signals.specs.job_tied.Found.{IsTiedFound}
 use Rattle.job_under.specs.Found.{IsUnderFound}
+use Rattle.job_under.specs.ties.Found.{AreTiesFound}
 use Rattle.job_gen.specs.gen_meaning.Found.{IsGenFound}
 use Rattle.job_cert.specs.job_lrat.Found.{IsLratFound}
 use Rattle.job_cert.specs.Found.{IsCertFound}
@@ -46,6 +47,7 @@ IsFoundOfJob held (task.SearchUnder a b c cycles conflicts) f = IsUnderFound cyc
 IsFoundOfJob held (task.After a b s cycles conflicts) f = IsAfterFound cycles conflicts (held a) (held b) (held s) f
 IsFoundOfJob held (task.Induct a b conflicts) f = IsInductFound conflicts (held a) (held b) f
 IsFoundOfJob held (task.InductSignals a b conflicts) f = IsSignalsFound (held a) (held b) f
+IsFoundOfJob held (task.InductUnder a b c conflicts) f = AreTiesFound conflicts (held a) (held b) (held c) f
 IsFoundOfJob held (task.InductAfter a b s conflicts) f = IsTiedFound (held a) (held b) (held s) f
 
 -- what is found: that the words are no job, or what is true of the job

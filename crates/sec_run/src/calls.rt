@@ -26,6 +26,7 @@ use job_pair::{PairComparison, compare_pair};
 use job_settles::check_settles;
 use job_signals::job_tied::{TiedComparison, compare_tied};
 use job_signals::{SignalComparison, compare_by_signals};
+use job_under::ties::{TiesComparison, compare_ties};
 use job_under::{UnderComparison, compare_under};
 use sec_base::{FilePath, Word};
 use sec_jobs::job_induct::{BlockComparison, compare_by_blocks};
@@ -227,6 +228,15 @@ fn find<S: Shelf>(alloc: Global, task: &Task, shelf: &mut S) -> Result<Finding, 
                 conflicts: *conflicts,
             };
             compare_by_signals(alloc, &comparison, shelf)
+        }
+        Task::InductUnder { a, b, c, conflicts } => {
+            let comparison = TiesComparison {
+                left: a.as_str(),
+                right: b.as_str(),
+                assumed: c.as_str(),
+                conflicts: *conflicts,
+            };
+            compare_ties(alloc, &comparison, shelf)
         }
         Task::InductAfter { a, b, s, conflicts } => {
             let comparison = TiedComparison {

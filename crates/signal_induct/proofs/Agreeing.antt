@@ -8,7 +8,6 @@ use Rattle.circuit_theory.specs.Joined.{Either, Left, Right, beside}
 use Rattle.circuit_theory.specs.Agree.{IsPair, place_named}
 use Rattle.circuit_theory.proofs.Lists.{Contains-map_from, at_of, of_at, zip_right}
 use Rattle.circuit_theory.proofs.Numbers.{slice_get-map}
-use Rattle.circuit_laws.specs.reset_laws.Reset.{AgreeFromReset}
 use Rattle.circuit_laws.proofs.reset_laws.ResetAgreement.{lt_true, lt_false}
 use Rattle.flat_net.specs.declared.signals.Signal.{Signal}
 use Rattle.flat_net.specs.declared.parts.Port.{Port}
@@ -27,7 +26,7 @@ use Rattle.circuit_laws.specs.signal_laws.Laws.{GiveOutputs}
 use Rattle.signal_refine.specs.Asking.{same_bit}
 use Rattle.signal_induct.specs.declared.outputs.TiedPair.{TiedPair}
 use Rattle.signal_induct.specs.declared.induction.SignalInduction.{SignalInduction}
-use Rattle.signal_induct.specs.Tied.{anchor_at, same_anchor, first_apart, tied_pair, IsSignalInduction}
+use Rattle.signal_induct.specs.Tied.{anchor_at, same_anchor, first_apart, tied_pair, AgreeFromResetWhere, IsInductionWhere}
 use Rattle.signal_induct.proofs.Firsts.{each_equal}
 
 bit_is : (x y : Bool) → same_bit x y ≡ true → x ≡ y
@@ -76,7 +75,7 @@ named_place b name q right there =
     let own : slice_get (names_of b.outputs) at.0 ≡ Some name = slice_get-map (λ (p : Port). p.name) b.outputs at.0 found.0 at.1 ∙ ap (λ (m : Named ℕ). Some m.name) found.2 in
     place_named-at b.outputs name at.0 found.0 right.distinct own at.1 ∙ ap (λ (m : Named ℕ). Some m.place) found.2
 
-module _ (a b : NetView) (made : SignalInduction) (is : IsSignalInduction a b made) (sound : IsSound a) (right : IsComparable b) (none : first_apart made.pairs ≡ None) where
+module _ (met : (Either ℕ ℕ → Bool) → Type 0) (a b : NetView) (made : SignalInduction) (is : IsInductionWhere met a b made) (sound : IsSound a) (right : IsComparable b) (none : first_apart made.pairs ≡ None) where
   abbrev size : ℕ
   size = length a.drivers
 
@@ -106,5 +105,5 @@ module _ (a b : NetView) (made : SignalInduction) (is : IsSignalInduction a b ma
   gives x tied p q (IsPair.outputs {name} own other) = output_given x tied name p q own other
   gives x tied p q (IsPair.nexts listed first second) = absurd (omega (arith, listed.1))
 
-  pub all_agree : AgreeFromReset (circuit_of a) (circuit_of b)
-  all_agree n l r alike t p q h pair = gives (beside (l t) (r t)) (is.hold n l r alike t h) p q pair
+  pub all_agree : AgreeFromResetWhere met (circuit_of a) (circuit_of b)
+  all_agree n l r alike meets t p q h pair = gives (beside (l t) (r t)) (is.hold n l r alike meets t h) p q pair

@@ -1,20 +1,22 @@
 //! The comparison.
 
-ghost use Rattle.std.specs.Prelude.{◌≡◌, ◌^◌, ◌<◌, ◌≤◌, None, All, IfOk, IfErr, IsTrue};
+ghost use Rattle.std.specs.Prelude.{◌≡◌, ◌*◌, ◌^◌, ◌<◌, ◌≤◌, None, length, All, IfOk, IfErr, IsTrue};
 ghost use Rattle.circuit_theory.specs.Interface.{first_mismatch, AreOrders};
 ghost use Rattle.circuit_laws.specs.reset_laws.Reset.{AgreeFromReset};
 ghost use Rattle.flat_net.specs.Comparable.{IsComparable};
 ghost use Rattle.flat_net.specs.View.{circuit_of, ports_of};
 ghost use Rattle.block_refine.specs.latch_blocks.Signals.{net_weight};
 ghost use Rattle.induct.specs.Inductions.{IsRefusal};
-ghost use Rattle.signal_induct.specs.Tied.{first_apart, IsSignalInduction};
+ghost use Rattle.signal_refine.specs.Assuming.{IsMet};
+ghost use Rattle.signal_induct.specs.Tied.{first_apart, AgreeFromResetWhere, IsInductionWhere, IsSignalInduction};
 
 use crate::outputs::{TiedPairs, output_pairs, tied_pairs};
+use aig::{Aig, Lit};
 use block_refine::latch_blocks::is_light;
 use flat_net::Net;
 use induct::InductError;
 use sec_base::{MAX_WEIGHT, NoMemory, Orders, Side};
-use signal_refine::{Correspondence, SignalNets, correspond};
+use signal_refine::{Assumed, Correspondence, SignalNets, correspond};
 use std::alloc::Global;
 
 /// Ties that are an inductive invariant of two circuits, and what they say of the outputs.
@@ -43,13 +45,50 @@ pub fn induct_signals(
     ensures agree { IfOk result (λ made. first_apart made.pairs ≡ None → AgreeFromReset (circuit_of a.now) (circuit_of b.now)) }
     ensures refused { IfErr result (IsRefusal a.now b.now) }
 {
+    let graph = Aig::new(alloc)?;
+    graph.keeps();
+    let nothing = nothing_assumed(&graph);
+    induct_where(alloc, a, b, orders, &nothing, conflicts)
+}
+
+/// What is met always.
+fn nothing_assumed(graph: &Aig) -> Assumed<'_>
+    ensures graph { result.graph.now ≡ graph.now }
+    ensures lit { result.lit.0 ≡ 1 }
+{
+    Assumed {
+        graph,
+        lit: Lit::TRUE,
+        numbers: &[],
+        row: &[],
+    }
+}
+
+/// The same of the runs in which the assumption is met in every cycle. Inputs have the numbers of `orders`.
+pub fn induct_where(
+    alloc: Global,
+    a: &Net,
+    b: &Net,
+    orders: &Orders,
+    assumed: &Assumed<'_>,
+    conflicts: u32,
+) -> Result<SignalInduction, InductError>
+    requires matches { first_mismatch (ports_of a.now) (ports_of b.now) ≡ None }
+    requires right { IsComparable b.now }
+    requires orders { AreOrders (ports_of a.now) (ports_of b.now) orders.now.left orders.now.right }
+    requires assumed { assumed.now.lit.0 < 2 * length assumed.now.graph.now }
+    ensures light { IfOk result (λ _. (net_weight a.now ≤ MAX_WEIGHT) × (net_weight b.now ≤ MAX_WEIGHT)) }
+    ensures made { IfOk result (IsInductionWhere (IsMet assumed.now (record { left = a.entry; right = b.entry; orders = orders.entry })) a.now b.now) }
+    ensures agree { IfOk result (λ made. first_apart made.pairs ≡ None → AgreeFromResetWhere (IsMet assumed.now (record { left = a.entry; right = b.entry; orders = orders.entry })) (circuit_of a.now) (circuit_of b.now)) }
+    ensures refused { IfErr result (IsRefusal a.now b.now) }
+{
     if !is_light(a) {
         return Err(InductError::TooLarge(Side::A));
     }
     if !is_light(b) {
         return Err(InductError::TooLarge(Side::B));
     }
-    let made = induct_light(alloc, a, b, orders, conflicts)?;
+    let made = induct_light(alloc, a, b, orders, assumed, conflicts)?;
     Ok(made)
 }
 
@@ -60,19 +99,21 @@ fn induct_light(
     a: &Net,
     b: &Net,
     orders: &Orders,
+    assumed: &Assumed<'_>,
     conflicts: u32,
 ) -> Result<SignalInduction, NoMemory>
     requires matches { first_mismatch (ports_of a.now) (ports_of b.now) ≡ None }
     requires right { IsComparable b.now }
     requires orders { AreOrders (ports_of a.now) (ports_of b.now) orders.now.left orders.now.right }
+    requires assumed { assumed.now.lit.0 < 2 * length assumed.now.graph.now }
     requires light { (net_weight a.now ≤ MAX_WEIGHT) × (net_weight b.now ≤ MAX_WEIGHT) }
-    ensures made { IfOk result (IsSignalInduction a.now b.now) }
-    ensures agree { IfOk result (λ made. first_apart made.pairs ≡ None → AgreeFromReset (circuit_of a.now) (circuit_of b.now)) }
+    ensures made { IfOk result (IsInductionWhere (IsMet assumed.now (record { left = a.entry; right = b.entry; orders = orders.entry })) a.now b.now) }
+    ensures agree { IfOk result (λ made. first_apart made.pairs ≡ None → AgreeFromResetWhere (IsMet assumed.now (record { left = a.entry; right = b.entry; orders = orders.entry })) (circuit_of a.now) (circuit_of b.now)) }
 {
     let left = are_small(orders.left.as_slice());
     let right = are_small(orders.right.as_slice());
     if left && right {
-        return tie(alloc, a, b, orders, conflicts);
+        return tie(alloc, a, b, orders, assumed, conflicts);
     }
     Err(NoMemory)
 }
@@ -83,16 +124,18 @@ fn tie(
     a: &Net,
     b: &Net,
     orders: &Orders,
+    assumed: &Assumed<'_>,
     conflicts: u32,
 ) -> Result<SignalInduction, NoMemory>
     requires matches { first_mismatch (ports_of a.now) (ports_of b.now) ≡ None }
     requires right { IsComparable b.now }
     requires orders { AreOrders (ports_of a.now) (ports_of b.now) orders.now.left orders.now.right }
+    requires assumed { assumed.now.lit.0 < 2 * length assumed.now.graph.now }
     requires light { (net_weight a.now ≤ MAX_WEIGHT) × (net_weight b.now ≤ MAX_WEIGHT) }
     requires left_small { All (λ i. i < 2 ^ 30) orders.now.left }
     requires right_small { All (λ i. i < 2 ^ 30) orders.now.right }
-    ensures made { IfOk result (IsSignalInduction a.now b.now) }
-    ensures agree { IfOk result (λ made. first_apart made.pairs ≡ None → AgreeFromReset (circuit_of a.now) (circuit_of b.now)) }
+    ensures made { IfOk result (IsInductionWhere (IsMet assumed.now (record { left = a.entry; right = b.entry; orders = orders.entry })) a.now b.now) }
+    ensures agree { IfOk result (λ made. first_apart made.pairs ≡ None → AgreeFromResetWhere (IsMet assumed.now (record { left = a.entry; right = b.entry; orders = orders.entry })) (circuit_of a.now) (circuit_of b.now)) }
 {
     a.keeps();
     b.keeps();
@@ -101,7 +144,7 @@ fn tie(
         right: b,
         orders,
     };
-    let ties = correspond(alloc, &nets, conflicts)?;
+    let ties = correspond(alloc, &nets, assumed, conflicts)?;
     let outputs = output_pairs(alloc, a, b)?;
     let pairs = tied_pairs(alloc, a.size(), &ties.anchors, outputs)?;
     Ok(SignalInduction { ties, pairs })

@@ -7,5 +7,5 @@ mod outputs;
 pub mod signals_report;
 mod ties;
 
-pub use induction::{SignalInduction, induct_signals};
+pub use induction::{SignalInduction, induct_signals, induct_where};
 pub use outputs::{TiedPair, TiedPairs, first_apart};

@@ -1,6 +1,7 @@
 -- A node more.
 use Rattle.std.proofs.Common.{◌≡◌, ◌∙◌, ◌+◌, ◌*◌, ◌/◌, ◌%◌, ◌<◌, ℕ, Bool, List, [], ◌∷◌, ◌++◌, length, sym, ap, subst, arith}
 use Rattle.std.specs.List.{All}
+use Rattle.std.proofs.lemmas.Option.{slice_get_within}
 use Rattle.aig.specs.declared.node.Lit.{Lit}
 use Rattle.aig.specs.declared.node.Node.{Node}
 use Rattle.aig.specs.Graph.{IsGraph, Grows}
@@ -57,3 +58,7 @@ module _ (base : List Node) (leaves : List Lit) (anchors : List Anchor) where
     read_value = λ a c at tied values.
         reads.holds h a (node_at base c) graph (values_grow (node_at base c) g h grows a old.read.items within values) tied (own_value a c at values) ∙ ap (node_at base c) (sym each);
   }
+
+-- no ties hold always
+pub no_ties : (anchors : List Anchor) → anchors ≡ [] → (w : ℕ → Bool) → AreTiedAt anchors w
+no_ties anchors none w p k at = absurd (let inside = slice_get_within anchors p k at in let empty = ap length none in omega (arith, inside, empty))

@@ -15,10 +15,12 @@ use Rattle.signal_refine.specs.declared.nets.SignalNets.{SignalNets}
 use Rattle.signal_refine.specs.declared.leaves.Latches.TheVariants as latches
 use Rattle.signal_refine.specs.declared.leaves.Cycle.{Cycle}
 use Rattle.signal_refine.specs.declared.copies.NodeLits.{NodeLits}
+use Rattle.signal_refine.specs.declared.assumed.Assumed.{Assumed}
+use Rattle.signal_refine.specs.Assuming.{Holds, IsMet, IsStepCare}
 use Rattle.signal_refine.specs.Places.{size_of, places_of, whole, order_of}
 use Rattle.signal_refine.specs.Copies.{HaveAt, node_at, AreTiedAt, IsCopy, AreCarried}
 use Rattle.signal_refine.specs.Frames.{IsReadBy, AreNamed, AreSignalLits, AreLeaves}
-use Rattle.signal_refine.specs.Asking.{IsCare, AreOne, AreShown}
+use Rattle.signal_refine.specs.Asking.{AreOne, AreShown}
 use Rattle.signal_refine.specs.Told.{AreTold}
 use Rattle.signal_refine.specs.Showing.{AreBelow, free_cycle, AreLits, Begins, Steps, AreInductiveNodes, AreInductiveTies}
 use Rattle.signal_refine.proofs.Bits.{bits, bits_inputs, bits_latches, both, both_before, both_behind, number_below}
@@ -40,22 +42,27 @@ module _ (n : SignalNets) (first : ℕ) (below : AreBelow n first) (base : List 
   none_tied : (w : ℕ → Bool) → AreTiedAt [] w
   none_tied w p k at = absurd (let inside = slice_get_within [] p k at in omega (arith, inside))
 
-  none_inductive : AreInductiveNodes n first base []
-  none_inductive = record {
-    begins = λ x start. (bits n first below x, cycle_reading x start.cycle, none_tied (node_at base (bits n first below x)));
-    steps = λ x y successive tied. (bits n first below y, cycle_reading y successive.next, none_tied (node_at base (bits n first below y)));
+  none_inductive : (met : (Either ℕ ℕ → Bool) → Type 0) → AreInductiveNodes met n first base []
+  none_inductive met = record {
+    begins = λ x start here. (bits n first below x, cycle_reading x start.cycle, none_tied (node_at base (bits n first below x)));
+    steps = λ x y successive here later tied. (bits n first below y, cycle_reading y successive.next, none_tied (node_at base (bits n first below y)));
   }
 
   none_told : (lits : List Lit) → AreTold lits [] []
   none_told lits p k at = absurd (let inside = slice_get_within [] p k at in omega (arith, inside))
 
-  pub none_left : (lits : List Lit) → AreLits n first base lits → AreInductiveTies n []
-  none_left lits are = record { first = first; base = base; lits = lits; are_lits = are; nodes = []; inductive = none_inductive; told = none_told lits }
+  pub none_left : (met : (Either ℕ ℕ → Bool) → Type 0) (lits : List Lit) → AreLits n first base lits → AreInductiveTies met n []
+  none_left met lits are = record { first = first; base = base; lits = lits; are_lits = are; nodes = []; inductive = none_inductive met; told = none_told lits }
 
-  module _ (nodes : List Anchor) where
-    pub begins_where_shown : (g h : List Node) (count : ℕ) (leaves : List Lit) → AreLeaves (record { nets = n; inputs = 0; first = first; latches = latches.Started }) g h count leaves →
-        (care : Lit) → ((a : ℕ → Bool) → value h a care.0 ≡ true) → AreShown base leaves care nodes h → Begins n first base nodes
-    begins_where_shown g h count leaves are care holds shown x start = (a, cycle_reading x start.cycle, shown a a (holds a) (are.values a a x reading named))
+  module _ (nodes : List Anchor) (w : Assumed) where
+    -- the bits of a cycle that meets the assumption make it 1
+    met_bits : (x : Either ℕ ℕ → Bool) → IsCycle (whole n) (order_of n) x → IsMet w n x → Holds w (bits n first below x)
+    met_bits x cycle met = met (bits n first below x) (λ p i number. bits_inputs n first below x cycle p i number)
+
+    pub begins_where_shown : (g h k : List Node) (count : ℕ) (leaves : List Lit) → AreLeaves (record { nets = n; inputs = 0; first = first; latches = latches.Started }) g h count leaves → Grows h k →
+        (care : Lit) → ((a c : ℕ → Bool) → HaveAt c h a leaves → Holds w c → value k a care.0 ≡ true) → AreShown base leaves care nodes k → Begins (IsMet w n) n first base nodes
+    begins_where_shown g h k count leaves are grows care holds shown x start met =
+        (a, cycle_reading x start.cycle, shown a a (holds a a have (met_bits x start.cycle met)) (values_grow a h k grows a leaves are.within have))
       where
         a : ℕ → Bool
         a = bits n first below x
@@ -66,12 +73,15 @@ module _ (n : SignalNets) (first : ℕ) (below : AreBelow n first) (base : List 
         named : AreNamed (record { nets = n; inputs = 0; first = first; latches = latches.Started }) a a x
         named = record { inputs = λ i h. ap a (zero_more i); latches = bits_latches n first below x }
 
+        have : HaveAt a h a leaves
+        have = are.values a a x reading named
+
     pub steps_where_shown : (limit : ℕ) → limit ≡ first + places_of n → (lits : List Lit) → AreLits n first base lits → (g0 g1 g2 g3 g4 : List Node) (c1 c2 c3 : ℕ) (leaves next : List Lit) (before : Bor (List Lit)) (now : NodeLits) →
         AreLeaves (free_cycle n first) g0 g1 c1 leaves → IsCopy base leaves nodes g1 g2 c2 now → (kept : List Lit) → AreCarried now.read.items lits kept →
         ((w : ℕ → Bool) (g : List Node) (a : ℕ → Bool) → HaveAt w g a kept → HaveAt w g a before.now) →
-        AreLeaves (record { nets = n; inputs = limit; first = first; latches = latches.Carried before }) g2 g3 c3 next → Grows g3 g4 → (care : Lit) → IsCare now.own.items now.read.items g4 care → AreShown base next care nodes g4 → Steps n first base nodes
-    steps_where_shown limit limit_is lits are_lits g0 g1 g2 g3 g4 c1 c2 c3 leaves next before now are_leaves is_copy kept carried are_before are_next grows care caring shown x y successive tied =
-        (bits n first below y, cycle_reading y successive.next, shown a (bits n first below y) (caring a one) next_values)
+        AreLeaves (record { nets = n; inputs = limit; first = first; latches = latches.Carried before }) g2 g3 c3 next → Grows g3 g4 → (care : Lit) → IsStepCare w now leaves next g3 g4 care → AreShown base next care nodes g4 → Steps (IsMet w n) n first base nodes
+    steps_where_shown limit limit_is lits are_lits g0 g1 g2 g3 g4 c1 c2 c3 leaves next before now are_leaves is_copy kept carried are_before are_next grows care caring shown x y successive here onward tied =
+        (bits n first below y, cycle_reading y successive.next, shown a (bits n first below y) cared (values_grow (bits n first below y) g3 g4 grows a next are_next.within next_values))
       where
         old : ℕ → Bool
         old = tied.0
@@ -116,10 +126,15 @@ module _ (n : SignalNets) (first : ℕ) (below : AreBelow n first) (base : List 
         named_next : AreNamed later a (bits n first below y) y
         named_next = record { inputs = λ i h. ap (λ m. a (m + i)) limit_is ∙ both_behind n first below old y i; latches = bits_latches n first below y }
 
-        next_values : HaveAt (bits n first below y) g4 a next
-        next_values = values_grow (bits n first below y) g3 g4 grows a next are_next.within (are_next.values a (bits n first below y) y reading_next named_next)
+        next_values : HaveAt (bits n first below y) g3 a next
+        next_values = are_next.values a (bits n first below y) y reading_next named_next
 
         one : AreOne now.own.items now.read.items g4 a
         one =
             one_after g2 g4 (Grows-trans g2 g3 g4 are_next.grows grows) now.own.items now.read.items is_copy.own_within is_copy.read_within a
             (λ i l r at at'. own_values i l at ∙ sym (read_values i r at'))
+
+        cared : value g4 a care.0 ≡ true
+        cared =
+            caring a old (bits n first below y) (values_grow old g1 g3 (Grows-trans g1 g2 g3 is_copy.grows are_next.grows) a leaves are_leaves.within leaf_values) next_values
+            (here old (λ p i number. sym (ap old (zero_more i)) ∙ tied.1.inputs p i number)) (met_bits y successive.next onward) one

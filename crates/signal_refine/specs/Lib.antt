@@ -1,4 +1,5 @@
 pub mod Asking
+pub mod Assuming
 pub mod Copies
 pub mod Frames
 pub mod Places

@@ -5,7 +5,7 @@ use Rattle.circuit_theory.specs.Joined.{Either}
 use Rattle.circuit_laws.specs.declared.signal_laws.anchor.Anchor.{Anchor}
 use Rattle.aig.specs.declared.node.Lit.{Lit}
 use Rattle.aig.specs.declared.node.Node.{Node}
-use Rattle.circuit_laws.specs.signal_laws.Invariants.{IsFirstCycle, AreSuccessive, IsInductiveInvariant}
+use Rattle.circuit_laws.specs.signal_laws.Invariants.{IsFirstCycle, AreSuccessive}
 use Rattle.signal_refine.specs.declared.nets.SignalNets.{SignalNets}
 use Rattle.signal_refine.specs.declared.leaves.Latches.TheVariants as latches
 use Rattle.signal_refine.specs.declared.leaves.Cycle.{Cycle}
@@ -13,6 +13,7 @@ use Rattle.signal_refine.specs.Places.{size_of, places_of, whole, order_of}
 use Rattle.signal_refine.specs.Copies.{node_at, AreTiedAt}
 use Rattle.signal_refine.specs.Frames.{HaveValues, IsReadBy}
 use Rattle.signal_refine.specs.Told.{AreTold}
+use Rattle.signal_refine.specs.Assuming.{IsInductiveUnder}
 
 -- each input has a number, and numbers and places are small
 pub record AreReady (n : SignalNets) : Type 0 where
@@ -40,25 +41,25 @@ AreLits n first base lits = All (λ x. x.0 < 2 * length base) lits × (length li
 abbrev pub AreTiedNodes : SignalNets → ℕ → List Node → List Anchor → (Either ℕ ℕ → Bool) → Type 0
 AreTiedNodes n first base nodes x = (a : ℕ → Bool) × IsReadBy (free_cycle n first) base a x × AreTiedAt nodes (node_at base a)
 
--- they hold in each first cycle
-abbrev pub Begins : SignalNets → ℕ → List Node → List Anchor → Type 0
-Begins n first base nodes = (x : Either ℕ ℕ → Bool) → IsFirstCycle (whole n) (order_of n) x → AreTiedNodes n first base nodes x
+-- they hold in each first cycle in which the assumption is met
+abbrev pub Begins : ((Either ℕ ℕ → Bool) → Type 0) → SignalNets → ℕ → List Node → List Anchor → Type 0
+Begins met n first base nodes = (x : Either ℕ ℕ → Bool) → IsFirstCycle (whole n) (order_of n) x → met x → AreTiedNodes n first base nodes x
 
--- they hold in each cycle that follows on one in which they hold
-abbrev pub Steps : SignalNets → ℕ → List Node → List Anchor → Type 0
-Steps n first base nodes = (x y : Either ℕ ℕ → Bool) → AreSuccessive (whole n) (order_of n) x y → AreTiedNodes n first base nodes x → AreTiedNodes n first base nodes y
+-- They hold in each cycle that follows on one in which they hold, where the assumption is met in both.
+abbrev pub Steps : ((Either ℕ ℕ → Bool) → Type 0) → SignalNets → ℕ → List Node → List Anchor → Type 0
+Steps met n first base nodes = (x y : Either ℕ ℕ → Bool) → AreSuccessive (whole n) (order_of n) x y → met x → met y → AreTiedNodes n first base nodes x → AreTiedNodes n first base nodes y
 
--- they are an inductive invariant of both nets
-abbrev pub AreInductiveNodes : SignalNets → ℕ → List Node → List Anchor → Type 0
-AreInductiveNodes n first base nodes = IsInductiveInvariant (whole n) (order_of n) (AreTiedNodes n first base nodes)
+-- they are an inductive invariant of both nets under the assumption
+abbrev pub AreInductiveNodes : ((Either ℕ ℕ → Bool) → Type 0) → SignalNets → ℕ → List Node → List Anchor → Type 0
+AreInductiveNodes met n first base nodes = IsInductiveUnder (whole n) (order_of n) met (AreTiedNodes n first base nodes)
 
--- Ties of signals that hold wherever those of a graph's nodes do, which are an inductive invariant. The graph's variables are the inputs and the
--- latches of both nets, and each signal is a literal of it.
-pub record AreInductiveTies (n : SignalNets) (anchors : List Anchor) : Type 0 where
+-- Ties of signals that hold wherever those of a graph's nodes do, which are an inductive invariant under the assumption. The graph's variables
+-- are the inputs and the latches of both nets, and each signal is a literal of it.
+pub record AreInductiveTies (met : (Either ℕ ℕ → Bool) → Type 0) (n : SignalNets) (anchors : List Anchor) : Type 0 where
   pub first : ℕ
   pub base : List Node
   pub lits : List Lit
   pub are_lits : AreLits n first base lits
   pub nodes : List Anchor
-  pub inductive : AreInductiveNodes n first base nodes
+  pub inductive : AreInductiveNodes met n first base nodes
   pub told : AreTold lits nodes anchors

@@ -96,7 +96,7 @@ pub(crate) fn node_literal(
 }
 
 /// The variable's literal. One that has none counts as no memory.
-fn leaf_at(leaves: &[Lit], v: u32) -> Result<Lit, NoMemory>
+pub(crate) fn leaf_at(leaves: &[Lit], v: u32) -> Result<Lit, NoMemory>
     ensures value { IfOk result (λ x. (g : List Node) (a c : ℕ → Bool) → HaveAt c g a leaves.now → value g a x.0 ≡ c v) }
     ensures within { IfOk result (λ x. (n : ℕ) → All (λ y. y.0 < 2 * n) leaves.now → x.0 < 2 * n) }
 {
@@ -107,7 +107,7 @@ fn leaf_at(leaves: &[Lit], v: u32) -> Result<Lit, NoMemory>
 }
 
 /// What the literal is read as, where nodes are read as these.
-fn read_literal(read: &[Lit], l: Lit) -> Lit
+pub(crate) fn read_literal(read: &[Lit], l: Lit) -> Lit
     requires { l.0 < 2 * length read.now }
     ensures value { (base g : List Node) (a c : ℕ → Bool) → HaveAt (node_at base c) g a read.now → value g a result.0 ≡ value base c l.0 }
     ensures within { (n : ℕ) → All (λ y. y.0 < 2 * n) read.now → result.0 < 2 * n }

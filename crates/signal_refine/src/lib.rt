@@ -5,6 +5,7 @@
 
 mod anchors;
 mod ask;
+mod assumed;
 mod classes;
 mod copies;
 mod leaves;
@@ -14,5 +15,6 @@ mod runs;
 mod signals;
 mod told;
 
+pub use assumed::Assumed;
 pub use nets::SignalNets;
 pub use refinement::{Correspondence, correspond};

@@ -1,12 +1,15 @@
 //! Ties that are left where those that aren't shown are dropped, round after round.
 
-ghost use Rattle.std.specs.Prelude.{◌≡◌, ◌+◌, ◌*◌, ◌^◌, ◌<◌, ◌≤◌, length, All, IfOk, IsTrue};
+ghost use Rattle.std.specs.Prelude.{◌≡◌, ◌+◌, ◌*◌, ◌^◌, ◌<◌, ◌≤◌, length, All, IfOk, OnOk, IsTrue};
 ghost use Rattle.signal_refine.specs.Places.{places_of};
+ghost use Rattle.aig.specs.Graph.{Grows};
+ghost use Rattle.signal_refine.specs.Assuming.{IsMet, IsStepCare};
 ghost use Rattle.signal_refine.specs.Showing.{AreLits, AreReady, AreBelow, Begins, Steps, AreInductiveNodes, AreInductiveTies};
 
 use crate::ask::{Asked, care_of};
+use crate::assumed::{Assumed, and_both, met_literal};
 use crate::classes::Classes;
-use crate::copies::{carried, copy_of};
+use crate::copies::{NodeLits, carried, copy_of};
 use crate::leaves::{Cycle, Latches, leaves_of};
 use crate::nets::SignalNets;
 use crate::runs::candidates;
@@ -31,20 +34,24 @@ pub struct Correspondence {
 #[derive(Clone, Copy)]
 struct Round<'a> {
     nets: SignalNets<'a>,
+    assumed: Assumed<'a>,
     base: &'a Aig,
     lits: &'a [Lit],
     first: u32,
     conflicts: u32,
 }
 
-/// Guesses ties, and drops those that aren't shown, with at most so many conflicts for each query, until all that are left are shown.
+/// Guesses ties, and drops those that aren't shown where the assumption is met, with at most so many conflicts for each query, until all that
+/// are left are shown.
 pub fn correspond(
     alloc: Global,
     nets: &SignalNets<'_>,
+    assumed: &Assumed<'_>,
     conflicts: u32,
 ) -> Result<Correspondence, NoMemory>
-    requires { AreReady nets.now }
-    ensures { IfOk result (λ made. AreInductiveTies nets.now made.anchors.items) }
+    requires ready { AreReady nets.now }
+    requires assumed { assumed.now.lit.0 < 2 * length assumed.now.graph.now }
+    ensures { IfOk result (λ made. AreInductiveTies (IsMet assumed.now nets.now) nets.now made.anchors.items) }
 {
     nets.left.keeps();
     nets.right.keeps();
@@ -59,6 +66,7 @@ pub fn correspond(
     let lits = signal_literals(alloc, &mut base, &cycle)?;
     let round = Round {
         nets: *nets,
+        assumed: *assumed,
         base: &base,
         lits: &lits,
         first,
@@ -72,9 +80,17 @@ fn rounds(alloc: Global, round: &Round<'_>) -> Result<Correspondence, NoMemory>
     requires ready { AreReady round.now.nets }
     requires first { AreBelow round.now.nets round.now.first }
     requires lits { AreLits round.now.nets round.now.first round.now.base.now round.now.lits.now }
-    ensures { IfOk result (λ made. AreInductiveTies round.now.nets made.anchors.items) }
+    requires assumed { round.now.assumed.lit.0 < 2 * length round.now.assumed.graph.now }
+    ensures { IfOk result (λ made. AreInductiveTies (IsMet round.now.assumed round.now.nets) round.now.nets made.anchors.items) }
 {
-    let mut classes = candidates(alloc, &round.nets, round.base, round.lits, round.first)?;
+    let mut classes = candidates(
+        alloc,
+        &round.nets,
+        &round.assumed,
+        round.base,
+        round.lits,
+        round.first,
+    )?;
     for _n in 0..round.base.size() {
         let nodes = classes.anchors(alloc)?;
         if are_shown(alloc, round, &nodes, &mut classes)? {
@@ -100,7 +116,8 @@ fn are_shown(
     requires ready { AreReady round.now.nets }
     requires first { AreBelow round.now.nets round.now.first }
     requires lits { AreLits round.now.nets round.now.first round.now.base.now round.now.lits.now }
-    ensures { IfOk result (λ shown. IsTrue shown → AreInductiveNodes round.now.nets round.now.first round.now.base.now nodes.now) }
+    requires assumed { round.now.assumed.lit.0 < 2 * length round.now.assumed.graph.now }
+    ensures { IfOk result (λ shown. IsTrue shown → AreInductiveNodes (IsMet round.now.assumed round.now.nets) round.now.nets round.now.first round.now.base.now nodes.now) }
 {
     let kept = do_step(alloc, round, nodes, classes)?;
     if kept {
@@ -119,7 +136,8 @@ fn do_step(
     requires ready { AreReady round.now.nets }
     requires first { AreBelow round.now.nets round.now.first }
     requires lits { AreLits round.now.nets round.now.first round.now.base.now round.now.lits.now }
-    ensures { IfOk result (λ kept. IsTrue kept → Steps round.now.nets round.now.first round.now.base.now nodes.now) }
+    requires assumed { round.now.assumed.lit.0 < 2 * length round.now.assumed.graph.now }
+    ensures { IfOk result (λ kept. IsTrue kept → Steps (IsMet round.now.assumed round.now.nets) round.now.nets round.now.first round.now.base.now nodes.now) }
 {
     let mut aig = Aig::new(alloc)?;
     aig.keeps();
@@ -139,7 +157,7 @@ fn do_step(
         latches: Latches::Carried(&before),
     };
     let next = leaves_of(alloc, &mut aig, &later, round.count())?;
-    let care = care_of(&mut aig, &now.own, &now.read)?;
+    let care = step_care(alloc, &mut aig, round, &now, &leaves, &next)?;
     let asked = Asked {
         base: round.base,
         leaves: &next,
@@ -147,6 +165,32 @@ fn do_step(
         conflicts: round.conflicts,
     };
     classes.settle(alloc, &mut aig, &asked, nodes)
+}
+
+/// What is asked in the next cycle is so where the ties hold in this one, and the assumption is met in both.
+fn step_care(
+    alloc: Global,
+    aig: &mut Aig,
+    round: &Round<'_>,
+    now: &NodeLits,
+    leaves: &[Lit],
+    next: &[Lit],
+) -> Result<Lit, NoMemory>
+    requires assumed { round.now.assumed.lit.0 < 2 * length round.now.assumed.graph.now }
+    requires own { All (λ x. x.0 < 2 * length aig.old) now.now.own.items }
+    requires read { All (λ x. x.0 < 2 * length aig.old) now.now.read.items }
+    requires leaves { All (λ x. x.0 < 2 * length aig.old) leaves.now }
+    requires next { All (λ x. x.0 < 2 * length aig.old) next.now }
+    ensures care { IfOk result (λ x. IsStepCare round.now.assumed now.now leaves.now next.now aig.old aig.new x) }
+    ensures within { IfOk result (λ x. x.0 < 2 * length aig.new) }
+    ensures grows { OnOk result (Grows aig.old aig.new) }
+{
+    let here = met_literal(alloc, aig, &round.assumed, leaves)?;
+    let later = met_literal(alloc, aig, &round.assumed, next)?;
+    let met = and_both(aig, here, later)?;
+    let equal = care_of(aig, &now.own, &now.read)?;
+    let care = and_both(aig, met, equal)?;
+    Ok(care)
 }
 
 /// Whether the ties hold in each cycle in which latches have their initial values.
@@ -158,7 +202,8 @@ fn do_begin(
 ) -> Result<bool, NoMemory>
     requires ready { AreReady round.now.nets }
     requires first { AreBelow round.now.nets round.now.first }
-    ensures { IfOk result (λ begun. IsTrue begun → Begins round.now.nets round.now.first round.now.base.now nodes.now) }
+    requires assumed { round.now.assumed.lit.0 < 2 * length round.now.assumed.graph.now }
+    ensures { IfOk result (λ begun. IsTrue begun → Begins (IsMet round.now.assumed round.now.nets) round.now.nets round.now.first round.now.base.now nodes.now) }
 {
     let mut aig = Aig::new(alloc)?;
     aig.keeps();
@@ -169,11 +214,11 @@ fn do_begin(
         latches: Latches::Started,
     };
     let leaves = leaves_of(alloc, &mut aig, &cycle, round.count())?;
-    aig.keeps();
+    let care = met_literal(alloc, &mut aig, &round.assumed, &leaves)?;
     let asked = Asked {
         base: round.base,
         leaves: &leaves,
-        care: Lit::TRUE,
+        care,
         conflicts: round.conflicts,
     };
     classes.settle(alloc, &mut aig, &asked, nodes)

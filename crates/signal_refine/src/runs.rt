@@ -1,9 +1,10 @@
-//! Candidates: classes of nodes that have equal or complementary values in seeded runs from the initial values. They are guesses, of
-//! which nothing is promised.
+//! Candidates: classes of nodes that have equal or complementary values in seeded runs from the initial values that meet the assumption.
+//! They are guesses, of which nothing is promised.
 
 ghost use Rattle.std.specs.Prelude.{◌≡◌, ◌*◌, ◌<◌, ◌≤◌, length, All, IfOk};
 ghost use Rattle.signal_refine.specs.Places.{places_of};
 
+use crate::assumed::Assumed;
 use crate::classes::Classes;
 use crate::nets::SignalNets;
 use aig::lane_eval::{SignatureTable, signatures};
@@ -25,17 +26,20 @@ const SPREAD: u64 = 0x9E37_79B9_7F4A_7C15;
 pub(crate) fn candidates(
     alloc: Global,
     nets: &SignalNets<'_>,
+    assumed: &Assumed<'_>,
     aig: &Aig,
     lits: &[Lit],
     first: u32,
 ) -> Result<Classes, NoMemory>
-    requires { All (λ x. x.0 < 2 * length aig.now) lits.now }
+    requires lits { All (λ x. x.0 < 2 * length aig.now) lits.now }
+    requires assumed { assumed.now.lit.0 < 2 * length assumed.now.graph.now }
 {
     let mut generator = Xoshiro256PlusPlus::seed_from_u64(1);
     let mut held = started(alloc, nets, &mut generator)?;
     let mut classes = Classes::new(alloc, &[])?;
     for n in 0..CYCLES {
-        let words = words_of(alloc, aig.vars(), first, &held, &mut generator)?;
+        let seeded = words_of(alloc, aig.vars(), first, &held, &mut generator)?;
+        let words = met_words(alloc, assumed, &seeded, first)?;
         let table = signatures(alloc, aig, &words)?;
         if n == 0 {
             classes = phased(alloc, &table, aig.size())?;
@@ -68,6 +72,57 @@ fn words_of(
         words.push(word)?;
     }
     Ok(words)
+}
+
+/// These words of variables, where each run whose inputs don't meet the assumption has the row that does.
+fn met_words(
+    alloc: Global,
+    assumed: &Assumed<'_>,
+    words: &[u64],
+    first: u32,
+) -> Result<Vec<u64>, NoMemory>
+    requires { assumed.now.lit.0 < 2 * length assumed.now.graph.now }
+    ensures { IfOk result (λ met. length met.items ≡ length words.now) }
+{
+    let inputs = words_at(alloc, words, assumed.numbers, assumed.graph.vars())?;
+    let table = signatures(alloc, assumed.graph, &inputs)?;
+    let met = lit_words(&table, assumed.lit);
+    let mut made = Vec::new(alloc);
+    for n in 0..words.len() {
+        let bit = input_bit(assumed.row, first, n / 8);
+        made.push(word_where(words[n], met[n % 8], bit))?;
+    }
+    Ok(made)
+}
+
+/// Eight words for each of so many variables: those of these that have the variable's number.
+fn words_at(alloc: Global, words: &[u64], numbers: &[u32], count: u32) -> Result<Vec<u64>, NoMemory>
+    ensures { IfOk result (λ made. length made.items ≡ 8 * count) }
+{
+    let mut made = Vec::new(alloc);
+    for n in 0..8 * (count as usize) {
+        let number = numbers.get(n / 8).copied().unwrap_or(0);
+        let word = words.get(8 * (number as usize) + n % 8);
+        made.push(word.copied().unwrap_or(0))?;
+    }
+    Ok(made)
+}
+
+/// The row's bit of a variable that is an input's.
+fn input_bit(row: &[bool], first: u32, variable: usize) -> Option<bool> {
+    if variable >= first as usize {
+        return None;
+    }
+    row.get(variable).copied()
+}
+
+/// The word where the assumption is met, and elsewhere the bit of the row, if it has one.
+fn word_where(word: u64, met: u64, bit: Option<bool>) -> u64 {
+    match bit {
+        None => word,
+        Some(true) => word | !met,
+        Some(false) => word & met,
+    }
 }
 
 /// What latches begin with, eight words for each signal: its initial value where it has one, and else seeded words.

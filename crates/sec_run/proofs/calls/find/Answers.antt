@@ -44,6 +44,9 @@ compare_under-requires-clause-conflicts g c = (subst IsAllowed c.in-SearchUnder.
 pub compare_under-requires-clause-cycles : goal.compare_under-requires-clause-cycles
 compare_under-requires-clause-cycles g c = (subst IsAllowed c.in-SearchUnder.is c.requires).1
 
+pub compare_ties-requires : goal.compare_ties-requires
+compare_ties-requires g c = subst IsAllowed c.in-InductUnder.is c.requires
+
 pub compare_after-requires : goal.compare_after-requires
 compare_after-requires g c = (subst IsAllowed c.in-After.is c.requires).0
 

@@ -5,13 +5,15 @@ use Rattle.sec_setup.specs.declared.ports.pairs.SignalPair.{SignalPair}
 use Rattle.signal_induct.specs.declared.outputs.TiedPair.{TiedPair}
 use Rattle.induct.proofs.OwnNumbers.{orders_long}
 use Rattle.signal_induct.specs.declared.induction.SignalInduction.{SignalInduction}
-use Rattle.signal_induct.specs.Tied.{tied_pair, IsSignalInduction}
+use Rattle.signal_refine.specs.declared.nets.SignalNets.{SignalNets}
+use Rattle.signal_refine.specs.Assuming.{IsMet}
+use Rattle.signal_induct.specs.Tied.{tied_pair, IsInductionWhere}
 use Rattle.signal_induct.proofs.Agreeing.{all_agree}
 use Rattle.signal_induct.proofs.Held.{ties_held}
 use Rattle.signal_induct.proofs.induction.tie.Goals as goal
 
-pub correspond-requires : goal.correspond-requires
-correspond-requires c =
+pub correspond-requires-clause-ready : goal.correspond-requires-clause-ready
+correspond-requires-clause-ready c =
     let a = c.args.a.now in
     let b = c.args.b.now in
     let long = orders_long a b c.args.orders.now c.requires.orders in
@@ -26,30 +28,33 @@ correspond-requires c =
     }
 
 pub returns-clause-made : goal.returns-clause-made
-returns-clause-made c = record {
-  nets = record { left = c.args.a; right = c.args.b; orders = c.args.orders };
-  left_is = refl;
-  right_is = refl;
-  are_own = c.requires.orders;
-  inductive = c.in_ok-ties.ensures;
-  hold = ties_held (record { left = c.args.a; right = c.args.b; orders = c.args.orders }) c.in_ok-ties.ties.anchors.items c.in_ok-ties.ensures c.requires.orders;
-  outputs = c.in_ok-outputs.outputs;
-  are_outputs = c.in_ok-outputs.ensures;
-  pairs_are = c.in_ok-pairs.ensures ∙ (ap (λ ks. map (tied_pair c.size.result ks) c.in_ok-outputs.outputs) c.deref.ensures.value ∙ ap (λ n. map (tied_pair n c.in_ok-ties.ties.anchors.items) c.in_ok-outputs.outputs) c.size.ensures);
-}
-
-pub returns-clause-agree : goal.returns-clause-agree
-returns-clause-agree c none =
-    let made : SignalInduction = record { ties = c.in_ok-ties.ties; pairs = c.in_ok-pairs.pairs } in
-    let is : IsSignalInduction c.args.a.now c.args.b.now made = record {
-      nets = record { left = c.args.a; right = c.args.b; orders = c.args.orders };
+returns-clause-made c =
+    let nets : SignalNets = record { left = c.args.a; right = c.args.b; orders = c.args.orders } in
+    record {
+      nets = nets;
       left_is = refl;
       right_is = refl;
       are_own = c.requires.orders;
       inductive = c.in_ok-ties.ensures;
-      hold = ties_held (record { left = c.args.a; right = c.args.b; orders = c.args.orders }) c.in_ok-ties.ties.anchors.items c.in_ok-ties.ensures c.requires.orders;
+      hold = ties_held (IsMet c.args.assumed.now nets) nets c.in_ok-ties.ties.anchors.items c.in_ok-ties.ensures c.requires.orders;
+      outputs = c.in_ok-outputs.outputs;
+      are_outputs = c.in_ok-outputs.ensures;
+      pairs_are = c.in_ok-pairs.ensures ∙ (ap (λ ks. map (tied_pair c.size.result ks) c.in_ok-outputs.outputs) c.deref.ensures.value ∙ ap (λ n. map (tied_pair n c.in_ok-ties.ties.anchors.items) c.in_ok-outputs.outputs) c.size.ensures);
+    }
+
+pub returns-clause-agree : goal.returns-clause-agree
+returns-clause-agree c none =
+    let nets : SignalNets = record { left = c.args.a; right = c.args.b; orders = c.args.orders } in
+    let made : SignalInduction = record { ties = c.in_ok-ties.ties; pairs = c.in_ok-pairs.pairs } in
+    let is : IsInductionWhere (IsMet c.args.assumed.now nets) c.args.a.now c.args.b.now made = record {
+      nets = nets;
+      left_is = refl;
+      right_is = refl;
+      are_own = c.requires.orders;
+      inductive = c.in_ok-ties.ensures;
+      hold = ties_held (IsMet c.args.assumed.now nets) nets c.in_ok-ties.ties.anchors.items c.in_ok-ties.ensures c.requires.orders;
       outputs = c.in_ok-outputs.outputs;
       are_outputs = c.in_ok-outputs.ensures;
       pairs_are = c.in_ok-pairs.ensures ∙ (ap (λ ks. map (tied_pair c.size.result ks) c.in_ok-outputs.outputs) c.deref.ensures.value ∙ ap (λ n. map (tied_pair n c.in_ok-ties.ties.anchors.items) c.in_ok-outputs.outputs) c.size.ensures);
     } in
-    all_agree c.args.a.now c.args.b.now made is c.keeps.ensures.sound c.requires.right none
+    all_agree (IsMet c.args.assumed.now nets) c.args.a.now c.args.b.now made is c.keeps.ensures.sound c.requires.right none

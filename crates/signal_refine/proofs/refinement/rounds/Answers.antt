@@ -2,6 +2,7 @@
 use Rattle.std.proofs.Common.{◌∙◌, List, sym, subst}
 use Rattle.circuit_laws.specs.declared.signal_laws.anchor.Anchor.{Anchor}
 use Rattle.signal_refine.specs.Told.{AreTold}
+use Rattle.signal_refine.specs.Assuming.{IsMet}
 use Rattle.signal_refine.specs.Showing.{AreInductiveTies}
 use Rattle.signal_refine.proofs.Showing.{none_left}
 use Rattle.signal_refine.proofs.refinement.rounds.Goals as goal
@@ -18,4 +19,5 @@ returns-then-branch c = record {
 }
 
 pub returns : goal.returns
-returns c = subst (AreInductiveTies c.args.round.now.nets) (sym c.new.ensures.items) (none_left c.args.round.now.nets c.args.round.now.first c.requires.first c.args.round.now.base.now c.args.round.now.lits.now c.requires.lits)
+returns c = subst (AreInductiveTies (IsMet c.args.round.now.assumed c.args.round.now.nets) c.args.round.now.nets) (sym c.new.ensures.items)
+    (none_left c.args.round.now.nets c.args.round.now.first c.requires.first c.args.round.now.base.now (IsMet c.args.round.now.assumed c.args.round.now.nets) c.args.round.now.lits.now c.requires.lits)

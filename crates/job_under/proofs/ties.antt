@@ -1,0 +1,4 @@
+pub mod Meeting
+pub mod Judgements
+pub mod Means
+pub mod Complete

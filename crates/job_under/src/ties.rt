@@ -1,0 +1,7 @@
+//! The job that compares two circuits by ties of their signals in runs from their initial values whose inputs meet an assumption.
+
+mod comparison;
+mod judging;
+mod report;
+
+pub use comparison::{TiesComparison, compare_ties};
