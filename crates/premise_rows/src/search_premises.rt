@@ -1,8 +1,8 @@
-//! That the premises of what is promised of a given number of cycles are met. The functions do nothing: each contract is an example.
+//! That the premises of what is promised of a given number of cycles, and of ties under an assumption, are met. The functions do nothing: each contract is an example.
 
 ghost use Rattle.premise_rows.specs.search_premises.Cycles.{AgreeInTwoCycles};
 ghost use Rattle.premise_rows.specs.search_premises.Searched.{TextsCanBeSearched};
-ghost use Rattle.premise_rows.specs.search_premises.SearchedUnder.{TextsCanBeSearchedUnder};
+ghost use Rattle.premise_rows.specs.search_premises.SearchedUnder.{TextsCanBeSearchedUnder, TextsCanBeTied};
 ghost use Rattle.premise_rows.specs.search_premises.Under.{CircuitsMeetUnder};
 
 /// A latch that turns in each cycle and one that rises agree in the cycles 0 and 1, and differ in cycle 2.
@@ -25,4 +25,9 @@ pub fn circuits_meet_under()
 /// A retiming that moves initial values along, and two latches on cycles, can be searched over cycles where both inputs are equal.
 pub fn texts_can_be_searched_under()
     ensures { TextsCanBeSearchedUnder }
+{}
+
+/// The same texts can be compared by ties of signals where both inputs are equal.
+pub fn texts_can_be_tied()
+    ensures { TextsCanBeTied }
 {}

@@ -1,4 +1,5 @@
--- Texts of small designs can be searched over cycles where both inputs are equal, whether latches lie on cycles or not.
+-- Texts of small designs can be searched over cycles, and compared by ties of signals, where both inputs are equal, whether latches lie on
+-- cycles or not.
 use Rattle.std.proofs.Common.{◌≡◌, ◌∙◌, ℕ, ◌≤◌, true, List, [], ◌∷◌, Some, None, refl, sym, ap₂, subst, arith}
 use Rattle.std.specs.Prelude.{◌≢◌, codes, Err}
 use Rattle.std.specs.List.{Contains}
@@ -19,7 +20,10 @@ use Rattle.cycle_under.specs.declared.found.UnderError.{UnderError}
 use Rattle.cycle_under.specs.declared.found.UnderError.TheVariants as refused
 use Rattle.cycle_under.specs.Searches.{SearchesUnder}
 use Rattle.job_base.specs.sec_files.Loading.{Loads}
-use Rattle.job_under.specs.Answer.{CanBeSearchedUnder}
+use Rattle.induct.specs.declared.induction.InductError.TheVariants as heavy
+use Rattle.job_under.specs.Answer.{CanBeJudgedBy}
+use Rattle.job_under.specs.Found.{SearchRefuses}
+use Rattle.job_under.specs.ties.Found.{TiesRefuse}
 use Rattle.job_check.specs.check_meaning.design_rows.NoFault.{has_no_fault}
 use Rattle.job_check.specs.check_meaning.design_rows.Designs.{one_model, same_cover}
 use Rattle.job_check.specs.check_meaning.design_rows.Small.{Small, small_late, small_early}
@@ -29,7 +33,8 @@ use Rattle.job_check.proofs.check_meaning.design_rows.Tested.{PassesTests, teste
 use Rattle.job_check.proofs.check_meaning.design_rows.Spelling.{Spells, PortsMatch, accepted, net_is_small, small_ports, ports_are, match}
 use Rattle.premise_rows.specs.block_premises.ResetPremises.{late_from_zero, early_from_zero}
 use Rattle.premise_rows.specs.event_assume_rows.assume_rows.SameInputs.{same, same_design, small_same}
-use Rattle.premise_rows.specs.search_premises.SearchedUnder.{turns_with_both, turns_with_either, TextsCanBeSearchedUnder}
+use Rattle.premise_rows.specs.search_premises.SearchedUnder.{turns_with_both, turns_with_either, TextsCanBeSearchedUnder, TextsCanBeTied}
+use Rattle.premise_rows.proofs.block_premises.ByBlocks.{light}
 use Rattle.premise_rows.proofs.block_premises.NetWeights.{circuit_weight}
 use Rattle.premise_rows.proofs.block_premises.ResetPremises.{late_design, early_design, late_from_spells, early_from_spells}
 use Rattle.premise_rows.proofs.event_assume_rows.assume_rows.Meeting.{ones_meet}
@@ -62,12 +67,29 @@ module _ (x y : List ℕ) (m k : List BlifModel) (s t : Small) (p : Spells x m s
     stands c lc cycles conflicts (refused.TooLarge B) other h = not_too_large b w (text_light y k t q w right_is b lb) few_right h.2
     stands c lc cycles conflicts refused.NoMemory other h = other refl
 
-  searchable : (cycles conflicts : ℕ) → CanBeSearchedUnder cycles conflicts x y same
+    ties_stand : (c : NetView) → Loads same c → (conflicts : ℕ) (e : UnderError) → e ≢ refused.NoMemory → TiesRefuse conflicts a b c e → ⊥
+    ties_stand c lc conflicts (refused.Interface name) other h = let e : Some name ≡ None = sym h ∙ matches in cc
+    ties_stand c lc conflicts (refused.Assume f) other h =
+        no_fault names (λ name has. subst (λ (ns : List (List ℕ)). Contains ns name) (sym names_are) has) c (net_is_small same same_design small_same same_spells c lc) f h.1
+    ties_stand c lc conflicts (refused.Vacuous by) other h = h.1.never (λ i. true) (ones_meet c lc names h.1.assumed)
+    ties_stand c lc conflicts (refused.TooLarge A) other h = let few = light x m s p v left_is few_left a la in omega (arith, few, h.2)
+    ties_stand c lc conflicts (refused.TooLarge B) other h = let few = light y k t q w right_is few_right b lb in omega (arith, few, (h.2).1)
+    ties_stand c lc conflicts refused.NoMemory other h = other refl
+
+  searchable : (cycles conflicts : ℕ) → CanBeJudgedBy (SearchRefuses cycles conflicts) x y same
   searchable cycles conflicts = record {
     left = accepted x m s p;
     right = accepted y k t q;
     assumed = accepted same same_design small_same same_spells;
     stands = λ a b c la lb lc e other h. stands a b la lb c lc cycles conflicts e other h;
+  }
+
+  tied : (conflicts : ℕ) → CanBeJudgedBy (TiesRefuse conflicts) x y same
+  tied conflicts = record {
+    left = accepted x m s p;
+    right = accepted y k t q;
+    assumed = accepted same same_design small_same same_spells;
+    stands = λ a b c la lb lc e other h. ties_stand a b la lb c lc conflicts e other h;
   }
 
 -- the latch turns where both fan-ins before it are 1, and where either is
@@ -133,4 +155,12 @@ texts_can_be_searched_under cycles conflicts = (
   searchable late_from_zero early_from_zero late_design early_design small_late small_early late_from_spells early_from_spells (λ own others. refl) (λ own others. refl) 7 8 refl refl (omega arith) (omega arith) cycles conflicts,
   searchable turns_with_both turns_with_either (turns_design both_cover) (turns_design either_cover) small_turns small_turns both_spells either_spells (λ own others. refl) (λ own others. refl) 19 19 refl refl (omega arith) (omega arith)
       cycles conflicts,
+)
+
+pub texts_can_be_tied : TextsCanBeTied
+unfolding circuit_of_design walk
+texts_can_be_tied conflicts = (
+  tied late_from_zero early_from_zero late_design early_design small_late small_early late_from_spells early_from_spells (λ own others. refl) (λ own others. refl) 7 8 refl refl (omega arith) (omega arith) conflicts,
+  tied turns_with_both turns_with_either (turns_design both_cover) (turns_design either_cover) small_turns small_turns both_spells either_spells (λ own others. refl) (λ own others. refl) 19 19 refl refl (omega arith) (omega arith)
+      conflicts,
 )

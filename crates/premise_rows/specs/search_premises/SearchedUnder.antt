@@ -1,6 +1,8 @@
--- Texts that meet the premise of what is promised of searches over cycles under an assumption.
+-- Texts that meet the premises of what is promised of searches over cycles, and of ties of signals, under an assumption.
 use Rattle.std.specs.Prelude.{ℕ, List, codes}
-use Rattle.job_under.specs.Answer.{CanBeSearchedUnder}
+use Rattle.job_under.specs.Answer.{CanBeJudgedBy}
+use Rattle.job_under.specs.Found.{SearchRefuses}
+use Rattle.job_under.specs.ties.Found.{TiesRefuse}
 use Rattle.premise_rows.specs.block_premises.ResetPremises.{late_from_zero, early_from_zero}
 use Rattle.premise_rows.specs.event_assume_rows.assume_rows.SameInputs.{same}
 
@@ -14,4 +16,9 @@ turns_with_either = codes ".model m\n.inputs a b\n.outputs y\n.names a b q n\n00
 
 -- a retiming that moves the initial values along, and two latches on cycles, which turn alike where both inputs are equal
 abbrev pub TextsCanBeSearchedUnder : Type 0
-TextsCanBeSearchedUnder = (cycles conflicts : ℕ) → CanBeSearchedUnder cycles conflicts late_from_zero early_from_zero same × CanBeSearchedUnder cycles conflicts turns_with_both turns_with_either same
+TextsCanBeSearchedUnder =
+    (cycles conflicts : ℕ) → CanBeJudgedBy (SearchRefuses cycles conflicts) late_from_zero early_from_zero same × CanBeJudgedBy (SearchRefuses cycles conflicts) turns_with_both turns_with_either same
+
+-- the same by ties of signals
+abbrev pub TextsCanBeTied : Type 0
+TextsCanBeTied = (conflicts : ℕ) → CanBeJudgedBy (TiesRefuse conflicts) late_from_zero early_from_zero same × CanBeJudgedBy (TiesRefuse conflicts) turns_with_both turns_with_either same
