@@ -1,5 +1,5 @@
 -- A job of the words allows at most 200,000 conflicts; where runs begin with initial values it cuts no latch open, and its mode is plain.
-use Rattle.std.specs.Prelude.{◌==◌, ◌&&◌, ◌||◌, option_and_then, option_map, codes, bytes_eq}
+use Rattle.std.specs.Prelude.{◌==◌, ◌&&◌, ◌||◌, not, is_some, option_and_then, option_map, codes, bytes_eq}
 use Rattle.std.specs.Str.Parse.{digits_value, without_leading_plus}
 use Rattle.clap.specs.Words.{Row, Text, fault_of, first_of, subcommand_of}
 use Rattle.clap.specs.ValueTests.{accepts}
@@ -11,7 +11,7 @@ use Rattle.sec_base.specs.declared.settings.Settings.{Settings}
 use Rattle.command_line.specs.declared.task.Task.{Task}
 use Rattle.command_line.specs.declared.task.Task.TheVariants as task
 use Rattle.command_line.specs.command_words.Command.{sec_app, most_conflicts, most_cycles, any_number}
-use Rattle.command_line.specs.Jobs.{task_in, check_in, compared_in, checked_in, begun_in, paired_in, stands_alone, graph_in, sim_in, replay_in, settle_in, gen_in, lrat_in, cert_in, induct_in, form_in, settings_in, conflicts_in, mode_in, mode_of, refuses_reset, number_of, is_set, with_word, inducted_in, tied_in, searched_in}
+use Rattle.command_line.specs.Jobs.{task_in, check_in, compared_in, checked_in, begun_in, paired_in, renamed_in, stands_alone, graph_in, sim_in, replay_in, settle_in, gen_in, lrat_in, cert_in, induct_in, form_in, settings_in, conflicts_in, mode_in, mode_of, refuses_reset, number_of, is_set, with_word, inducted_in, tied_in, searched_in}
 use Rattle.command_line.specs.Allowed.{IsAllowed, JobsAreAllowed}
 
 some_is : {X : Type 0} {x y : X} → Some x ≡ Some y → x ≡ y
@@ -140,6 +140,23 @@ allowed_paired settles a b s assumed cycles after (Some pair) allowed always job
     let here : IsAllowed (task.CheckPair a b pair s) = allowed in
     subst IsAllowed (some_is made.1) here
 
+-- or that of latches which a file pairs
+allowed_renamed : (settles : Bool) (a b : Text) (s : Settings) (assumed cycles after pair pairs : Option Text) → AreAllowed s → (settles ≡ true → s.reset ≡ false) → (job : Task) → renamed_in settles a b s assumed cycles after pair pairs ≡ Some job → IsAllowed job
+allowed_renamed settles a b s assumed cycles after pair None allowed always job e = allowed_paired settles a b s assumed cycles after pair allowed always job e
+allowed_renamed settles a b s assumed cycles after pair (Some pairs) allowed always job e =
+    let made = where_true (s.expose && (stands_alone settles assumed cycles after && not (is_some pair))) (Some (task.CheckRenamed a b pairs s)) job e in
+    let exposed : s.expose ≡ true = first_holds s.expose (stands_alone settles assumed cycles after && not (is_some pair)) made.0 in
+    let here : IsAllowed (task.CheckRenamed a b pairs s) = (allowed.0, exposed, unset s.reset s.expose exposed allowed.1) in
+    subst IsAllowed (some_is made.1) here
+  where
+    first_holds : (b c : Bool) → (b && c) ≡ true → b ≡ true
+    first_holds true c h = refl
+    first_holds false c h = absurd (cc)
+
+    unset : (reset expose : Bool) → expose ≡ true → (reset ≡ true → expose ≡ false) → reset ≡ false
+    unset false expose set none = refl
+    unset true expose set none = let f = none refl in absurd (cc)
+
 allowed_check : (rows : List Row) (job : Task) → check_in rows ≡ Some job → IsAllowed job
 allowed_check rows job e =
     let assumed : Option Text = first_of (codes "assume") rows in
@@ -147,10 +164,11 @@ allowed_check rows job e =
     let cycles : Option Text = first_of (codes "cycles") rows in
     let after : Option Text = first_of (codes "after") rows in
     let pair : Option Text = first_of (codes "pair") rows in
-    let a = and_then_some (λ x. with_word (codes "b") rows (λ y. option_and_then (λ s. paired_in settles x y s assumed cycles after pair) (settings_in rows))) (first_of (codes "a") rows) job e in
-    let b = and_then_some (λ y. option_and_then (λ s. paired_in settles a.0 y s assumed cycles after pair) (settings_in rows)) (first_of (codes "b") rows) job a.2 in
-    let settings = and_then_some (λ s. paired_in settles a.0 b.0 s assumed cycles after pair) (settings_in rows) job b.2 in
-    allowed_paired settles a.0 b.0 settings.0 assumed cycles after pair (allowed_settings rows settings.0 settings.1) (settles_always rows settings.0 settings.1) job settings.2
+    let pairs : Option Text = first_of (codes "pairs") rows in
+    let a = and_then_some (λ x. with_word (codes "b") rows (λ y. option_and_then (λ s. renamed_in settles x y s assumed cycles after pair pairs) (settings_in rows))) (first_of (codes "a") rows) job e in
+    let b = and_then_some (λ y. option_and_then (λ s. renamed_in settles a.0 y s assumed cycles after pair pairs) (settings_in rows)) (first_of (codes "b") rows) job a.2 in
+    let settings = and_then_some (λ s. renamed_in settles a.0 b.0 s assumed cycles after pair pairs) (settings_in rows) job b.2 in
+    allowed_renamed settles a.0 b.0 settings.0 assumed cycles after pair pairs (allowed_settings rows settings.0 settings.1) (settles_always rows settings.0 settings.1) job settings.2
 
 allowed_graph : (rows : List Row) (job : Task) → graph_in rows ≡ Some job → IsAllowed job
 allowed_graph rows job e =

@@ -17,8 +17,8 @@ use Rattle.clap.specs.Walk.{Row, Rule, Text, Walk, answers_to, finished, first_o
 use Rattle.clap.specs.Simple.{App, Shape, built, built_leaf, entered, help_shape, inherited, label_of, marked_built, names_of, rows_at, subcommand_of, with_leaf_noted}
 use Rattle.clap.specs.declared.builder.value_parser.ValueParser.{ValueParser}
 use Rattle.command_line.specs.command_words.Command.{sec_app, check_app, graph_app, sim_app, replay_app, settle_app, gen_app, lrat_app, cert_app, induct_app, most_conflicts, most_cycles, any_number}
-use Rattle.command_line.specs.Jobs.{begun_in, cert_in, check_in, checked_in, conflicts_in, form_in, gen_in, graph_in, induct_in, is_set, job_of, lrat_in, mode_in, number_of, paired_in, replay_in, settle_in, sim_in, stands_alone, task_in, tied_in}
-use Rattle.command_line.specs.Known.{HasFitMode, after_fits, cycles_fit, cycles_given, mode_fits, pair_fits, tied_fits}
+use Rattle.command_line.specs.Jobs.{begun_in, cert_in, check_in, checked_in, conflicts_in, form_in, gen_in, graph_in, induct_in, is_set, job_of, lrat_in, mode_in, number_of, paired_in, renamed_in, replay_in, settle_in, sim_in, stands_alone, task_in, tied_in}
+use Rattle.command_line.specs.Known.{HasFitMode, after_fits, cycles_fit, cycles_given, mode_fits, pair_fits, pairs_fit, tied_fits}
 use Rattle.command_line.proofs.Taken.{else_first, else_next, EachRule, IsNotHelp, IsOwn, no_help_walk}
 use Rattle.command_line.proofs.Leaves.{IsRead, first_good, first_has, leaf_read, second_check}
 
@@ -60,20 +60,27 @@ paired_job : (settles : Bool) (a b : Text) (s : Settings) (assumed cycles after 
 paired_job settles a b s assumed cycles after None begun fits = begun
 paired_job settles a b s assumed cycles after (Some p) begun fits = rw fits refl
 
+-- or that of latches which a file pairs
+renamed_job : (settles : Bool) (a b : Text) (s : Settings) (assumed cycles after pair pairs : Option Text) → is_some (paired_in settles a b s assumed cycles after pair) ≡ true →
+    (not (is_some pairs) || (s.expose && (stands_alone settles assumed cycles after && not (is_some pair)))) ≡ true → is_some (renamed_in settles a b s assumed cycles after pair pairs) ≡ true
+renamed_job settles a b s assumed cycles after pair None paired fits = paired
+renamed_job settles a b s assumed cycles after pair (Some p) paired fits = rw fits refl
+
 abbrev settings_of : List Row → ℕ → Mode → Settings
 settings_of rows n m = record { mode = m; expose = is_set (codes "expose") rows; conflicts = n; reset = is_set (codes "reset") rows }
 
 -- what stands of each subcommand makes its task
 check_job : (rows : List Row) (a b n : Text) → first_of (codes "a") rows ≡ Some a → first_of (codes "b") rows ≡ Some b → first_of (codes "conflicts") rows ≡ Some n → value_kinds false most_conflicts n ≡ [] →
-    ((w : Text) → first_of (codes "cycles") rows ≡ Some w → value_kinds false most_cycles w ≡ []) → (is_some (mode_in rows) && (cycles_fit rows && (after_fits rows && pair_fits rows))) ≡ true → is_some (check_in rows) ≡ true
+    ((w : Text) → first_of (codes "cycles") rows ≡ Some w → value_kinds false most_cycles w ≡ []) → (is_some (mode_in rows) && (cycles_fit rows && (after_fits rows && (pair_fits rows && pairs_fit rows)))) ≡ true → is_some (check_in rows) ≡ true
 check_job rows a b n ea eb en passes few known = by (mode_in rows) refl both.0
   where
-    both : (is_some (mode_in rows) ≡ true) × (cycles_fit rows ≡ true) × (after_fits rows ≡ true) × (pair_fits rows ≡ true)
+    both : (is_some (mode_in rows) ≡ true) × (cycles_fit rows ≡ true) × (after_fits rows ≡ true) × (pair_fits rows ≡ true) × (pairs_fit rows ≡ true)
     both =
-        let one = both_hold (is_some (mode_in rows)) (cycles_fit rows && (after_fits rows && pair_fits rows)) known in
-        let two = both_hold (cycles_fit rows) (after_fits rows && pair_fits rows) one.1 in
-        let three = both_hold (after_fits rows) (pair_fits rows) two.1 in
-        (one.0, two.0, three.0, three.1)
+        let one = both_hold (is_some (mode_in rows)) (cycles_fit rows && (after_fits rows && (pair_fits rows && pairs_fit rows))) known in
+        let two = both_hold (cycles_fit rows) (after_fits rows && (pair_fits rows && pairs_fit rows)) one.1 in
+        let three = both_hold (after_fits rows) (pair_fits rows && pairs_fit rows) two.1 in
+        let four = both_hold (pair_fits rows) (pairs_fit rows) three.1 in
+        (one.0, two.0, three.0, four.0, four.1)
 
     conflicts : conflicts_in rows ≡ Some (digits_value 10 (without_leading_plus n))
     conflicts = ap (option_and_then (number_of most_conflicts)) en ∙ number_known most_conflicts n passes
@@ -88,8 +95,9 @@ check_job rows a b n ea eb en passes few known = by (mode_in rows) refl both.0
     by : (m : Option Mode) → mode_in rows ≡ m → is_some m ≡ true → is_some (check_in rows) ≡ true
     by None e h = absurd (true≢false (sym h))
     by (Some m) e h = rw (ea, eb, e, conflicts)
+        (renamed_job (is_set (codes "settles") rows) a b (settings_of rows (digits_value 10 (without_leading_plus n)) m) (first_of (codes "assume") rows) (first_of (codes "cycles") rows) (first_of (codes "after") rows) (first_of (codes "pair") rows) (first_of (codes "pairs") rows)
         (paired_job (is_set (codes "settles") rows) a b (settings_of rows (digits_value 10 (without_leading_plus n)) m) (first_of (codes "assume") rows) (first_of (codes "cycles") rows) (first_of (codes "after") rows) (first_of (codes "pair") rows)
-        (begun_job (is_set (codes "settles") rows) a b (settings_of rows (digits_value 10 (without_leading_plus n)) m) (first_of (codes "assume") rows) (first_of (codes "cycles") rows) (first_of (codes "after") rows) (fits m) both.2) both.3)
+        (begun_job (is_set (codes "settles") rows) a b (settings_of rows (digits_value 10 (without_leading_plus n)) m) (first_of (codes "assume") rows) (first_of (codes "cycles") rows) (first_of (codes "after") rows) (fits m) both.2) both.3) both.4)
 
 graph_job : (rows : List Row) (a : Text) → first_of (codes "a") rows ≡ Some a → is_some (mode_in rows) ≡ true → is_some (graph_in rows) ≡ true
 graph_job rows a ea mode = by (mode_in rows) refl mode
@@ -158,7 +166,7 @@ abbrev IsJob : Shape → Type 0
 IsJob s = (words : List Text) → level_fault s [] nothing_held words false [] ≡ [] → bytes_eq s.name (codes "help") ≡ false → mode_fits s.name (rows_after s.rules [] words) ≡ true → is_some (task_in s.name (rows_after s.rules [] words)) ≡ true
 
 check_own : EachRule (IsOwn (part check_app.top).rules) (part check_app.top).rules
-check_own = ((refl, omega arith), ((refl, omega arith), ((refl, omega arith), ((refl, omega arith), ((refl, omega arith), ((refl, omega arith), ((refl, omega arith), ((refl, omega arith), ((refl, omega arith), ((refl, omega arith), ((refl, omega arith), ((refl, tt), tt))))))))))))
+check_own = ((refl, omega arith), ((refl, omega arith), ((refl, omega arith), ((refl, omega arith), ((refl, omega arith), ((refl, omega arith), ((refl, omega arith), ((refl, omega arith), ((refl, omega arith), ((refl, omega arith), ((refl, omega arith), ((refl, omega arith), ((refl, tt), tt)))))))))))))
 
 check_is : IsJob (part check_app.top)
 check_is words e help known =

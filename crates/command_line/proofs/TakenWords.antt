@@ -1,7 +1,7 @@
 -- Words that are written out, computed.
 use Rattle.std.proofs.Common.{refl}
 use Rattle.clap.proofs.OnLiterals.{clap_on_literals}
-use Rattle.command_line.specs.Known.{PairIsTaken, PairIsNoJob, CheckIsTaken, GraphIsTaken, SimIsTaken, ReplayIsTaken, SettleIsTaken, GenIsTaken, LratIsTaken, CertIsTaken, InductIsTaken, ResetIsTaken, CyclesAreTaken, AfterIsTaken, AssumedIsTaken, CheckSettlesIsTaken, ReplaySettlesIsTaken, SettlesIsRefused, AssumedIsRefused, OtherModeIsNoJob, OtherFormIsNoJob, ResetIsNoJob, CyclesAreNoJob, AfterIsNoJob, SignalsAreTaken}
+use Rattle.command_line.specs.Known.{PairIsTaken, PairIsNoJob, PairsAreTaken, PairsAreNoJob, CheckIsTaken, GraphIsTaken, SimIsTaken, ReplayIsTaken, SettleIsTaken, GenIsTaken, LratIsTaken, CertIsTaken, InductIsTaken, ResetIsTaken, CyclesAreTaken, AfterIsTaken, AssumedIsTaken, CheckSettlesIsTaken, ReplaySettlesIsTaken, SettlesIsRefused, AssumedIsRefused, OtherModeIsNoJob, OtherFormIsNoJob, ResetIsNoJob, CyclesAreNoJob, AfterIsNoJob, SignalsAreTaken}
 
 pub check_is_taken : CheckIsTaken
 unfolding clap_on_literals
@@ -98,6 +98,14 @@ pair_is_taken = ((refl, refl), refl)
 pub pair_is_no_job : PairIsNoJob
 unfolding clap_on_literals
 pair_is_no_job = ((refl, refl), (refl, refl), (refl, refl))
+
+pub pairs_are_taken : PairsAreTaken
+unfolding clap_on_literals
+pairs_are_taken = ((refl, refl), refl)
+
+pub pairs_are_no_job : PairsAreNoJob
+unfolding clap_on_literals
+pairs_are_no_job = ((refl, refl), (refl, refl), (refl, refl), (refl, refl))
 
 pub after_is_no_job : AfterIsNoJob
 unfolding clap_on_literals

@@ -13,6 +13,7 @@ abbrev pub IsAllowed : Task → Type 0
 IsAllowed (task.Check a b settings assumed) = (settings.conflicts ≤ MAX_CONFLICTS) × (settings.reset ≡ true → settings.expose ≡ false) × (settings.reset ≡ true → settings.mode ≡ Plain)
 IsAllowed (task.CheckSettles a b settings assumed) = (settings.conflicts ≤ MAX_CONFLICTS) × (settings.reset ≡ false)
 IsAllowed (task.CheckPair a b pair settings) = (settings.conflicts ≤ MAX_CONFLICTS) × (settings.reset ≡ true → settings.expose ≡ false) × (settings.reset ≡ true → settings.mode ≡ Plain)
+IsAllowed (task.CheckRenamed a b pairs settings) = (settings.conflicts ≤ MAX_CONFLICTS) × (settings.expose ≡ true) × (settings.reset ≡ false)
 IsAllowed (task.Graph a mode) = Unit {0}
 IsAllowed (task.Sim a s mode power reset) = Unit {0}
 IsAllowed (task.Replay a b s mode settles) = Unit {0}

@@ -87,9 +87,14 @@ abbrev pub paired_in : Bool → Text → Text → Settings → Option Text → O
 paired_in settles a b settings assumed cycles after None = begun_in settles a b settings assumed cycles after
 paired_in settles a b settings assumed cycles after (Some pair) = if stands_alone settles assumed cycles after then Some (task.CheckPair a b pair settings) else None
 
+-- the comparison whose latches a file pairs, where one is named; it stands beside `--expose`, and beside neither these nor `--pair`
+abbrev pub renamed_in : Bool → Text → Text → Settings → Option Text → Option Text → Option Text → Option Text → Option Text → Option Task
+renamed_in settles a b settings assumed cycles after pair None = paired_in settles a b settings assumed cycles after pair
+renamed_in settles a b settings assumed cycles after pair (Some pairs) = if settings.expose && (stands_alone settles assumed cycles after && not (is_some pair)) then Some (task.CheckRenamed a b pairs settings) else None
+
 abbrev pub check_in : List Row → Option Task
 check_in rows =
-    with_word (codes "a") rows (λ a. with_word (codes "b") rows (λ b. option_and_then (λ settings. paired_in (is_set (codes "settles") rows) a b settings (first_of (codes "assume") rows) (first_of (codes "cycles") rows) (first_of (codes "after") rows) (first_of (codes "pair") rows)) (settings_in rows)))
+    with_word (codes "a") rows (λ a. with_word (codes "b") rows (λ b. option_and_then (λ settings. renamed_in (is_set (codes "settles") rows) a b settings (first_of (codes "assume") rows) (first_of (codes "cycles") rows) (first_of (codes "after") rows) (first_of (codes "pair") rows) (first_of (codes "pairs") rows)) (settings_in rows)))
 
 abbrev pub graph_in : List Row → Option Task
 graph_in rows = with_word (codes "a") rows (λ a. option_map (λ mode. task.Graph a mode) (mode_in rows))
@@ -155,6 +160,6 @@ task_in name rows =
     else None
 
 -- The job of the words: where `clap`'s own definition for the command takes them, the mode or the form is known, and nothing refuses
--- `--reset`, `--cycles` or `--pair`.
+-- `--reset`, `--cycles`, `--pair` or `--pairs`.
 abbrev pub job_of : List Text → Option Task
 job_of words = if length (fault_of sec_app words) == 0 then option_and_then (λ met. task_in met.0 met.1) (subcommand_of sec_app words) else None

@@ -23,15 +23,21 @@ after_fits rows = not (is_some (first_of (codes "after") rows)) || (is_some (fir
 abbrev pub pair_fits : List Row → Bool
 pair_fits rows = not (is_some (first_of (codes "pair") rows)) || stands_alone (is_set (codes "settles") rows) (first_of (codes "assume") rows) (first_of (codes "cycles") rows) (first_of (codes "after") rows)
 
+-- `--pairs` isn't given, or stands beside `--expose` and beside none of these nor `--pair`
+abbrev pub pairs_fit : List Row → Bool
+pairs_fit rows =
+    not (is_some (first_of (codes "pairs") rows))
+    || (is_set (codes "expose") rows && (stands_alone (is_set (codes "settles") rows) (first_of (codes "assume") rows) (first_of (codes "cycles") rows) (first_of (codes "after") rows) && not (is_some (first_of (codes "pair") rows))))
+
 -- `--after` isn't given, or stands beside `--signals`
 abbrev pub tied_fits : List Row → Bool
 tied_fits rows = not (is_some (first_of (codes "after") rows)) || is_set (codes "signals") rows
 
 -- The mode among the subcommand's matches is one of the two, and `--reset` may stand beside it; `gen`, `lrat` and `induct` have none, and
--- `cert` has a form in its place. Nothing refuses the cycles of `check`, nor its stimulus, nor its one name, nor the stimulus of `induct`.
+-- `cert` has a form in its place. Nothing refuses the cycles of `check`, nor its stimulus, nor its one name, nor its pairs, nor the stimulus of `induct`.
 abbrev pub mode_fits : Text → List Row → Bool
 mode_fits name rows =
-    bytes_eq name (codes "gen") || (bytes_eq name (codes "lrat") || (if bytes_eq name (codes "induct") then tied_fits rows else if bytes_eq name (codes "cert") then is_some (form_in rows) else if bytes_eq name (codes "check") then is_some (mode_in rows) && (cycles_fit rows && (after_fits rows && pair_fits rows)) else is_some (mode_in rows)))
+    bytes_eq name (codes "gen") || (bytes_eq name (codes "lrat") || (if bytes_eq name (codes "induct") then tied_fits rows else if bytes_eq name (codes "cert") then is_some (form_in rows) else if bytes_eq name (codes "check") then is_some (mode_in rows) && (cycles_fit rows && (after_fits rows && (pair_fits rows && pairs_fit rows))) else is_some (mode_in rows)))
 
 -- the mode of the subcommand that the words name is one of the two, and nothing refuses `--reset`
 abbrev pub HasFitMode : List Text → Type 0
@@ -178,3 +184,17 @@ PairIsNoJob =
     AreNoJob (codes "check" ∷ codes "a" ∷ codes "b" ∷ codes "--pair" ∷ codes "y" ∷ codes "--settles" ∷ [])
     × AreNoJob (codes "check" ∷ codes "a" ∷ codes "b" ∷ codes "--pair" ∷ codes "y" ∷ codes "--assume" ∷ codes "c" ∷ [])
     × AreNoJob (codes "check" ∷ codes "a" ∷ codes "b" ∷ codes "--pair" ∷ codes "y" ∷ codes "--reset" ∷ codes "--cycles" ∷ codes "20" ∷ [])
+
+-- words with `--pairs`, and what they ask for
+abbrev pub PairsAreTaken : Type 0
+PairsAreTaken =
+    AreTaken (codes "check" ∷ codes "a" ∷ codes "b" ∷ codes "--expose" ∷ codes "--pairs" ∷ codes "p" ∷ [])
+    × (job_of (codes "check" ∷ codes "--pairs" ∷ codes "p" ∷ codes "a" ∷ codes "b" ∷ codes "--expose" ∷ []) ≡ Some (task.CheckRenamed (codes "a") (codes "b") (codes "p") (record { mode = Plain; expose = true; conflicts = 20000; reset = false })))
+
+-- since `--pairs` stands without `--expose`, or with `--pair`, `--settles` or `--assume`
+abbrev pub PairsAreNoJob : Type 0
+PairsAreNoJob =
+    AreNoJob (codes "check" ∷ codes "a" ∷ codes "b" ∷ codes "--pairs" ∷ codes "p" ∷ [])
+    × AreNoJob (codes "check" ∷ codes "a" ∷ codes "b" ∷ codes "--expose" ∷ codes "--pairs" ∷ codes "p" ∷ codes "--pair" ∷ codes "y" ∷ [])
+    × AreNoJob (codes "check" ∷ codes "a" ∷ codes "b" ∷ codes "--expose" ∷ codes "--pairs" ∷ codes "p" ∷ codes "--settles" ∷ [])
+    × AreNoJob (codes "check" ∷ codes "a" ∷ codes "b" ∷ codes "--expose" ∷ codes "--pairs" ∷ codes "p" ∷ codes "--assume" ∷ codes "c" ∷ [])

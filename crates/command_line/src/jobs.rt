@@ -6,7 +6,7 @@ ghost use Rattle.clap.specs.Words.{fault_of, first_of, found_of, rows_of, subcom
 ghost use Rattle.clap.specs.ValueTests.{accepts};
 ghost use Rattle.clap.specs.declared.builder.value_parser.ValueParser.TheVariants as parser;
 ghost use Rattle.command_line.specs.command_words.Command.{sec_app};
-ghost use Rattle.command_line.specs.Jobs.{job_of, task_in, check_in, compared_in, graph_in, sim_in, replay_in, settle_in, gen_in, lrat_in, cert_in, induct_in, form_in, mode_of, mode_in, refuses_reset, is_set, number_of, conflicts_in, settings_in, checked_in, paired_in, stands_alone, search_in, after_in, inducted_in, tied_in, searched_in};
+ghost use Rattle.command_line.specs.Jobs.{job_of, task_in, check_in, compared_in, graph_in, sim_in, replay_in, settle_in, gen_in, lrat_in, cert_in, induct_in, form_in, mode_of, mode_in, refuses_reset, is_set, number_of, conflicts_in, settings_in, checked_in, paired_in, renamed_in, stands_alone, search_in, after_in, inducted_in, tied_in, searched_in};
 
 use crate::command_words::sec_command;
 use crate::task::Task;
@@ -22,7 +22,8 @@ pub enum WordsError {
     /// `clap`'s definition for the command doesn't take the words, the mode is neither `plain` nor `event`, `--reset` stands with
     /// `event`, with `--expose` or with `--settles`, `--cycles` stands without `--reset`, `--after`
     /// without `--cycles` or `--signals` or with `--assume`, `--pair` with `--settles`, `--assume`,
-    /// `--cycles` or `--after`, or the form of a certificate is neither `cnf` nor `lrat`.
+    /// `--cycles` or `--after`, `--pairs` with one of these or with `--pair` or without `--expose`, or the
+    /// form of a certificate is neither `cnf` nor `lrat`.
     Refused,
     /// Memory was wanted and couldn't be had.
     NoMemory,
@@ -172,6 +173,9 @@ fn check_in(alloc: Global, matches: &ArgMatches<'_>) -> Result<Option<Task>, NoM
     let Some(settings) = settings_in(matches) else {
         return Ok(None);
     };
+    if let Some(pairs) = word(matches, "pairs") {
+        return renamed_in(alloc, matches, a, b, pairs, settings);
+    }
     if let Some(pair) = word(matches, "pair") {
         return paired_in(alloc, matches, a, b, pair, settings);
     }
@@ -218,6 +222,31 @@ fn paired_in(
         a,
         b,
         pair,
+        settings,
+    }))
+}
+
+/// The comparison whose latches the file pairs. It stands only beside `--expose`, and beside none of `--settles`, `--assume`, `--cycles`,
+/// `--after` and `--pair`.
+fn renamed_in(
+    alloc: Global,
+    matches: &ArgMatches<'_>,
+    a: &str,
+    b: &str,
+    pairs: &str,
+    settings: Settings,
+) -> Result<Option<Task>, NoMemory>
+    ensures { IfOk result (λ task. task ≡ renamed_in (is_set (codes "settles") (rows_of (found_of matches.now))) a.now b.now settings (first_of (codes "assume") (rows_of (found_of matches.now))) (first_of (codes "cycles") (rows_of (found_of matches.now))) (first_of (codes "after") (rows_of (found_of matches.now))) (first_of (codes "pair") (rows_of (found_of matches.now))) (Some pairs.now)) }
+{
+    if !settings.expose || !stands_alone(matches) || word(matches, "pair").is_some() {
+        return Ok(None);
+    }
+    let pairs = FilePath::from_str(alloc, pairs)?;
+    let (a, b) = paths_of(alloc, a, b)?;
+    Ok(Some(Task::CheckRenamed {
+        a,
+        b,
+        pairs,
         settings,
     }))
 }
@@ -608,7 +637,8 @@ fn matches_of<'a>(alloc: Global, words: &'a [String]) -> Result<ArgMatches<'a>, 
 
 /// The job of the words behind the program's name. `Refused` comes exactly where `clap`'s definition for the command
 /// doesn't take them, the mode is neither `plain` nor `event`, `--reset` stands with `event`, with `--expose` or with `--settles`, `--cycles`
-/// stands without `--reset`, `--after` with `--assume`, `--pair` with `--settles`, `--assume`, `--cycles` or `--after`, or the form of a certificate is neither `cnf` nor `lrat`.
+/// stands without `--reset`, `--after` with `--assume`, `--pair` with `--settles`, `--assume`, `--cycles` or `--after`, `--pairs` with one of these or with
+/// `--pair` or without `--expose`, or the form of a certificate is neither `cnf` nor `lrat`.
 pub fn job(alloc: Global, words: &[String]) -> Result<Task, WordsError>
     ensures job { IfOk result (λ task. job_of (map (λ w. string_bytes w) words.now) ≡ Some task) }
     ensures refused { IsErrOf result WordsError.Refused → job_of (map (λ w. string_bytes w) words.now) ≡ None }

@@ -1,7 +1,7 @@
 //! What follows for the words. The functions do nothing: each contract is a law.
 
 ghost use Rattle.command_line.specs.Allowed.{JobsAreAllowed};
-ghost use Rattle.command_line.specs.Known.{TakenWordsAreJob, CheckIsTaken, GraphIsTaken, SimIsTaken, ReplayIsTaken, SettleIsTaken, GenIsTaken, LratIsTaken, CertIsTaken, InductIsTaken, ResetIsTaken, CyclesAreTaken, AfterIsTaken, AssumedIsTaken, CheckSettlesIsTaken, ReplaySettlesIsTaken, SettlesIsRefused, AssumedIsRefused, OtherModeIsNoJob, OtherFormIsNoJob, ResetIsNoJob, CyclesAreNoJob, AfterIsNoJob, SignalsAreTaken, PairIsTaken, PairIsNoJob};
+ghost use Rattle.command_line.specs.Known.{TakenWordsAreJob, CheckIsTaken, GraphIsTaken, SimIsTaken, ReplayIsTaken, SettleIsTaken, GenIsTaken, LratIsTaken, CertIsTaken, InductIsTaken, ResetIsTaken, CyclesAreTaken, AfterIsTaken, AssumedIsTaken, CheckSettlesIsTaken, ReplaySettlesIsTaken, SettlesIsRefused, AssumedIsRefused, OtherModeIsNoJob, OtherFormIsNoJob, ResetIsNoJob, CyclesAreNoJob, AfterIsNoJob, SignalsAreTaken, PairIsTaken, PairIsNoJob, PairsAreTaken, PairsAreNoJob};
 
 /// Words that `clap`'s definition for the command takes are a job wherever their mode is `plain` or `event` and `--reset` stands
 /// neither with `event` nor with `--expose` or `--settles`, and `--cycles` only with `--reset` and without `--assume`, and `--pair` without `--settles`, `--assume`, `--cycles` and `--after`, or they name the subcommand `gen`, `lrat` or `induct`, which have no mode, or `cert` with
@@ -29,7 +29,7 @@ pub fn words_are_taken()
     ensures of_assumed { AssumedIsTaken }
 {}
 
-/// The same of `settle`, of `check` and `replay` with `--settles`, of `check` with `--cycles`, with `--after` and with `--pair`, and of
+/// The same of `settle`, of `check` and `replay` with `--settles`, of `check` with `--cycles`, with `--after`, with `--pair` and with `--pairs`, and of
 /// `induct` with `--signals`.
 pub fn further_words_are_taken()
     ensures of_settle { SettleIsTaken }
@@ -39,6 +39,7 @@ pub fn further_words_are_taken()
     ensures of_after { AfterIsTaken }
     ensures of_signals { SignalsAreTaken }
     ensures of_pair { PairIsTaken }
+    ensures of_pairs { PairsAreTaken }
 {}
 
 /// Words that `clap`'s definition doesn't take: `--assume` without a path behind it, or twice; `--settles` behind `settle`.
@@ -47,7 +48,7 @@ pub fn refused_words_are_no_job()
     ensures of_settles { SettlesIsRefused }
 {}
 
-/// Words that are taken and are no job: they have another mode or another form, or `--reset`, `--cycles`, `--after` or `--pair` beside what
+/// Words that are taken and are no job: they have another mode or another form, or `--reset`, `--cycles`, `--after`, `--pair` or `--pairs` beside what
 /// refuses it.
 pub fn taken_words_are_no_job()
     ensures of_mode { OtherModeIsNoJob }
@@ -56,4 +57,5 @@ pub fn taken_words_are_no_job()
     ensures of_cycles { CyclesAreNoJob }
     ensures of_after { AfterIsNoJob }
     ensures of_pair { PairIsNoJob }
+    ensures of_pairs { PairsAreNoJob }
 {}

@@ -27,6 +27,13 @@ pub enum Task {
         pair: Word,
         settings: Settings,
     },
+    /// Compare them with the latches of B under the names of those of A that a file pairs them with.
+    CheckRenamed {
+        a: FilePath,
+        b: FilePath,
+        pairs: FilePath,
+        settings: Settings,
+    },
     /// Print the latches of a circuit, their depths and a cycle.
     Graph {
         a: FilePath,
@@ -139,6 +146,12 @@ impl Drop for Task {
                 a: _,
                 b: _,
                 pair: _,
+                settings: _,
+            } => {}
+            Task::CheckRenamed {
+                a: _,
+                b: _,
+                pairs: _,
                 settings: _,
             } => {}
             Task::Graph { a: _, mode: _ } => {}

@@ -59,6 +59,7 @@ module _ (cycles conflicts : ℕ) (left right assumed : Option (List ℕ)) (x y 
   stands (refusal.Misfit m) h = h
   stands refusal.TooManyEvents h = h
   stands (refusal.Pair name) h = h
+  stands (refusal.Pairs fault) h = h
 
   judged : (j : Judgement) → IsUnderAnswer (judgement_status j)
   judged judgement.Equal = tt

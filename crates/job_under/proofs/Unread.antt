@@ -32,6 +32,7 @@ module _ (cycles conflicts : ℕ) (left right assumed : Option (List ℕ)) where
   refused_so (refusal.Assume fault) h = absurd h
   refused_so refusal.Vacuous h = absurd h
   refused_so (refusal.Pair name) h = h
+  refused_so (refusal.Pairs fault) h = h
 
   found_so : (f : Finding) → IsUnread left right assumed f → IsUnderFound cycles conflicts left right assumed f
   found_so finding.Words h = absurd h

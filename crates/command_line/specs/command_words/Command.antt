@@ -47,7 +47,7 @@ abbrev pub mode : Rule
 mode = option_with (codes "mode") (codes "plain")
 
 abbrev pub check_app : App
-check_app = fold with_rule (new_app (codes "check")) (place (codes "a") ∷ place (codes "b") ∷ mode ∷ flag (codes "expose") ∷ conflicts ∷ flag (codes "reset") ∷ option (codes "assume") ∷ flag (codes "settles") ∷ cycles ∷ option (codes "after") ∷ option (codes "pair") ∷ [])
+check_app = fold with_rule (new_app (codes "check")) (place (codes "a") ∷ place (codes "b") ∷ mode ∷ flag (codes "expose") ∷ conflicts ∷ flag (codes "reset") ∷ option (codes "assume") ∷ flag (codes "settles") ∷ cycles ∷ option (codes "after") ∷ option (codes "pair") ∷ option (codes "pairs") ∷ [])
 
 abbrev pub graph_app : App
 graph_app = fold with_rule (new_app (codes "graph")) (place (codes "a") ∷ mode ∷ [])

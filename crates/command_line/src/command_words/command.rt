@@ -78,6 +78,7 @@ fn words_of<'a>(which: Subcommand) -> (&'a str, &'a [Word<'a>])
                 Word::Cycles,
                 Word::Option("after"),
                 Word::Option("pair"),
+                Word::Option("pairs"),
             ],
         ),
         Subcommand::Graph => ("graph", &[Word::Place("a"), MODE]),

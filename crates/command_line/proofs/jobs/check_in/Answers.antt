@@ -8,8 +8,8 @@ use Rattle.command_line.specs.Jobs.{check_in, search_in, settings_in}
 use Rattle.command_line.proofs.jobs.check_in.Goals as goal
 
 searched : (rows : List Row) (a b cycles : Text) (settings : Settings) (assumed : Option Text) → Some a ≡ first_of (codes "a") rows → Some b ≡ first_of (codes "b") rows → Some settings ≡ settings_in rows → assumed ≡ first_of (codes "assume") rows →
-    None ≡ first_of (codes "after") rows → None ≡ first_of (codes "pair") rows → Some cycles ≡ first_of (codes "cycles") rows → search_in a b settings assumed cycles ≡ check_in rows
-searched rows a b cycles settings assumed left right set under after none last = rw (sym left) (rw (sym right) (rw (sym set) (rw (sym under) (rw (sym after) (rw (sym none) (rw (sym last) refl))))))
+    None ≡ first_of (codes "after") rows → None ≡ first_of (codes "pair") rows → None ≡ first_of (codes "pairs") rows → Some cycles ≡ first_of (codes "cycles") rows → search_in a b settings assumed cycles ≡ check_in rows
+searched rows a b cycles settings assumed left right set under after none apart last = rw (sym left) (rw (sym right) (rw (sym set) (rw (sym under) (rw (sym after) (rw (sym none) (rw (sym apart) (rw (sym last) refl)))))))
 
 pub returns-in-Some-word-4 : goal.returns-in-Some-word-4
 returns-in-Some-word-4 c =
