@@ -4,11 +4,12 @@ ghost use Rattle.std.specs.Prelude.{◌≡◌, ◌≤◌, ◌++◌, ◌∷◌, [
 ghost use Rattle.job_pair.specs.job_renamed.Texts.{line_of, lines_with_words, SaysPairs, IsOddLine, ReadFails};
 
 use crate::job_renamed::renamed_net::PairsStop;
-use blif_read::blif_lines::{Lines, RawLine, tokens_of};
+use blif_read::blif_lines::{Lines, RawLine};
 use job_base::PairKind;
 use net_names::LatchPair;
 use sec_base::{MAX_FILE_BYTES, NoMemory, Seq, Word};
 use std::alloc::Global;
+use text_numbers::Tokens;
 
 /// The bytes as a name.
 fn word_of(alloc: Global, bytes: &[u8]) -> Result<Word, NoMemory>
@@ -37,14 +38,17 @@ fn take_line(
     ensures ok { OnOk result (map line_of pairs.new.items ≡ map line_of pairs.old.items ++ lines_with_words (line.now ∷ [])) }
     ensures err { IfErr result (IsOddLine line.now) }
 {
-    let words = tokens_of(alloc, line.bytes.as_slice())?;
-    if words.len() == 0 {
+    let mut words = Tokens::new(line.bytes.as_slice());
+    let Some(left) = words.next_token() else {
         return Ok(());
-    }
-    if words.len() != 2 {
+    };
+    let Some(right) = words.next_token() else {
+        return Err(PairsStop::Line(line.number, PairKind::BadPair));
+    };
+    if words.next_token().is_some() {
         return Err(PairsStop::Line(line.number, PairKind::BadPair));
     }
-    pairs.push(pair_of(alloc, line.number, words[0], words[1])?)?;
+    pairs.push(pair_of(alloc, line.number, left, right)?)?;
     Ok(())
 }
 

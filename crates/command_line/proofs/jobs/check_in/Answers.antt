@@ -11,8 +11,8 @@ searched : (rows : List Row) (a b cycles : Text) (settings : Settings) (assumed 
     None ≡ first_of (codes "after") rows → None ≡ first_of (codes "pair") rows → None ≡ first_of (codes "pairs") rows → Some cycles ≡ first_of (codes "cycles") rows → search_in a b settings assumed cycles ≡ check_in rows
 searched rows a b cycles settings assumed left right set under after none apart last = rw (sym left) (rw (sym right) (rw (sym set) (rw (sym under) (rw (sym after) (rw (sym none) (rw (sym apart) (rw (sym last) refl)))))))
 
-pub returns-in-Some-word-4 : goal.returns-in-Some-word-4
-returns-in-Some-word-4 c =
+pub returns-in-Some-word-5 : goal.returns-in-Some-word-5
+returns-in-Some-word-5 c =
     subst (λ (task : Option Task). IfOk c.search_in.result (λ t. t ≡ task))
-    (searched (rows_of (found_of c.args.matches.now)) c.in-Some.a.now c.in-Some-word.b.now c.in-Some-word-4.cycles.now c.in-Some-settings_in.settings _ c.in-Some.ensures c.in-Some-word.ensures c.in-Some-settings_in.ensures c.word-assumed.ensures c.in-None.ensures c.in_default-word-2.ensures
-    c.in-Some-word-4.ensures) c.search_in.ensures
+    (searched (rows_of (found_of c.args.matches.now)) c.in-Some.a.now c.in-Some-word.b.now c.in-Some-word-5.cycles.now c.in-Some-settings_in.settings _ c.in-Some.ensures c.in-Some-word.ensures c.in-Some-settings_in.ensures c.word-assumed.ensures c.in-None.ensures c.in_default-word-3.ensures c.in_default-word-2.ensures
+    c.in-Some-word-5.ensures) c.search_in.ensures
