@@ -108,7 +108,7 @@ module _ (n : NetView) (sound : IsSound n) (laid : IsLaid n) (ps : List LatchPai
       let long = length-map n.latches (latch_by names) in
       let gates = equations_kept n.covers [] 0 (take (length n.gates) n.gates) refl ∙ ap (map (equation_of_gate n.covers)) all_gates in
       let equations = ap (λ (es : List (Equation ℕ)). es ++ map equation_of_latch (map (latch_by names) n.latches)) gates
-          ∙ ap (λ (ls : List LatchAt). map (equation_of_gate n.covers) n.gates ++ map equation_of_latch ls) latches_are ∙ equations_renamed ps n in
+      ∙ ap (λ (ls : List LatchAt). map (equation_of_gate n.covers) n.gates ++ map equation_of_latch ls) latches_are ∙ equations_renamed ps n in
       let starts = ap (filter_map (λ (l : LatchAt). start_of l.out.0 l.init)) latches_are ∙ starts_stay ps n.latches in
       record {
         inputs = all_inputs;

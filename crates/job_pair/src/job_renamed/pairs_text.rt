@@ -30,11 +30,7 @@ fn pair_of(alloc: Global, line: u32, left: &[u8], right: &[u8]) -> Result<LatchP
 }
 
 /// Puts the pair of the line behind the others; a line without words says nothing.
-fn take_line(
-    alloc: Global,
-    pairs: &mut Vec<LatchPair>,
-    line: &RawLine,
-) -> Result<(), PairsStop>
+fn take_line(alloc: Global, pairs: &mut Vec<LatchPair>, line: &RawLine) -> Result<(), PairsStop>
     ensures ok { OnOk result (map line_of pairs.new.items ≡ map line_of pairs.old.items ++ lines_with_words (line.now ∷ [])) }
     ensures err { IfErr result (IsOddLine line.now) }
 {

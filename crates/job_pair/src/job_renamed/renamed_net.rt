@@ -95,12 +95,7 @@ fn find_latches(net: &Net, side: Side, pairs: &[LatchPair]) -> Result<(), PairsS
 }
 
 /// B's net with the names that the text gives its latches.
-pub(crate) fn renamed_net(
-    alloc: Global,
-    a: &Net,
-    b: &Net,
-    text: &[u8],
-) -> Result<Net, PairsStop>
+pub(crate) fn renamed_net(alloc: Global, a: &Net, b: &Net, text: &[u8]) -> Result<Net, PairsStop>
     requires { length text.now ≤ MAX_FILE_BYTES }
     ensures ok { IfOk result (IsRenamedBy text.now a.now b.now) }
     ensures err { IfErr result (PairsFail text.now a.now b.now) }
