@@ -3,4 +3,3 @@ pub mod Complete
 pub mod Finds
 pub mod Means
 pub mod Examples
-pub mod job_renamed

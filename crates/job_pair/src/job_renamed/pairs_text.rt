@@ -18,15 +18,23 @@ fn word_of(alloc: Global, bytes: &[u8]) -> Result<Word, NoMemory>
     Ok(Seq::from_vec(bytes.to_vec(alloc)?))
 }
 
-/// The pair of a line with these two names.
-fn pair_of(alloc: Global, line: u32, left: &[u8], right: &[u8]) -> Result<LatchPair, NoMemory>
-    ensures { IfOk result (λ pair. pair ≡ record { line = line; left = left.now; right = right.now }) }
+/// Puts the pair of a line with these two names behind the others.
+fn put_pair(
+    alloc: Global,
+    pairs: &mut Vec<LatchPair>,
+    line: u32,
+    left: &[u8],
+    right: &[u8],
+) -> Result<(), NoMemory>
+    ensures { OnOk result (pairs.new.items ≡ pairs.old.items ++ (record { line = line; left = left.now; right = right.now }) ∷ []) }
 {
-    Ok(LatchPair {
+    let pair = LatchPair {
         line,
         left: word_of(alloc, left)?,
         right: word_of(alloc, right)?,
-    })
+    };
+    pairs.push(pair)?;
+    Ok(())
 }
 
 /// Puts the pair of the line behind the others; a line without words says nothing.
@@ -44,7 +52,7 @@ fn take_line(alloc: Global, pairs: &mut Vec<LatchPair>, line: &RawLine) -> Resul
     if words.next_token().is_some() {
         return Err(PairsStop::Line(line.number, PairKind::BadPair));
     }
-    pairs.push(pair_of(alloc, line.number, left, right)?)?;
+    put_pair(alloc, pairs, line.number, left, right)?;
     Ok(())
 }
 

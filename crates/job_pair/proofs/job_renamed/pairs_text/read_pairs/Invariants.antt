@@ -3,8 +3,8 @@ use Rattle.blif_read.specs.blif_lines.Lines.{logical_lines}
 use Rattle.job_pair.specs.job_renamed.Texts.{line_of, lines_with_words}
 use Rattle.job_pair.proofs.job_renamed.pairs_text.read_pairs.Given as goal
 
-abbrev pub invariant-loop-line : goal.invariant-loop-line
-invariant-loop-line l = logical_lines l.text ≡ map line_of l.pairs.items ++ lines_with_words l.lines
+abbrev pub invariant-loop-pairs : goal.invariant-loop-pairs
+invariant-loop-pairs l = logical_lines l.text ≡ map line_of l.pairs.items ++ lines_with_words l.lines
 
-abbrev pub decreases-loop-line : goal.decreases-loop-line
-decreases-loop-line l = length l.lines
+abbrev pub decreases-loop-pairs : goal.decreases-loop-pairs
+decreases-loop-pairs l = length l.lines
