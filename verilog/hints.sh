@@ -68,8 +68,10 @@ hint() {
       ;;
     'unpaired '*)
       ! are_blif "$a" "$b" || hint_of_names "$a" "$b"
-      echo "sec-verilog A.blif -- B.blif --top T lists those without a partner, and takes a --map; --mode event wants no names of load enables, sec induct none at all"
+      echo "--pairs FILE tells by lines 'NAME_IN_A NAME_IN_B' which is which; sec-verilog A.blif -- B.blif --top T lists those without a partner, and takes a --map; --mode event wants no names of load enables, sec induct none at all"
       ;;
+    'refused P line '*' Unknown '?) echo "$file: sec graph prints the names of the flip-flops of a circuit" ;;
+    'refused P line '*' Taken') echo "$file: the other flip-flop of that name wants a line too, as in an exchange, a b and b a" ;;
     'refused '?' TwoClocks '* | 'refused '?' TwoEdges '* | 'refused '?' GatedClock '* | 'refused '?' ClockRead '*)
       echo "sec-verilog --clocks compares designs with several clocks, both edges, gates before clocks, or a clock that is read"
       ;;

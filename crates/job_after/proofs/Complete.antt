@@ -91,6 +91,7 @@ module _ (TooLarge : NetView → NetView → Side → Type 0) (left right stimul
   stands (refusal.Assume fault) h = h
   stands refusal.Vacuous h = h
   stands (refusal.Pair name) h = h
+  stands (refusal.Pairs fault) h = h
 
 -- circuits that can begin behind the rows aren't refused
 pub no_refusal : (TooLarge : NetView → NetView → Side → Type 0) (left right stimulus : Option (List ℕ)) → CanBegin TooLarge left right stimulus → (r : Refusal) → IsBegunRefusal TooLarge left right stimulus r → ⊥

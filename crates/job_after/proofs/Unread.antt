@@ -36,6 +36,7 @@ module _ (left right stimulus : Option (List ℕ)) where
   unread_begun TooLarge (refusal.Assume fault) h = absurd h
   unread_begun TooLarge refusal.Vacuous h = absurd h
   unread_begun TooLarge (refusal.Pair name) h = absurd h
+  unread_begun TooLarge (refusal.Pairs fault) h = absurd h
 
   unread_found : (TooLarge : NetView → NetView → Side → Type 0) (P : Finding → Type 0) → ((r : Refusal) → IsBegunRefusal TooLarge left right stimulus r → P (finding.Refused r)) → (f : Finding) → IsUnread left right stimulus f → P f
   unread_found TooLarge P keep finding.Words h = absurd h

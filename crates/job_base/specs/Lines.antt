@@ -22,6 +22,10 @@ use Rattle.job_base.specs.declared.finding.File.{File}
 use Rattle.job_base.specs.declared.finding.File.TheVariants as file
 use Rattle.job_base.specs.declared.finding.LineFault.{LineFault}
 use Rattle.job_base.specs.declared.finding.LineFault.TheVariants as line_fault
+use Rattle.job_base.specs.declared.finding.PairKind.{PairKind}
+use Rattle.job_base.specs.declared.finding.PairKind.TheVariants as pair_kind
+use Rattle.job_base.specs.declared.finding.PairsFault.{PairsFault}
+use Rattle.job_base.specs.declared.finding.PairsFault.TheVariants as pairs_fault
 use Rattle.job_base.specs.declared.finding.Refusal.{Refusal}
 use Rattle.job_base.specs.declared.finding.Refusal.TheVariants as refusal
 use Rattle.job_base.specs.declared.finding.Finding.{Finding}
@@ -142,6 +146,19 @@ shape_text (shape.Outputs n) = codes "refused C Outputs " ++ decimal n ++ 10 ∷
 shape_text (shape.Input name) = codes "refused C Input " ++ name ++ 10 ∷ []
 shape_text shape.TooLarge = codes "refused C TooLarge" ++ 10 ∷ []
 
+-- what is wrong with a line of a text of pairs of latches
+abbrev pub pair_kind_text : PairKind → List ℕ
+pair_kind_text pair_kind.BadPair = codes "BadPair"
+pair_kind_text (pair_kind.Unknown A) = codes "Unknown A"
+pair_kind_text (pair_kind.Unknown B) = codes "Unknown B"
+pair_kind_text pair_kind.Twice = codes "Twice"
+pair_kind_text pair_kind.Taken = codes "Taken"
+
+-- why a text of pairs of latches isn't taken
+abbrev pub pairs_fault_text : PairsFault → List ℕ
+pairs_fault_text pairs_fault.TooLong = codes "refused P TooLong" ++ 10 ∷ []
+pairs_fault_text (pairs_fault.Line line k) = codes "refused P line " ++ decimal line ++ 32 ∷ [] ++ pair_kind_text k ++ 10 ∷ []
+
 abbrev pub refusal_text : Refusal → List ℕ
 refusal_text (refusal.TooLong f) = codes "refused " ++ file_word f ++ codes " TooLong" ++ 10 ∷ []
 refusal_text (refusal.Text f line fault) = codes "refused " ++ file_word f ++ codes " line " ++ decimal line ++ 32 ∷ [] ++ line_fault_text fault ++ 10 ∷ []
@@ -154,6 +171,7 @@ refusal_text (refusal.Assume fault) = shape_text fault
 refusal_text refusal.Vacuous = codes "refused C Vacuous" ++ 10 ∷ []
 refusal_text (refusal.Misfit m) = misfit_text m
 refusal_text (refusal.Pair name) = codes "refused Pair " ++ name ++ 10 ∷ []
+refusal_text (refusal.Pairs fault) = pairs_fault_text fault
 
 -- the words are no job
 abbrev pub words_text : List ℕ

@@ -37,6 +37,28 @@ pub enum LineFault {
     Clauses(TextKind),
 }
 
+/// What is wrong with a line of a text of pairs of latches.
+#[derive(Clone, Copy)]
+pub enum PairKind {
+    /// It has not two words.
+    BadPair,
+    /// This circuit has no latch of the line's name for it.
+    Unknown(Side),
+    /// An earlier line has one of the names for the same circuit.
+    Twice,
+    /// B has an input of the first name, or another latch that has it once all have their new names.
+    Taken,
+}
+
+/// Why a text of pairs of latches isn't taken.
+#[derive(Clone, Copy)]
+pub enum PairsFault {
+    /// It has more than 16,777,216 bytes.
+    TooLong,
+    /// The number of a faulty line, from 1, and what is wrong with it.
+    Line(u32, PairKind),
+}
+
 /// Why a job ends without an answer.
 pub enum Refusal {
     /// The file has more than 16,777,216 bytes.
@@ -62,6 +84,8 @@ pub enum Refusal {
     Misfit(Misfit),
     /// No output has this name.
     Pair(Word),
+    /// What is wrong with the text of pairs of latches.
+    Pairs(PairsFault),
 }
 
 /// It is let go by one call: an owner isn't taken apart variant by variant at each way out.
@@ -79,6 +103,7 @@ impl Drop for Refusal {
             Refusal::Vacuous => {}
             Refusal::Misfit(_) => {}
             Refusal::Pair(_) => {}
+            Refusal::Pairs(_) => {}
         }
     }
 }

@@ -9,5 +9,7 @@ mod status;
 mod text;
 
 pub use end::{finish, proofs_of};
-pub use finding::{File, Finding, Judgement, LineFault, Refusal, Stop, Unrefuted};
+pub use finding::{
+    File, Finding, Judgement, LineFault, PairKind, PairsFault, Refusal, Stop, Unrefuted,
+};
 pub use status::{Proofs, Status, StatusName};

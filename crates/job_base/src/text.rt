@@ -3,9 +3,9 @@
 ghost use Rattle.std.specs.Prelude.{◌≡◌, [], ◌∷◌, ◌++◌, Some, None, MatchOption, codes, OnOk, IfOk};
 ghost use Rattle.std.specs.Fmt.{decimal};
 ghost use Rattle.sec_base.specs.Texts.{names_text};
-ghost use Rattle.job_base.specs.Lines.{side_word, file_word, kind_text, text_kind_word, line_fault_text, named_of, design_fault_text, record_fault_text, misfit_text, shape_text, refusal_text, words_text, cycle_text, undecided_text, unpaired_text, satisfiable_text, unsettled_text};
+ghost use Rattle.job_base.specs.Lines.{side_word, file_word, kind_text, text_kind_word, line_fault_text, named_of, design_fault_text, record_fault_text, misfit_text, pair_kind_text, pairs_fault_text, shape_text, refusal_text, words_text, cycle_text, undecided_text, unpaired_text, satisfiable_text, unsettled_text};
 
-use crate::finding::{File, LineFault, Refusal};
+use crate::finding::{File, LineFault, PairKind, PairsFault, Refusal};
 use aiger_read::aiger_records::AigerKind;
 use assume_laws::assume_shape::ShapeFault;
 use blif_read::ReadKind;
@@ -263,6 +263,40 @@ fn put_too_large(text: &mut Vec<u8>, side: Side) -> Result<(), NoMemory>
     put(text, b" TooLarge\n")
 }
 
+fn pair_kind_text(kind: PairKind) -> &'static str
+    ensures { result.now ≡ pair_kind_text kind }
+{
+    match kind {
+        PairKind::BadPair => "BadPair",
+        PairKind::Unknown(Side::A) => "Unknown A",
+        PairKind::Unknown(Side::B) => "Unknown B",
+        PairKind::Twice => "Twice",
+        PairKind::Taken => "Taken",
+    }
+}
+
+fn put_pairs_line(
+    alloc: Global,
+    text: &mut Vec<u8>,
+    line: u32,
+    kind: PairKind,
+) -> Result<(), NoMemory>
+    ensures { OnOk result (text.new.items ≡ text.old.items ++ (codes "refused P line " ++ decimal line ++ 32 ∷ [] ++ pair_kind_text kind ++ 10 ∷ [])) }
+{
+    put(text, b"refused P line ")?;
+    put_number(alloc, text, u64::from(line))?;
+    put_line(text, b" ", pair_kind_text(kind).as_bytes())
+}
+
+fn put_pairs_fault(alloc: Global, text: &mut Vec<u8>, fault: PairsFault) -> Result<(), NoMemory>
+    ensures { OnOk result (text.new.items ≡ text.old.items ++ pairs_fault_text fault) }
+{
+    match fault {
+        PairsFault::TooLong => put(text, b"refused P TooLong\n"),
+        PairsFault::Line(line, kind) => put_pairs_line(alloc, text, line, kind),
+    }
+}
+
 fn put_refusal(alloc: Global, text: &mut Vec<u8>, refusal: &Refusal) -> Result<(), NoMemory>
     ensures { OnOk result (text.new.items ≡ text.old.items ++ refusal_text refusal.now) }
 {
@@ -278,6 +312,7 @@ fn put_refusal(alloc: Global, text: &mut Vec<u8>, refusal: &Refusal) -> Result<(
         Refusal::Vacuous => put(text, b"refused C Vacuous\n"),
         Refusal::Misfit(misfit) => put_misfit(text, misfit),
         Refusal::Pair(name) => put_line(text, b"refused Pair ", name.as_slice()),
+        Refusal::Pairs(fault) => put_pairs_fault(alloc, text, *fault),
     }
 }
 

@@ -58,6 +58,7 @@ module _ (request : Request) (left right : Option (List ℕ)) (x y : List ℕ) (
   stands (refusal.Pair name) h =
       let output = can.named h.a h.b (of_left (λ t. Loads t h.a) h.left_loads) (of_right (λ t. Loads t h.b) h.right_loads) in
       h.said.2 output.0 output.1
+  stands (refusal.Pairs fault) h = h
 
   answered : (f : Finding) → IsCertFound request left right f → IsCertAnswer request.refuted (status_of f)
   answered finding.Words h = absurd h

@@ -56,6 +56,7 @@ module _ (circuit : Option (List ℕ)) (x : List ℕ) (is : circuit ≡ Some x) 
   circuit_stands (refusal.Assume fault) h = h
   circuit_stands refusal.Vacuous h = h
   circuit_stands (refusal.Pair name) h = h
+  circuit_stands (refusal.Pairs fault) h = h
 
 -- in the plain mode no query of a latch has met the limit
 limit_reported : (mode : Mode) (n : NetView) (name : List ℕ) (proof : Proof) → IsUnknown mode n (kinds_error.Limit name proof) → IsReported mode status.Limit
@@ -79,6 +80,7 @@ module _ (mode : Mode) (circuit : Option (List ℕ)) (x : List ℕ) (is : circui
   graph_stands (refusal.Assume fault) h = h
   graph_stands refusal.Vacuous h = h
   graph_stands (refusal.Pair name) h = h
+  graph_stands (refusal.Pairs fault) h = h
 
   graph_reported : (f : Finding) → IsGraphFound mode circuit f → IsReported mode (status_of f)
   graph_reported finding.Words h = absurd h
@@ -110,6 +112,7 @@ module _ (mode : Mode) (circuit stimulus power : Option (List ℕ)) (reset : Boo
   run_stands (refusal.Assume fault) h = h
   run_stands refusal.Vacuous h = h
   run_stands (refusal.Pair name) h = h
+  run_stands (refusal.Pairs fault) h = h
   run_stands (refusal.TooLong file.A) h = circuit_stands circuit x is can.circuit (refusal.TooLong file.A) h
   run_stands (refusal.TooLong file.B) h = circuit_stands circuit x is can.circuit (refusal.TooLong file.B) h
   run_stands (refusal.Text file.A line fault) h = circuit_stands circuit x is can.circuit (refusal.Text file.A line fault) h

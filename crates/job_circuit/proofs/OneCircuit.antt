@@ -75,6 +75,7 @@ graph_circuit mode circuit refusal.TooManyEvents h = h
 graph_circuit mode circuit (refusal.Assume fault) h = h
 graph_circuit mode circuit refusal.Vacuous h = h
 graph_circuit mode circuit (refusal.Pair name) h = h
+graph_circuit mode circuit (refusal.Pairs fault) h = h
 
 -- and one of the simulation
 pub sim_circuit : (mode : Mode) (circuit stimulus power : Option (List ℕ)) (r : Refusal) → IsCircuitRefusal circuit r → IsSimRefusal mode circuit stimulus power r
@@ -96,6 +97,7 @@ sim_circuit mode circuit stimulus power refusal.TooManyEvents h = h
 sim_circuit mode circuit stimulus power (refusal.Assume fault) h = h
 sim_circuit mode circuit stimulus power refusal.Vacuous h = h
 sim_circuit mode circuit stimulus power (refusal.Pair name) h = h
+sim_circuit mode circuit stimulus power (refusal.Pairs fault) h = h
 
 -- the circuit is loaded, and its latch graph told
 pub graph_ends : (mode : Mode) (circuit : Option (List ℕ)) (failed : Type 0) (net : NetView) (r : Result (List ℕ) KindsError) → IfSome circuit (λ x. Loads x net) → Tells mode net r →

@@ -23,7 +23,7 @@ use Rattle.job_check.specs.check_meaning.check_found.Check.{Check}
 use Rattle.job_pair.specs.Found.{check_of, IsAnsweredBy, IsPairFound, IsPairRefusal, LackPair}
 use Rattle.job_pair.specs.Answer.{ArePairComparable, IsPairComplete}
 
-is_answer : (v : Verdict) → IsAnswer (verdict_status v)
+pub is_answer : (v : Verdict) → IsAnswer (verdict_status v)
 is_answer verdict.Equal = tt
 is_answer (verdict.Different w) = tt
 is_answer (verdict.DifferentFrom w) = tt
@@ -69,6 +69,7 @@ module _ (held : Held) (pair : List ℕ) (settings : Settings) (left right : Lis
   no_refusal refusal.TooManyEvents h = never compare_error.TooManyEvents (λ e. cc) h
   no_refusal (refusal.Assume fault) h = h
   no_refusal refusal.Vacuous h = h
+  no_refusal (refusal.Pairs fault) h = h
   no_refusal (refusal.Pair name) h =
       let n = h.1 in
       not_lacking n.a n.b (if_told (held left) (λ t. Loads t n.a) x x_is n.left_loads) (if_told (held right) (λ t. Loads t n.b) y y_is n.right_loads) n.said

@@ -67,7 +67,7 @@ module _ (s : Small) (y : List ℕ) (one : s.outputs ≡ y ∷ []) (net : NetVie
 
 -- nets of such designs without cycles are refused for want of memory alone
 module _ (s t : Small) (a b : NetView) (left : IsSmall s a) (right : IsSmall t b) (same : PortsMatch s t) (none_left : s.removed ≡ []) (none_right : t.removed ≡ []) (few_left : s.weight ≤ 2000000) (few_right : t.weight ≤ 2000000) (expose : Bool) where
-  unrefused : (e : CompareError) → Compared a b (plainly expose) (Err e) → e ≡ compare_error.NoMemory
+  pub unrefused : (e : CompareError) → Compared a b (plainly expose) (Err e) → e ≡ compare_error.NoMemory
   unrefused (compare_error.Interface name) k = absurd (none-some name (sym (match s t a b left right same) ∙ k))
   unrefused (compare_error.Cyclic A names) k = absurd (is_not_free a [] names k.2 (broken s t a b left right none_left none_right false).0)
   unrefused (compare_error.Cyclic B names) k = absurd (is_not_free b [] names k.3 (broken s t a b left right none_left none_right false).1)

@@ -31,11 +31,11 @@ use Rattle.job_pair.specs.Found.{check_of, IsAnsweredAlone, IsPairFound, LackPai
 use Rattle.job_pair.specs.Ends.{EndsBeside, IsMissing, PairEnds, PairFound}
 
 -- nothing is refused for an assumption where there is none
-no_assumption : (mode : Mode) (a b : NetView) (settings : Settings) (fault : ShapeFault) → ComparedIn mode a b settings (Err (compare_error.Assume fault)) → ⊥
+pub no_assumption : (mode : Mode) (a b : NetView) (settings : Settings) (fault : ShapeFault) → ComparedIn mode a b settings (Err (compare_error.Assume fault)) → ⊥
 no_assumption Plain a b settings fault h = h
 no_assumption Event a b settings fault h = h
 
-not_vacuous : (mode : Mode) (a b : NetView) (settings : Settings) (by : SameBy) → ComparedIn mode a b settings (Err (compare_error.Vacuous by)) → ⊥
+pub not_vacuous : (mode : Mode) (a b : NetView) (settings : Settings) (by : SameBy) → ComparedIn mode a b settings (Err (compare_error.Vacuous by)) → ⊥
 not_vacuous Plain a b settings by h = h
 not_vacuous Event a b settings by h = h
 

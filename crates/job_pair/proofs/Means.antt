@@ -62,7 +62,7 @@ module _ (a b : NetView) (settings : Settings) (o : Outcome) where
   says_in Plain f g h is = by_reset settings.reset f g is
   says_in Event f g h is = h is
 
-  nets_says : ComparedIn settings.mode a b settings (Ok o) → SaysOf settings o (circuit_of a) (circuit_of b)
+  pub nets_says : ComparedIn settings.mode a b settings (Ok o) → SaysOf settings o (circuit_of a) (circuit_of b)
   nets_says is = says_in settings.mode plainly from_reset in_events is
 
 -- what is said in each form
@@ -92,7 +92,7 @@ module _ {P Q : Type 0} {a : Circuit P} {b : Circuit Q} {na nb : Circuit ℕ} {c
     not_shown = λ w e. cuts_differ_up f g o.exposed w (s.not_shown w e);
   }
 
-  says_up : (settings : Settings) → SaysOf settings o na nb → SaysOf settings o a b
+  pub says_up : (settings : Settings) → SaysOf settings o na nb → SaysOf settings o a b
   says_up settings s = form_map settings.mode settings.reset plainly_up from_reset_up in_events_up s
 
 -- an answer that is written
@@ -122,12 +122,12 @@ answers before now pair settings o proofs name x y a b left right h w =
       nets_say = nets;
     }
 
-if_some : {X : Type 0} {F G : X → Type 0} (o : Option X) → ((x : X) → F x → G x) → IfSome o F → IfSome o G
+pub if_some : {X : Type 0} {F G : X → Type 0} (o : Option X) → ((x : X) → F x → G x) → IfSome o F → IfSome o G
 if_some None f h = tt
 if_some (Some x) f h = f x h
 
 -- a verdict is no report
-no_done : (v : Verdict) → verdict_status v ≡ status.Done → ⊥
+pub no_done : (v : Verdict) → verdict_status v ≡ status.Done → ⊥
 no_done verdict.Equal e = cc
 no_done (verdict.Different w) e = cc
 no_done (verdict.DifferentFrom w) e = cc

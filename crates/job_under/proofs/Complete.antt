@@ -62,6 +62,7 @@ module _ (Refuses : NetView → NetView → NetView → UnderError → Type 0) (
   stands (refusal.Misfit m) h = h
   stands refusal.TooManyEvents h = h
   stands (refusal.Pair name) h = h
+  stands (refusal.Pairs fault) h = h
 
   judged : (j : Judgement) → IsUnderAnswer (judgement_status j)
   judged judgement.Equal = tt

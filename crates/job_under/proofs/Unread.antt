@@ -36,6 +36,7 @@ module _ (Refuses : NetView → NetView → NetView → UnderError → Type 0) (
   refused_so (refusal.Assume fault) h = absurd h
   refused_so refusal.Vacuous h = absurd h
   refused_so (refusal.Pair name) h = h
+  refused_so (refusal.Pairs fault) h = h
 
   found_so : (f : Finding) → IsUnread left right assumed f → IsFoundBy Refuses Judges left right assumed f
   found_so finding.Words h = absurd h

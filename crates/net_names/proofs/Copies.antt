@@ -5,6 +5,8 @@ use Rattle.std.proofs.lemmas.Option.{none-some, same_Some, slice_get_read, slice
 use Rattle.base_tables.proofs.TableLemmas.{not_before, take-push}
 use Rattle.base_tables.specs.Table.{is_among}
 use Rattle.circuit_theory.specs.Cover.{Cover}
+use Rattle.circuit_theory.proofs.Lists.{map_at}
+use Rattle.circuit_theory.proofs.Numbers.{slice_get-map}
 use Rattle.flat_net.specs.declared.parts.Port.{Port}
 use Rattle.flat_net.specs.declared.parts.Gate.{Gate}
 use Rattle.flat_net.specs.declared.parts.LatchAt.{LatchAt}
@@ -13,11 +15,32 @@ use Rattle.flat_net.specs.declared.parts.Driver.TheVariants as driver
 use Rattle.flat_net.specs.Makes.{next_set, with_cover, with_gate, with_input, with_latch}
 use Rattle.flat_net.specs.Sound.{IsSound}
 use Rattle.flat_net.specs.View.{NetView, cover_of}
-use Rattle.net_names.specs.Fronts.{begun, front, numbered}
+use Rattle.net_names.specs.Fronts.{begun, front, numbered, unnamed}
 
 -- what a loop goes over at a place
 pub item_at : {X : Type 0} (xs ys : List X) (i : ℕ) (x : X) → ys ≡ xs → i < length ys → x ≡ get_or ys i x → slice_get xs i ≡ Some x
 item_at xs ys i x same low is = subst (λ (zs : List _). slice_get zs i ≡ Some x) same (slice_get_read ys (length ys) i x refl low is)
+
+-- the latch under the name that it has in the net that is seen: what else it has is the same
+pub record LatchSeen (latches : List LatchAt) (j : ℕ) (l : LatchAt) : Type 0 where
+  pub latch : LatchAt
+  pub at : slice_get latches j ≡ Some latch
+  pub out : latch.out ≡ l.out
+  pub next : latch.next ≡ l.next
+  pub init : l.init ≡ latch.init
+
+pub latch_seen : (seen items : List LatchAt) (j : ℕ) (l : LatchAt) → map unnamed items ≡ map unnamed seen → j < length items → l ≡ get_or items j l → LatchSeen seen j l
+latch_seen seen items j l same low is =
+    let at = slice_get_read items (length items) j l refl low is in
+    let there : slice_get (map unnamed seen) j ≡ Some (unnamed l) = ap (λ (xs : List LatchAt). slice_get xs j) (sym same) ∙ slice_get-map unnamed items j l at in
+    let found = map_at unnamed seen j (unnamed l) there in
+    record {
+      latch = found.0;
+      at = found.1;
+      out = ap (λ (x : LatchAt). x.out) found.2;
+      next = ap (λ (x : LatchAt). x.next) found.2;
+      init = sym (ap (λ (x : LatchAt). x.init) found.2);
+    }
 
 -- so many are taken
 pub taken : {X : Type 0} (xs : List X) (i : ℕ) (x : X) → slice_get xs i ≡ Some x → length (take i xs) ≡ i

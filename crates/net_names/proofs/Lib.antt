@@ -1,2 +1,4 @@
 pub mod Copies
 pub mod Circuits
+pub mod Renamings
+pub mod Named

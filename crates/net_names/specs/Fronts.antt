@@ -1,5 +1,6 @@
--- A net while it is copied: the first ones of its inputs, latches and gates.
-use Rattle.std.specs.Prelude.{ℕ, ◌+◌, List, [], ◌∷◌, map, take, length, None}
+-- A net while it is copied: the first ones of its inputs, latches and gates; and a net whose signals have other names.
+use Rattle.std.specs.Prelude.{ℕ, ◌+◌, List, [], ◌∷◌, map, take, length, slice_get, unwrap_or, Option, Some, None}
+use Rattle.flat_net.specs.declared.signals.Signal.{Signal}
 use Rattle.flat_net.specs.declared.parts.Gate.{Gate}
 use Rattle.flat_net.specs.declared.parts.LatchAt.{LatchAt}
 use Rattle.flat_net.specs.View.{NetView, cover_of}
@@ -29,3 +30,23 @@ front n inputs latches gates signals = record {
 -- all inputs and latches, and the first gates
 abbrev pub with_gates : NetView → ℕ → NetView
 with_gates n k = front n (length n.inputs) (length n.latches) k (length n.inputs + length n.latches + k)
+
+-- a latch without a name
+abbrev pub unnamed : LatchAt → LatchAt
+unnamed l = record l { name = [] }
+
+-- the latch with the name that its signal has among these
+abbrev pub latch_by : List (List ℕ) → LatchAt → LatchAt
+latch_by names l = record l { name = unwrap_or (slice_get names l.out.0) [] }
+
+abbrev pub latches_by : Option (List (List ℕ)) → List LatchAt → List LatchAt
+latches_by None latches = latches
+latches_by (Some names) latches = map (latch_by names) latches
+
+abbrev pub names_by : Option (List (List ℕ)) → List (List ℕ) → List (List ℕ)
+names_by None own = own
+names_by (Some names) own = names
+
+-- the net whose signals have these names, or its own where there are none
+abbrev pub named_by : Option (List (List ℕ)) → NetView → NetView
+named_by names n = record n { latches = latches_by names n.latches; names = names_by names n.names }

@@ -20,6 +20,8 @@ use Rattle.job_check.proofs.check_meaning.Complete.{check_complete}
 use Rattle.job_check.proofs.check_meaning.Means.{check_means}
 use Rattle.job_pair.proofs.Means.{pair_means}
 use Rattle.job_pair.proofs.Complete.{pair_complete}
+use Rattle.job_pair.proofs.job_renamed.Means.{renamed_means}
+use Rattle.job_pair.proofs.job_renamed.Complete.{renamed_complete}
 use Rattle.job_pair.specs.Found.{check_of}
 use Rattle.job_settles.proofs.Means.{settles_means, settles_complete}
 use Rattle.job_signals.proofs.Means.{signals_means}
@@ -50,6 +52,7 @@ means held None before now f proofs name found w = says_nothing before now f pro
 means held (Some (task.Check a b settings assumed)) before now f proofs name found w = check_means held (record { left = a; right = b; settings = settings; assumed = assumed }) before now f proofs name found w
 means held (Some (task.CheckSettles a b settings assumed)) before now f proofs name found w = settles_means held (record { left = a; right = b; settings = settings; assumed = assumed }) before now f proofs name found w
 means held (Some (task.CheckPair a b pair settings)) before now f proofs name found w = pair_means held pair (check_of settings a b) before now proofs f name found w
+means held (Some (task.CheckRenamed a b pairs settings)) before now f proofs name found w = renamed_means held (check_of settings a b) pairs before now proofs f name found w
 means held (Some (task.Graph a mode)) before now f proofs name found w = graph_means mode (held a) before now f proofs name found w
 means held (Some (task.Sim a s mode power reset)) before now f proofs name found w = sim_means mode (held a) (held s) power reset before now f proofs name found w
 means held (Some (task.Replay a b s mode settles)) before now f proofs name found w = replay_means (report_with settles) mode (held a) (held b) (held s) before now f proofs name found w
@@ -71,6 +74,7 @@ memory_means held None before now proofs = tt
 memory_means held (Some (task.Check a b settings assumed)) before now proofs = tt
 memory_means held (Some (task.CheckSettles a b settings assumed)) before now proofs = tt
 memory_means held (Some (task.CheckPair a b pair settings)) before now proofs = tt
+memory_means held (Some (task.CheckRenamed a b pairs settings)) before now proofs = tt
 memory_means held (Some (task.Graph a mode)) before now proofs = tt
 memory_means held (Some (task.Sim a s mode power reset)) before now proofs = tt
 memory_means held (Some (task.Replay a b s mode settles)) before now proofs = tt
@@ -91,6 +95,7 @@ fault_means held None before now proofs = tt
 fault_means held (Some (task.Check a b settings assumed)) before now proofs = tt
 fault_means held (Some (task.CheckSettles a b settings assumed)) before now proofs = tt
 fault_means held (Some (task.CheckPair a b pair settings)) before now proofs = tt
+fault_means held (Some (task.CheckRenamed a b pairs settings)) before now proofs = tt
 fault_means held (Some (task.Graph a mode)) before now proofs = tt
 fault_means held (Some (task.Sim a s mode power reset)) before now proofs = tt
 fault_means held (Some (task.Replay a b s mode settles)) before now proofs = tt
@@ -112,6 +117,7 @@ is_complete held None f found = inl (ap status_of found)
 is_complete held (Some (task.Check a b settings assumed)) f found = check_complete held (record { left = a; right = b; settings = settings; assumed = assumed }) f found
 is_complete held (Some (task.CheckSettles a b settings assumed)) f found = settles_complete held (record { left = a; right = b; settings = settings; assumed = assumed }) f found
 is_complete held (Some (task.CheckPair a b pair settings)) f found = pair_complete held pair settings a b f found
+is_complete held (Some (task.CheckRenamed a b pairs settings)) f found = renamed_complete held settings a b pairs f found
 is_complete held (Some (task.Graph a mode)) f found = graph_complete mode (held a) f found
 is_complete held (Some (task.Sim a s mode power reset)) f found = sim_complete mode (held a) (held s) power reset f found
 is_complete held (Some (task.Replay a b s mode settles)) f found = replay_complete (report_with settles) mode (held a) (held b) (held s) f found
@@ -133,6 +139,7 @@ memory_is_complete held None = inr refl
 memory_is_complete held (Some (task.Check a b settings assumed)) = λ can. tt
 memory_is_complete held (Some (task.CheckSettles a b settings assumed)) = λ can. tt
 memory_is_complete held (Some (task.CheckPair a b pair settings)) = λ can. tt
+memory_is_complete held (Some (task.CheckRenamed a b pairs settings)) = λ can. tt
 memory_is_complete held (Some (task.Graph a mode)) = λ can. tt
 memory_is_complete held (Some (task.Sim a s mode power reset)) = λ can. tt
 memory_is_complete held (Some (task.Replay a b s mode settles)) = λ can. tt

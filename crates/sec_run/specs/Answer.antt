@@ -18,6 +18,7 @@ use Rattle.job_circuit.specs.declared.job_replay.replays.ReplayReport.TheVariant
 use Rattle.job_circuit.specs.job_replay.Told.{report_with}
 use Rattle.job_check.specs.check_meaning.check_found.Found.{IsFoundOf}
 use Rattle.job_pair.specs.Found.{check_of, IsPairFound}
+use Rattle.job_pair.specs.job_renamed.Found.{IsRenamedFound}
 use Rattle.job_settles.specs.Found.{IsSettlesFound}
 use Rattle.job_signals.specs.Found.{IsSignalsFound}
 use Rattle.job_signals.specs.job_tied.Found.{IsTiedFound}
@@ -35,6 +36,7 @@ abbrev pub IsFoundOfJob : Held → Task → Finding → Type 0
 IsFoundOfJob held (task.Check a b settings assumed) f = IsFoundOf held (record { left = a; right = b; settings = settings; assumed = assumed }) f
 IsFoundOfJob held (task.CheckSettles a b settings assumed) f = IsSettlesFound held (record { left = a; right = b; settings = settings; assumed = assumed }) f
 IsFoundOfJob held (task.CheckPair a b pair settings) f = IsPairFound held pair (check_of settings a b) f
+IsFoundOfJob held (task.CheckRenamed a b pairs settings) f = IsRenamedFound held (check_of settings a b) pairs f
 IsFoundOfJob held (task.Graph a mode) f = IsGraphFound mode (held a) f
 IsFoundOfJob held (task.Sim a s mode power reset) f = IsSimFound mode (held a) (held s) power reset f
 IsFoundOfJob held (task.Replay a b s mode settles) f = IsReplayFound (report_with settles) mode (held a) (held b) (held s) f

@@ -7,6 +7,7 @@ use Rattle.job_circuit.specs.Reports.{graph_paths, sim_paths}
 use Rattle.job_circuit.specs.job_replay.Replays.{replay_paths}
 use Rattle.job_check.specs.check_meaning.check_found.Check.{check_paths}
 use Rattle.job_pair.specs.Found.{check_of}
+use Rattle.job_pair.specs.job_renamed.Found.{renamed_paths}
 use Rattle.job_cert.specs.job_lrat.Found.{lrat_paths, AreSpelled}
 use Rattle.job_cert.specs.Found.{cert_paths}
 use Rattle.sec_jobs.specs.job_induct.induct_meaning.Found.{induct_paths}
@@ -17,6 +18,7 @@ abbrev pub paths_of : Task → List (List ℕ)
 paths_of (task.Check a b settings assumed) = check_paths (record { left = a; right = b; settings = settings; assumed = assumed })
 paths_of (task.CheckSettles a b settings assumed) = check_paths (record { left = a; right = b; settings = settings; assumed = assumed })
 paths_of (task.CheckPair a b pair settings) = check_paths (check_of settings a b)
+paths_of (task.CheckRenamed a b pairs settings) = renamed_paths a b pairs
 paths_of (task.Graph a mode) = graph_paths a
 paths_of (task.Sim a s mode power reset) = sim_paths a s
 paths_of (task.Replay a b s mode settles) = replay_paths a b s
@@ -42,6 +44,7 @@ abbrev pub GoesOn : Task → Option (List ℕ) → Type 0
 GoesOn (task.Check a b settings assumed) = IsLoaded
 GoesOn (task.CheckSettles a b settings assumed) = IsLoaded
 GoesOn (task.CheckPair a b pair settings) = IsLoaded
+GoesOn (task.CheckRenamed a b pairs settings) = IsLoaded
 GoesOn (task.Graph a mode) = IsLoaded
 GoesOn (task.Sim a s mode power reset) = IsLoaded
 GoesOn (task.Replay a b s mode settles) = IsLoaded

@@ -14,6 +14,7 @@ use Rattle.job_circuit.specs.job_replay.Told.{report_with}
 use Rattle.job_check.specs.check_meaning.Answer.{CheckMeans, IsCheckComplete}
 use Rattle.job_pair.specs.Answer.{PairMeans, IsPairComplete}
 use Rattle.job_pair.specs.Found.{check_of}
+use Rattle.job_pair.specs.job_renamed.Answer.{RenamedMeans, IsRenamedComplete}
 use Rattle.job_settles.specs.Answer.{SettlesMeans}
 use Rattle.job_signals.specs.Answer.{SignalsMeans}
 use Rattle.job_signals.specs.job_tied.Answer.{TiedMeans, IsTiedComplete}
@@ -32,6 +33,7 @@ Means held None before now proofs name = SaysNothing name
 Means held (Some (task.Check a b settings assumed)) before now proofs name = CheckMeans held (record { left = a; right = b; settings = settings; assumed = assumed }) before now proofs name
 Means held (Some (task.CheckSettles a b settings assumed)) before now proofs name = SettlesMeans held (record { left = a; right = b; settings = settings; assumed = assumed }) before now proofs name
 Means held (Some (task.CheckPair a b pair settings)) before now proofs name = PairMeans held pair (check_of settings a b) before now proofs name
+Means held (Some (task.CheckRenamed a b pairs settings)) before now proofs name = RenamedMeans held (check_of settings a b) pairs before now proofs name
 Means held (Some (task.Graph a mode)) before now proofs name = GraphMeans mode (held a) before now proofs name
 Means held (Some (task.Sim a s mode power reset)) before now proofs name = SimMeans mode (held a) (held s) power reset before now proofs name
 Means held (Some (task.Replay a b s mode settles)) before now proofs name = ReplayMeans (report_with settles) mode (held a) (held b) (held s) before now proofs name
@@ -53,6 +55,7 @@ IsComplete held None name = EndsWith status.Words name
 IsComplete held (Some (task.Check a b settings assumed)) name = IsCheckComplete held (record { left = a; right = b; settings = settings; assumed = assumed }) name
 IsComplete held (Some (task.CheckSettles a b settings assumed)) name = IsCheckComplete held (record { left = a; right = b; settings = settings; assumed = assumed }) name
 IsComplete held (Some (task.CheckPair a b pair settings)) name = IsPairComplete held pair (check_of settings a b) name
+IsComplete held (Some (task.CheckRenamed a b pairs settings)) name = IsRenamedComplete held (check_of settings a b) pairs name
 IsComplete held (Some (task.Graph a mode)) name = IsGraphComplete mode (held a) name
 IsComplete held (Some (task.Sim a s mode power reset)) name = IsSimComplete mode (held a) (held s) power name
 IsComplete held (Some (task.Replay a b s mode settles)) name = IsReplayComplete (report_with settles) mode (held a) (held b) (held s) name

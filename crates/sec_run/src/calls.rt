@@ -22,6 +22,7 @@ use job_check::{Comparison, check};
 use job_circuit::job_replay::{Replay, ReplayReport, replay_files};
 use job_circuit::{Simulation, simulate, tell_graph};
 use job_gen::{Generation, compare_generated};
+use job_pair::job_renamed::{RenamedComparison, compare_renamed};
 use job_pair::{PairComparison, compare_pair};
 use job_settles::check_settles;
 use job_signals::job_tied::{TiedComparison, compare_tied};
@@ -85,6 +86,20 @@ fn find<S: Shelf>(alloc: Global, task: &Task, shelf: &mut S) -> Result<Finding, 
                 settings: *settings,
             };
             compare_pair(alloc, &comparison, shelf)
+        }
+        Task::CheckRenamed {
+            a,
+            b,
+            pairs,
+            settings,
+        } => {
+            let comparison = RenamedComparison {
+                left: a.as_str(),
+                right: b.as_str(),
+                pairs: pairs.as_str(),
+                settings: *settings,
+            };
+            compare_renamed(alloc, &comparison, shelf)
         }
         Task::Graph { a, mode } => tell_graph(alloc, a.as_str(), *mode, shelf),
         Task::Sim {

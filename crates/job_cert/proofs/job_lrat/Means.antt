@@ -128,6 +128,7 @@ module _ (clauses proof : Option (List ℕ)) (x y : List ℕ) (is : clauses ≡ 
   stands (refusal.Assume fault) h = h
   stands refusal.Vacuous h = h
   stands (refusal.Pair name) h = h
+  stands (refusal.Pairs fault) h = h
 
   done : (f : Finding) → IsLratFound clauses proof f → EndsWith status.Done (status_of f)
   done finding.Words h = absurd h

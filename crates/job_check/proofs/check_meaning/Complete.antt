@@ -101,6 +101,7 @@ module _ (held : Held) (check : Check) (told : AreTold held check check.assumed)
     no_refusal (refusal.Assume fault) h = answered.never_under (compare_error.Assume fault) (λ e. cc) h
     no_refusal refusal.Vacuous h = answered.never_under (compare_error.Vacuous h.0) (λ e. cc) h.1
     no_refusal (refusal.Pair name) h = h
+    no_refusal (refusal.Pairs fault) h = h
 
     -- a finding of them has the status of a verdict
     has_verdict : (f : Finding) → IsFoundOf held check f → IsAnswer (status_of f)

@@ -115,6 +115,7 @@ module _ (report : ReplayReport) (mode : Mode) (left right stimulus : Option (Li
   replay_stands (refusal.Assume fault) h = h
   replay_stands refusal.Vacuous h = h
   replay_stands (refusal.Pair name) h = h
+  replay_stands (refusal.Pairs fault) h = h
 
   -- what is told of what both circuits show
   told_so : (f : Finding) → OfReplay left right stimulus (λ a b names rows. FindsIn report mode a b names rows (Ok f)) → IsReplayed report mode (status_of f)

@@ -78,6 +78,7 @@ IsReplayRefusal mode left right stimulus refusal.TooManyEvents = ⊥
 IsReplayRefusal mode left right stimulus (refusal.Assume fault) = ⊥
 IsReplayRefusal mode left right stimulus refusal.Vacuous = ⊥
 IsReplayRefusal mode left right stimulus (refusal.Pair name) = ⊥
+IsReplayRefusal mode left right stimulus (refusal.Pairs fault) = ⊥
 
 -- what is found where a replay is asked for
 abbrev pub IsReplayFound : ReplayReport → Mode → Option (List ℕ) → Option (List ℕ) → Option (List ℕ) → Finding → Type 0

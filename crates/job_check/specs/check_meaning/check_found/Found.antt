@@ -109,6 +109,7 @@ IsRefusal held check (refusal.Assume fault) = IsAnsweredUnder held check (Err (c
 IsRefusal held check refusal.Vacuous = (by : SameBy) × IsAnsweredUnder held check (Err (compare_error.Vacuous by))
 IsRefusal held check (refusal.Misfit m) = ⊥
 IsRefusal held check (refusal.Pair name) = ⊥
+IsRefusal held check (refusal.Pairs fault) = ⊥
 
 -- what is true of the files where this is found of them
 abbrev pub IsFoundOf : Held → Check → Finding → Type 0

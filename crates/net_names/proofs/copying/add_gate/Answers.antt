@@ -20,19 +20,19 @@ there gates items k g same low is = item_at gates items k g same (let e = ap len
 
 pub name-name-requires : goal.name-name-requires
 name-name-requires c =
-    let n = c.args.net.now in
+    let n = c.args.original.now in
     let at = there n.gates c.gates.result.now c.args.k c.index-gates-k.result c.gates.ensures c.requires.gate c.index-gates-k.is in
     out_within n c.keeps.ensures.sound c.args.k c.index-gates-k.result at
 
 pub cover-requires : goal.cover-requires
 cover-requires c =
-    let n = c.args.net.now in
+    let n = c.args.original.now in
     let at = there n.gates c.gates.result.now c.args.k c.index-gates-k.result c.gates.ensures c.requires.gate c.index-gates-k.is in
     cover_within n c.keeps.ensures.sound c.args.k c.index-gates-k.result at
 
 -- so many signals stand so far
-size : (n : NetView) (made first : MakerView) (cover : Cover) (k s : ℕ) → made ≡ record first { net = with_cover first.net cover } → first.net ≡ with_gates n k → length n.inputs + length n.latches + k < length n.drivers → length made.net.drivers ≡ length n.inputs + length n.latches + k
-size n made first cover k s is begun low =
+size : (n : NetView) (made first : MakerView) (cover : Cover) (k : ℕ) → made ≡ record first { net = with_cover first.net cover } → first.net ≡ with_gates n k → length n.inputs + length n.latches + k < length n.drivers → length made.net.drivers ≡ length n.inputs + length n.latches + k
+size n made first cover k is begun low =
     ap (λ (m : MakerView). length m.net.drivers) is ∙ ap (λ (m : NetView). length m.drivers) begun ∙ taken_all
   where
     taken_all : length (take (length n.inputs + length n.latches + k) n.drivers) ≡ length n.inputs + length n.latches + k
@@ -40,37 +40,38 @@ size n made first cover k s is begun low =
 
 pub gate-requires-clause-room : goal.gate-requires-clause-room
 gate-requires-clause-room c =
-    let n = c.args.net.now in
+    let n = c.args.original.now in
     let at = there n.gates c.gates.result.now c.args.k c.index-gates-k.result c.gates.ensures c.requires.gate c.index-gates-k.is in
     let out = out_within n c.keeps.ensures.sound c.args.k c.index-gates-k.result at in
-    let low : length n.inputs + length n.latches + c.args.k < length n.drivers = omega (arith, out, c.if-gate-number.false, c.requires.number) in
-    let long = size n c.cover-2.new.self c.args.maker.now c.in_ok-copy.field-0 c.args.k c.args.number c.in_ok-cover.ensures.ok c.requires.made low in
+    let place = c.keeps.ensures.laid.gates c.args.k c.index-gates-k.result at in
+    let low : length n.inputs + length n.latches + c.args.k < length n.drivers = omega (arith, out, place) in
+    let long = size n c.cover-2.new.self c.args.maker.now c.in_ok-copy.field-0 c.args.k c.in_ok-cover.ensures.ok c.requires.made low in
     omega (arith, long, low, c.keeps.ensures.sound.few)
 
 pub gate-requires-clause-new : goal.gate-requires-clause-new
 gate-requires-clause-new c =
-    let n = c.args.net.now in
+    let n = c.args.original.now in
     let s = length n.inputs + length n.latches + c.args.k in
-    let place : c.index-gates-k.result.out.0 ≡ s = c.if-gate-number.false ∙ c.requires.number in
+    let place : c.index-gates-k.result.out.0 ≡ s = c.keeps.ensures.laid.gates c.args.k c.index-gates-k.result (there n.gates c.gates.result.now c.args.k c.index-gates-k.result c.gates.ensures c.requires.gate c.index-gates-k.is) in
     let named = subst (λ (x : ℕ). slice_get n.names x ≡ Some c.name-name.result.now) place c.name-name.ensures in
     ap (λ (m : MakerView). is_among m.net.names c.name-name.result.now) c.in_ok-cover.ensures.ok ∙ ap (λ (m : NetView). is_among m.names c.name-name.result.now) c.requires.made
     ∙ fresh n c.keeps.ensures.sound s c.name-name.result.now named
 
 pub gate-requires-clause-within : goal.gate-requires-clause-within
 gate-requires-clause-within c =
-    let n = c.args.net.now in
+    let n = c.args.original.now in
     let g = c.index-gates-k.result in
     let at = there n.gates c.gates.result.now c.args.k g c.gates.ensures c.requires.gate c.index-gates-k.is in
     let out = out_within n c.keeps.ensures.sound c.args.k g at in
-    let place : g.out.0 ≡ length n.inputs + length n.latches + c.args.k = c.if-gate-number.false ∙ c.requires.number in
+    let place : g.out.0 ≡ length n.inputs + length n.latches + c.args.k = c.keeps.ensures.laid.gates c.args.k g at in
     let low : length n.inputs + length n.latches + c.args.k < length n.drivers = omega (arith, out, place) in
-    let long = size n c.cover-2.new.self c.args.maker.now c.in_ok-copy.field-0 c.args.k c.args.number c.in_ok-cover.ensures.ok c.requires.made low in
+    let long = size n c.cover-2.new.self c.args.maker.now c.in_ok-copy.field-0 c.args.k c.in_ok-cover.ensures.ok c.requires.made low in
     let above : All (λ (f : Signal). f.0 < g.out.0) g.fanins = (gate_of n c.keeps.ensures.sound c.args.k g at).above in
     subst (λ (fs : List Signal). All (λ (f : Signal). f.0 < length c.cover-2.new.self.net.drivers) fs) (sym c.in_ok-copy-2.ensures) (subst (λ (x : ℕ). All (λ (f : Signal). f.0 < x) g.fanins) (place ∙ sym long) above)
 
 pub gate-requires-clause-fits : goal.gate-requires-clause-fits
 gate-requires-clause-fits c =
-    let n = c.args.net.now in
+    let n = c.args.original.now in
     let g = c.index-gates-k.result in
     let at = there n.gates c.gates.result.now c.args.k g c.gates.ensures c.requires.gate c.index-gates-k.is in
     let cover = c.in_ok-copy.field-0 in
@@ -81,13 +82,13 @@ gate-requires-clause-fits c =
 
 pub returns : goal.returns
 returns c =
-    let n = c.args.net.now in
+    let n = c.args.original.now in
     let g = c.index-gates-k.result in
     let k = c.args.k in
     let s = length n.inputs + length n.latches + k in
     let name = c.name-name.result.now in
     let at = there n.gates c.gates.result.now k g c.gates.ensures c.requires.gate c.index-gates-k.is in
-    let place : g.out.0 ≡ s = c.if-gate-number.false ∙ c.requires.number in
+    let place : g.out.0 ≡ s = c.keeps.ensures.laid.gates k g at in
     let named = subst (λ (x : ℕ). slice_get n.names x ≡ Some name) place c.name-name.ensures in
     let cover_is : c.in_ok-copy.field-0 ≡ cover_of n.covers g = c.in_ok-copy.ensures ∙ sym (cover_of-is n.covers g c.cover.result.now c.cover.ensures) in
     let number_is : c.in_ok-cover.cover ≡ k = c.in_ok-cover.ensures.number ∙ ap (λ (m : NetView). length m.covers) c.requires.made ∙ length-map (take k n.gates) (cover_of n.covers) ∙ taken n.gates k g at in

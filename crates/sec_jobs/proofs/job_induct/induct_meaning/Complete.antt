@@ -60,6 +60,7 @@ module _ (left right : Option (List ℕ)) (x y : List ℕ) (is : left ≡ Some x
   stands (refusal.Assume fault) h = h
   stands refusal.Vacuous h = h
   stands (refusal.Pair name) h = h
+  stands (refusal.Pairs fault) h = h
 
   judged : (v : InductVerdict) → IsInductAnswer (judgement_status (judgement_of v))
   judged verdict.Equal = tt

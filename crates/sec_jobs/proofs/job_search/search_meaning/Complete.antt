@@ -52,6 +52,7 @@ module _ (left right : Option (List ℕ)) (x y : List ℕ) (is : left ≡ Some x
   stands (refusal.Assume fault) h = h
   stands refusal.Vacuous h = h
   stands (refusal.Pair name) h = h
+  stands (refusal.Pairs fault) h = h
 
   judged : (j : Judgement) → IsSearchAnswer (judgement_status j)
   judged judgement.Equal = tt

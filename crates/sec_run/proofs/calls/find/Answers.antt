@@ -23,6 +23,12 @@ compare_pair-requires-clause-uncut g c = (subst IsAllowed c.in-CheckPair.is c.re
 pub compare_pair-requires-clause-conflicts : goal.compare_pair-requires-clause-conflicts
 compare_pair-requires-clause-conflicts g c = (subst IsAllowed c.in-CheckPair.is c.requires).0
 
+pub compare_renamed-requires-clause-conflicts : goal.compare_renamed-requires-clause-conflicts
+compare_renamed-requires-clause-conflicts g c = (subst IsAllowed c.in-CheckRenamed.is c.requires).0
+
+pub compare_renamed-requires-clause-always : goal.compare_renamed-requires-clause-always
+compare_renamed-requires-clause-always g c = (subst IsAllowed c.in-CheckRenamed.is c.requires).2
+
 pub check_settles-requires-clause-always : goal.check_settles-requires-clause-always
 check_settles-requires-clause-always g c = (subst IsAllowed c.in-CheckSettles.is c.requires).1
 
