@@ -1,8 +1,8 @@
 #!/usr/bin/env python3
 """Writes what bench/lrat/converts asks, into a folder: bench/lrat/make.py FOLDER
 
-Pairs of circuits of which `sec check` leaves some outputs undecided, as NAME.a.blif and NAME.b.blif: multipliers as an array and as a tree, sums of
-several numbers in another order, and products that are summed from the other end. And pigeon holes, as clauses.
+Pairs of circuits of which `sec check` leaves some outputs undecided, as NAME.a.blif and NAME.b.blif: sums of several numbers in another order. And as
+clauses multipliers as an array and as a tree, in all bits together, of which it decides each output, and pigeon holes.
 """
 import os
 import pathlib
@@ -33,13 +33,6 @@ class Netlist(dimacs.Cnf):
         for name, literal in zip(names, outputs):
             self.lines += [f".names n{abs(literal)} {name}", f"{int(literal > 0)} 1"]
         pathlib.Path(path).write_text("\n".join([*made, *self.lines, ".end"]) + "\n")
-
-
-def multiplier(width, shape, turned=False):
-    net = Netlist(2 * width)
-    a, b = net.inputs[:width], net.inputs[width:]
-    found = shape(net, b, a) if turned else shape(net, a, b)
-    return net, [it for it in found if it is not None]
 
 
 def added(net, a, b):
@@ -85,9 +78,8 @@ def main():
         sys.exit(__doc__)
     folder = sys.argv[1]
     os.makedirs(folder, exist_ok=True)
-    for width in (6, 7, 8, 9, 10):
-        write_pair(folder, f"array_and_tree_{width:02}", multiplier(width, dimacs.array), multiplier(width, dimacs.tree))
-        write_pair(folder, f"operands_turned_{width:02}", multiplier(width, dimacs.array), multiplier(width, dimacs.array, True))
+    for width in (6, 7, 8):
+        dimacs.multipliers(width).write(f"{folder}/multipliers_{width}.cnf")
     for width, count in ((8, 5), (8, 6), (16, 4), (32, 4)):
         write_pair(folder, f"sum_of_{count}_of_{width:02}_bits", total_of(width, count, False), total_of(width, count, True))
     for holes in (7, 8, 9):
