@@ -4,4 +4,3 @@ pub mod Unread
 pub mod Finds
 pub mod Means
 pub mod Complete
-pub mod ties
