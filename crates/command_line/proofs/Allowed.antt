@@ -11,7 +11,7 @@ use Rattle.sec_base.specs.declared.settings.Settings.{Settings}
 use Rattle.command_line.specs.declared.task.Task.{Task}
 use Rattle.command_line.specs.declared.task.Task.TheVariants as task
 use Rattle.command_line.specs.command_words.Command.{sec_app, most_conflicts, most_cycles, any_number}
-use Rattle.command_line.specs.Jobs.{task_in, check_in, compared_in, checked_in, begun_in, paired_in, stands_alone, graph_in, sim_in, replay_in, settle_in, gen_in, lrat_in, cert_in, induct_in, form_in, settings_in, conflicts_in, mode_in, mode_of, refuses_reset, number_of, is_set, with_word, last_in, inducted_in, tied_in, searched_in}
+use Rattle.command_line.specs.Jobs.{task_in, check_in, compared_in, checked_in, begun_in, paired_in, stands_alone, graph_in, sim_in, replay_in, settle_in, gen_in, lrat_in, cert_in, induct_in, form_in, settings_in, conflicts_in, mode_in, mode_of, refuses_reset, number_of, is_set, with_word, last_in, inducted_in, searched_in}
 use Rattle.command_line.specs.Allowed.{IsAllowed, JobsAreAllowed}
 
 some_is : {X : Type 0} {x y : X} → Some x ≡ Some y → x ≡ y
@@ -219,23 +219,20 @@ allowed_cert rows job e =
     let conflicts = map_some (task.Cert a.0 b.0 pair.0 refuted.0) (conflicts_in rows) job refuted.2 in
     subst IsAllowed conflicts.2 (few rows conflicts.0 conflicts.1)
 
-allowed_inducted : (signals : Bool) (a b : Text) (n : ℕ) → n ≤ 200000 → IsAllowed (inducted_in signals a b n)
-allowed_inducted false a b n h = h
-allowed_inducted true a b n h = h
-
-allowed_tied : (signals : Bool) (a b : Text) (n : ℕ) (after : Option Text) → n ≤ 200000 → (job : Task) → tied_in signals a b n after ≡ Some job → IsAllowed job
-allowed_tied signals a b n None h job e = subst IsAllowed (some_is e) (allowed_inducted signals a b n h)
-allowed_tied false a b n (Some s) h job e = absurd (cc)
-allowed_tied true a b n (Some s) h job e = let here : IsAllowed (task.InductAfter a b s n) = h in subst IsAllowed (some_is e) here
+allowed_inducted : (signals : Bool) (a b : Text) (n : ℕ) (after : Option Text) → n ≤ 200000 → IsAllowed (inducted_in signals a b n after)
+allowed_inducted false a b n None h = h
+allowed_inducted true a b n None h = h
+allowed_inducted false a b n (Some s) h = h
+allowed_inducted true a b n (Some s) h = h
 
 allowed_induct : (rows : List Row) (job : Task) → induct_in rows ≡ Some job → IsAllowed job
 allowed_induct rows job e =
     let signals : Bool = is_set (codes "signals") rows in
     let after : Option Text = first_of (codes "after") rows in
-    let a = and_then_some (λ x. with_word (codes "b") rows (λ y. option_and_then (λ n. tied_in signals x y n after) (conflicts_in rows))) (first_of (codes "a") rows) job e in
-    let b = and_then_some (λ y. option_and_then (λ n. tied_in signals a.0 y n after) (conflicts_in rows)) (first_of (codes "b") rows) job a.2 in
-    let conflicts = and_then_some (λ n. tied_in signals a.0 b.0 n after) (conflicts_in rows) job b.2 in
-    allowed_tied signals a.0 b.0 conflicts.0 after (few rows conflicts.0 conflicts.1) job conflicts.2
+    let a = and_then_some (λ x. with_word (codes "b") rows (λ y. option_map (λ n. inducted_in signals x y n after) (conflicts_in rows))) (first_of (codes "a") rows) job e in
+    let b = and_then_some (λ y. option_map (λ n. inducted_in signals a.0 y n after) (conflicts_in rows)) (first_of (codes "b") rows) job a.2 in
+    let conflicts = map_some (λ n. inducted_in signals a.0 b.0 n after) (conflicts_in rows) job b.2 in
+    subst IsAllowed conflicts.2 (allowed_inducted signals a.0 b.0 conflicts.0 after (few rows conflicts.0 conflicts.1))
 
 -- the tasks of the subcommands behind the seventh, the sixth, the fifth, the fourth, the third, the second and the first
 abbrev certs : List ℕ → List Row → Option Task

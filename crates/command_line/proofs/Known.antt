@@ -17,8 +17,8 @@ use Rattle.clap.specs.Walk.{Row, Rule, Text, Walk, answers_to, finished, first_o
 use Rattle.clap.specs.Simple.{App, Shape, built, built_leaf, entered, help_shape, inherited, label_of, marked_built, names_of, rows_at, subcommand_of, with_leaf_noted}
 use Rattle.clap.specs.declared.builder.value_parser.ValueParser.{ValueParser}
 use Rattle.command_line.specs.command_words.Command.{sec_app, check_app, graph_app, sim_app, replay_app, settle_app, gen_app, lrat_app, cert_app, induct_app, most_conflicts, most_cycles, any_number}
-use Rattle.command_line.specs.Jobs.{begun_in, cert_in, check_in, checked_in, conflicts_in, form_in, gen_in, graph_in, induct_in, is_set, job_of, lrat_in, mode_in, number_of, paired_in, replay_in, settle_in, sim_in, stands_alone, task_in, tied_in}
-use Rattle.command_line.specs.Known.{HasFitMode, after_fits, cycles_fit, cycles_given, mode_fits, pair_fits, tied_fits}
+use Rattle.command_line.specs.Jobs.{begun_in, cert_in, check_in, checked_in, conflicts_in, form_in, gen_in, graph_in, induct_in, is_set, job_of, lrat_in, mode_in, number_of, paired_in, replay_in, settle_in, sim_in, stands_alone, task_in}
+use Rattle.command_line.specs.Known.{HasFitMode, after_fits, cycles_fit, cycles_given, mode_fits, pair_fits}
 use Rattle.command_line.proofs.Taken.{else_first, else_next, EachRule, IsNotHelp, IsOwn, no_help_walk}
 use Rattle.command_line.proofs.Leaves.{IsRead, first_good, first_has, leaf_read, second_check}
 
@@ -138,13 +138,8 @@ cert_job rows a b pair n ea eb ep en passes form = by (form_in rows) refl form
     by None e h = absurd (true≢false (sym h))
     by (Some f) e h = rw (ea, eb, ep, e, conflicts) refl
 
-tied_job : (signals : Bool) (a b : Text) (n : ℕ) (after : Option Text) → (not (is_some after) || signals) ≡ true → is_some (tied_in signals a b n after) ≡ true
-tied_job signals a b n None h = refl
-tied_job false a b n (Some s) h = h
-tied_job true a b n (Some s) h = refl
-
-induct_job : (rows : List Row) (a b n : Text) → first_of (codes "a") rows ≡ Some a → first_of (codes "b") rows ≡ Some b → first_of (codes "conflicts") rows ≡ Some n → value_kinds false most_conflicts n ≡ [] → tied_fits rows ≡ true → is_some (induct_in rows) ≡ true
-induct_job rows a b n ea eb en passes fits = rw (ea, eb, conflicts) (tied_job (is_set (codes "signals") rows) a b (digits_value 10 (without_leading_plus n)) (first_of (codes "after") rows) fits)
+induct_job : (rows : List Row) (a b n : Text) → first_of (codes "a") rows ≡ Some a → first_of (codes "b") rows ≡ Some b → first_of (codes "conflicts") rows ≡ Some n → value_kinds false most_conflicts n ≡ [] → is_some (induct_in rows) ≡ true
+induct_job rows a b n ea eb en passes = rw (ea, eb, conflicts) refl
   where
     conflicts : conflicts_in rows ≡ Some (digits_value 10 (without_leading_plus n))
     conflicts = ap (option_and_then (number_of most_conflicts)) en ∙ number_known most_conflicts n passes
@@ -268,7 +263,7 @@ induct_is words e help known =
     let a = first_good c (codes "a") _ rows refl read.good (read.required (codes "a") _ refl refl) in
     let b = first_good c (codes "b") _ rows refl read.good (read.required (codes "b") _ refl refl) in
     let n = first_good c (codes "conflicts") _ rows refl read.good (read.defaulted (codes "conflicts") _ (codes "20000") [] refl refl) in
-    induct_job rows a.0 b.0 n.0 a.1 b.1 n.1 n.2 known
+    induct_job rows a.0 b.0 n.0 a.1 b.1 n.1 n.2
 
 help_is : IsJob (built_leaf help_shape)
 help_is words e help known = absurd (true≢false help)

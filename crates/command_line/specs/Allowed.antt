@@ -25,7 +25,7 @@ IsAllowed (task.SearchUnder a b c cycles conflicts) = (conflicts ≤ MAX_CONFLIC
 IsAllowed (task.After a b s cycles conflicts) = (conflicts ≤ MAX_CONFLICTS) × IfSome cycles (λ last. last ≤ 1000)
 IsAllowed (task.Induct a b conflicts) = conflicts ≤ MAX_CONFLICTS
 IsAllowed (task.InductSignals a b conflicts) = conflicts ≤ MAX_CONFLICTS
-IsAllowed (task.InductAfter a b s conflicts) = conflicts ≤ MAX_CONFLICTS
+IsAllowed (task.InductAfter a b s signals conflicts) = conflicts ≤ MAX_CONFLICTS
 
 -- a job of words is allowed
 abbrev pub JobsAreAllowed : Type 0

@@ -129,20 +129,16 @@ cert_in rows =
     with_word (codes "a") rows (λ a. with_word (codes "b") rows (λ b. with_word (codes "pair") rows (λ pair.
     option_and_then (λ lrat. option_map (λ conflicts. task.Cert a b pair lrat conflicts) (conflicts_in rows)) (form_in rows))))
 
--- the induction over both circuits, by ties of signals with `--signals`, and else by blocks of latches
-abbrev pub inducted_in : Bool → Text → Text → ℕ → Task
-inducted_in false a b conflicts = task.Induct a b conflicts
-inducted_in true a b conflicts = task.InductSignals a b conflicts
-
--- the same where a stimulus is named, behind whose rows both are compared; that stands only beside `--signals`
-abbrev pub tied_in : Bool → Text → Text → ℕ → Option Text → Option Task
-tied_in signals a b conflicts None = Some (inducted_in signals a b conflicts)
-tied_in false a b conflicts (Some s) = None
-tied_in true a b conflicts (Some s) = Some (task.InductAfter a b s conflicts)
+-- the induction over both circuits, by ties of signals with `--signals`, and else by blocks of latches; behind the rows of a stimulus where
+-- one is named
+abbrev pub inducted_in : Bool → Text → Text → ℕ → Option Text → Task
+inducted_in false a b conflicts None = task.Induct a b conflicts
+inducted_in true a b conflicts None = task.InductSignals a b conflicts
+inducted_in signals a b conflicts (Some s) = task.InductAfter a b s signals conflicts
 
 abbrev pub induct_in : List Row → Option Task
 induct_in rows =
-    with_word (codes "a") rows (λ a. with_word (codes "b") rows (λ b. option_and_then (λ conflicts. tied_in (is_set (codes "signals") rows) a b conflicts (first_of (codes "after") rows)) (conflicts_in rows)))
+    with_word (codes "a") rows (λ a. with_word (codes "b") rows (λ b. option_map (λ conflicts. inducted_in (is_set (codes "signals") rows) a b conflicts (first_of (codes "after") rows)) (conflicts_in rows)))
 
 -- the task of a subcommand's matches
 abbrev pub task_in : Text → List Row → Option Task

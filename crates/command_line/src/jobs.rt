@@ -6,7 +6,7 @@ ghost use Rattle.clap.specs.Words.{fault_of, first_of, found_of, rows_of, subcom
 ghost use Rattle.clap.specs.ValueTests.{accepts};
 ghost use Rattle.clap.specs.declared.builder.value_parser.ValueParser.TheVariants as parser;
 ghost use Rattle.command_line.specs.command_words.Command.{sec_app};
-ghost use Rattle.command_line.specs.Jobs.{job_of, task_in, check_in, compared_in, graph_in, sim_in, replay_in, settle_in, gen_in, lrat_in, cert_in, induct_in, form_in, mode_of, mode_in, refuses_reset, is_set, number_of, conflicts_in, settings_in, checked_in, paired_in, stands_alone, search_in, last_in, after_in, inducted_in, tied_in, searched_in};
+ghost use Rattle.command_line.specs.Jobs.{job_of, task_in, check_in, compared_in, graph_in, sim_in, replay_in, settle_in, gen_in, lrat_in, cert_in, induct_in, form_in, mode_of, mode_in, refuses_reset, is_set, number_of, conflicts_in, settings_in, checked_in, paired_in, stands_alone, search_in, last_in, after_in, inducted_in, searched_in};
 
 use crate::command_words::sec_command;
 use crate::task::Task;
@@ -21,9 +21,8 @@ use std::alloc::{AllocError, Global};
 pub enum WordsError {
     /// `clap`'s definition for the command doesn't take the words, the mode is neither `plain` nor `event`, `--reset` stands with
     /// `event`, with `--expose` or with `--settles`, `--cycles` or `--after` of `check` stands without
-    /// `--reset`, `--after` with `--assume`, or of `induct` without `--signals`, `--pair` with
-    /// `--settles`, `--assume`, `--cycles` or `--after`, or the form of a certificate is neither `cnf`
-    /// nor `lrat`.
+    /// `--reset`, `--after` with `--assume`, `--pair` with `--settles`, `--assume`, `--cycles` or
+    /// `--after`, or the form of a certificate is neither `cnf` nor `lrat`.
     Refused,
     /// Memory was wanted and couldn't be had.
     NoMemory,
@@ -531,39 +530,31 @@ fn induct_in(alloc: Global, matches: &ArgMatches<'_>) -> Result<Option<Task>, No
     let Some(conflicts) = conflicts_in(matches) else {
         return Ok(None);
     };
-    let signals = is_set(matches, "signals");
-    match word(matches, "after") {
-        Some(stimulus) => tied_in(alloc, signals, a, b, stimulus, conflicts),
-        None => {
-            let (a, b) = paths_of(alloc, a, b)?;
-            Ok(Some(inducted_in(signals, a, b, conflicts)))
-        }
-    }
-}
-
-/// The comparison by ties of signals behind the rows of the stimulus. It stands only beside `--signals`.
-fn tied_in(
-    alloc: Global,
-    signals: bool,
-    a: &str,
-    b: &str,
-    stimulus: &str,
-    conflicts: u32,
-) -> Result<Option<Task>, NoMemory>
-    ensures { IfOk result (λ task. task ≡ tied_in signals a.now b.now conflicts (Some stimulus.now)) }
-{
-    if !signals {
-        return Ok(None);
-    }
-    let s = FilePath::from_str(alloc, stimulus)?;
+    let after = path_of(alloc, word(matches, "after"))?;
     let (a, b) = paths_of(alloc, a, b)?;
-    Ok(Some(Task::InductAfter { a, b, s, conflicts }))
+    let signals = is_set(matches, "signals");
+    Ok(Some(inducted_in(signals, a, b, conflicts, after)))
 }
 
-/// The induction over these files, by ties of signals where `--signals` stands.
-fn inducted_in(signals: bool, a: FilePath, b: FilePath, conflicts: u32) -> Task
-    ensures { result ≡ inducted_in signals a b conflicts }
+/// The induction over these files, by ties of signals where `--signals` stands, and behind the rows of a stimulus where one is named.
+fn inducted_in(
+    signals: bool,
+    a: FilePath,
+    b: FilePath,
+    conflicts: u32,
+    after: Option<FilePath>,
+) -> Task
+    ensures { result ≡ inducted_in signals a b conflicts after }
 {
+    if let Some(s) = after {
+        return Task::InductAfter {
+            a,
+            b,
+            s,
+            signals,
+            conflicts,
+        };
+    }
     if signals {
         return Task::InductSignals { a, b, conflicts };
     }

@@ -16,7 +16,7 @@ use Rattle.job_pair.specs.Answer.{PairMeans, IsPairComplete}
 use Rattle.job_pair.specs.Found.{check_of}
 use Rattle.job_settles.specs.Answer.{SettlesMeans}
 use Rattle.job_signals.specs.Answer.{SignalsMeans}
-use Rattle.job_signals.specs.job_tied.Answer.{TiedMeans, IsTiedComplete}
+use Rattle.job_signals.specs.job_begun.Answer.{BegunMeans, IsBegunComplete}
 use Rattle.job_under.specs.Answer.{UnderMeans, IsUnderComplete}
 use Rattle.job_gen.specs.gen_meaning.Answer.{GenMeans, IsGenAnswer}
 use Rattle.job_cert.specs.job_lrat.Answer.{LratMeans, IsLratComplete}
@@ -43,7 +43,7 @@ Means held (Some (task.SearchUnder a b c cycles conflicts)) before now proofs na
 Means held (Some (task.After a b s cycles conflicts)) before now proofs name = AfterMeans cycles conflicts (held a) (held b) (held s) before now proofs name
 Means held (Some (task.Induct a b conflicts)) before now proofs name = InductMeans conflicts (held a) (held b) before now proofs name
 Means held (Some (task.InductSignals a b conflicts)) before now proofs name = SignalsMeans (held a) (held b) before now proofs name
-Means held (Some (task.InductAfter a b s conflicts)) before now proofs name = TiedMeans (held a) (held b) (held s) before now proofs name
+Means held (Some (task.InductAfter a b s signals conflicts)) before now proofs name = BegunMeans signals conflicts (held a) (held b) (held s) before now proofs name
 
 -- Where the job can be done, it ends so, if no read and no write fails; words that are no job are told.
 abbrev pub IsComplete : Held → Option Task → StatusName → Type 0
@@ -63,4 +63,4 @@ IsComplete held (Some (task.SearchUnder a b c cycles conflicts)) name = IsUnderC
 IsComplete held (Some (task.After a b s cycles conflicts)) name = IsAfterComplete cycles (held a) (held b) (held s) name
 IsComplete held (Some (task.Induct a b conflicts)) name = IsInductComplete (held a) (held b) name
 IsComplete held (Some (task.InductSignals a b conflicts)) name = IsInductComplete (held a) (held b) name
-IsComplete held (Some (task.InductAfter a b s conflicts)) name = IsTiedComplete (held a) (held b) (held s) name
+IsComplete held (Some (task.InductAfter a b s signals conflicts)) name = IsBegunComplete (held a) (held b) (held s) name
