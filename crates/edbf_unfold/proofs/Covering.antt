@@ -3,7 +3,7 @@ use Rattle.std.proofs.Common.{◌≡◌, ◌∙◌, ◌≤◌, ℕ, Bool, true, 
 use Rattle.std.specs.Prelude.{◌⊎◌}
 use Rattle.std.specs.List.{Contains}
 use Rattle.std.proofs.lemmas.Option.{slice_get_within}
-use Rattle.circuit_theory.specs.Circuit.{IsLatch}
+use Rattle.circuit_theory.specs.Circuit.{IsLatch, Reads}
 use Rattle.circuit_theory.proofs.Lists.{Contains-cases, at_of, of_at}
 use Rattle.circuit_theory.specs.Frame.{NotPut, IsNode, ReachedAt, ConeLatches}
 use Rattle.circuit_theory.specs.EventSizes.{Start, IsOther, EventVisits}
@@ -21,27 +21,17 @@ use Rattle.event_nodes.proofs.Bits.{kind_of}
 use Rattle.event_nodes.proofs.OnePath.{one_node}
 use Rattle.event_nodes.proofs.Paths.{child_path, path_grows}
 use Rattle.event_nodes.proofs.Visits.{visited_reached, reached_visited}
+use Rattle.edbf_unfold.proofs.event_literals.event_walk.Fitting.{fits_reads, fits_free, fits_other, fits_free_of_put}
 use Rattle.edbf_unfold.specs.declared.event_literals.event_walk.frames.Frame.{Frame}
 use Rattle.edbf_unfold.specs.declared.event_literals.event_walk.frames.Put.{Put}
-use Rattle.edbf_unfold.specs.declared.event_literals.event_walk.frames.Put.TheVariants.{Free, Low, High}
+use Rattle.edbf_unfold.specs.declared.event_literals.event_walk.frames.Put.TheVariants.{Free, Low}
 use Rattle.edbf_unfold.specs.declared.event_literals.event_walk.frames.Ways.{Ways}
 use Rattle.edbf_unfold.specs.Care.{IsEnableOnward, IsPlaceEnable, IsCareOf, IsCareLit}
 use Rattle.edbf_unfold.specs.event_literals.Known.{EventUnfolderView}
-use Rattle.edbf_unfold.specs.event_literals.event_walk.Ready.{put_of}
+use Rattle.edbf_unfold.specs.event_literals.event_walk.Ready.{put_of, IsMetIn}
 use Rattle.edbf_unfold.specs.Reached.{IsOpenPlace, AreNodesOf, IsReachOf}
-use Rattle.edbf_unfold.specs.event_literals.event_walk.Walk.{IsExpanded, IsVisitedPlace, IsRootOf, out_of}
+use Rattle.edbf_unfold.specs.event_literals.event_walk.Walk.{IsExpanded, IsVisitedPlace, IsRootOf, IsFitting, out_of}
 use Rattle.edbf_unfold.specs.event_literals.Built.{IsWalked}
-
--- what isn't read as a constant in the frame
-other_free : (put : Put) (q : ℕ) → IsOther (out_of put) q → NotPut (put_of put) q
-other_free Free q h = tt
-other_free (Low u) q h = h
-other_free (High u) q h = h
-
-free_other : (put : Put) (q : ℕ) → NotPut (put_of put) q → IsOther (out_of put) q
-free_other Free q h = tt
-free_other (Low u) q h = h
-free_other (High u) q h = h
 
 root_is : (children : List (ℕ × ℕ)) → path_of children 0 ≡ []
 root_is children = path_grows [] children 0 (omega arith)
@@ -53,7 +43,7 @@ module _ (u : EventUnfolderView) (w : EventGraphView) (sound : IsSound u.circuit
     pub number : ℕ
     pub frame : Frame
     pub at : slice_get u.frames number ≡ Some frame
-    pub out_is : out_of frame.put ≡ out
+    pub fits : IsFitting u.circuit.net frame.put out q
     pub path_is : path_of w.children frame.node ≡ path
     pub node : frame.node ≤ length w.children
     pub there : Contains table (number, q)
@@ -82,7 +72,7 @@ module _ (u : EventUnfolderView) (w : EventGraphView) (sound : IsSound u.circuit
   goes_on out q path name next k other latch =
       let x = (expanded (k.number, q) k.there).1 in
       let same : x.frame ≡ k.frame = one_at u.frames k.number x.frame k.frame x.at k.at in
-      let free : NotPut (put_of x.frame.put) q = subst (λ (f : Frame). NotPut (put_of f.put) q) (sym same) (other_free k.frame.put q (subst (λ (o : Option ℕ). IsOther o q) (sym k.out_is) other)) in
+      let free : NotPut (put_of x.frame.put) q = subst (λ (f : Frame). NotPut (put_of f.put) q) (sym same) (fits_free_of_put u.circuit.net k.frame.put out q k.fits other) in
       let o = x.onward name next latch free in
       record {
         number = (expanded (k.number, q) k.there).0.onward;
@@ -94,6 +84,30 @@ module _ (u : EventUnfolderView) (w : EventGraphView) (sound : IsSound u.circuit
         there = o.3;
       }
 
+  reads_on : (out : Option ℕ) (q r : ℕ) (path : List ℕ) → IsStoodAt out q path → Reads (circuit_of u.circuit.net) q r → IsStoodAt out r path
+  reads_on out q r path k read = go (y.reads r read)
+    where
+      g : Ways
+      g = (expanded (k.number, q) k.there).0
+
+      y : IsExpanded u.circuit u.frames w.children table (k.number, q) g
+      y = (expanded (k.number, q) k.there).1
+
+      same : y.frame ≡ k.frame
+      same = one_at u.frames k.number y.frame k.frame y.at k.at
+
+      go : IsMetIn u.circuit.net u.frames (Contains table) y.frame k.number g.onward r → IsStoodAt out r path
+      go (inl there) = record { number = k.number; frame = k.frame; at = k.at; fits = fits_reads u.circuit.net k.frame.put out q r k.fits read; path_is = k.path_is; node = k.node; there = there }
+      go (inr h) = record {
+        number = g.onward;
+        frame = record { node = y.frame.node; put = Free };
+        at = h.0;
+        fits = fits_free u.circuit.net y.frame.put out q r (subst (λ (f : Frame). IsFitting u.circuit.net f.put out q) (sym same) k.fits) read h.1;
+        path_is = ap (λ (f : Frame). path_of w.children f.node) same ∙ k.path_is;
+        node = y.node;
+        there = h.2;
+      }
+
   pub stood : {out : Option ℕ} {q : ℕ} {path : List ℕ} → EventVisits (side_of u.circuit) (Enabled u.circuit) (x ∷ []) out q path → IsStoodAt out q path
   stood (EventVisits.start {s = y} h) = elim (Contains-cases x y [] h) [ inl same ↦ subst (λ (z : Start ℕ). IsStoodAt z.left_out z.place []) same first | inr none ↦ absurd (omega (arith, none.1)) ]
     where
@@ -102,25 +116,22 @@ module _ (u : EventUnfolderView) (w : EventGraphView) (sound : IsSound u.circuit
         number = walked.number;
         frame = root;
         at = walked.at;
-        out_is = sym begins.1;
+        fits = inl begins.1;
         path_is = ap (path_of w.children) at_root ∙ root_is w.children;
         node = omega (arith, at_root);
         there = subst (λ (s : ℕ). Contains table (walked.number, s)) (sym begins.0) walked.begins;
       }
-  stood (EventVisits.reads {q = q} {r = r} visit read) =
-      let k = stood visit in
-      let x = (expanded (k.number, q) k.there).1 in
-      record { number = k.number; frame = k.frame; at = k.at; out_is = k.out_is; path_is = k.path_is; node = k.node; there = x.reads r read }
+  stood (EventVisits.reads {out = out} {q = q} {r = r} {node = node} visit read) = reads_on out q r node (stood visit) read
   stood (EventVisits.plain {out = out} {q = q} {next = next} {node = node} {name = name} visit other latch off) =
       let g = goes_on out q node name next (stood visit) other latch in
-      record { number = g.number; frame = g.frame; at = g.at; out_is = plain g.own; path_is = g.path_is; node = g.node; there = g.there }
+      record { number = g.number; frame = g.frame; at = g.at; fits = inl (sym (plain g.own)); path_is = g.path_is; node = g.node; there = g.there }
     where
       plain : {put : Put} → (Enabled u.circuit q × (put ≡ Low q)) ⊎ ((Enabled u.circuit q → ⊥) × (put ≡ Free)) → out_of put ≡ None
       plain (inl h) = absurd (off h.0)
       plain (inr h) = ap out_of h.1
   stood (EventVisits.held {out = out} {q = q} {next = next} {node = node} {name = name} visit other latch on) =
       let g = goes_on out q node name next (stood visit) other latch in
-      record { number = g.number; frame = g.frame; at = g.at; out_is = held g.own; path_is = g.path_is; node = g.node; there = g.there }
+      record { number = g.number; frame = g.frame; at = g.at; fits = inl (sym (held g.own)); path_is = g.path_is; node = g.node; there = g.there }
     where
       held : {put : Put} → (Enabled u.circuit q × (put ≡ Low q)) ⊎ ((Enabled u.circuit q → ⊥) × (put ≡ Free)) → out_of put ≡ Some q
       held (inl h) = ap out_of h.1
@@ -178,18 +189,19 @@ module _ (u : EventUnfolderView) (w : EventGraphView) (sound : IsSound u.circuit
           let i = at_of table p h in
           let visited = All-at (IsVisitedPlace u.circuit u.frames w.children x) table i.0 p i.1 (walked.visits x begins) in
           let same : visited.frame ≡ k.held.frame = one_at u.frames p.0 visited.frame k.held.frame visited.at k.held.at in
-          let visit = subst (λ (f : Frame). EventVisits (side_of u.circuit) (Enabled u.circuit) (x ∷ []) (out_of f.put) p.1 (path_of w.children f.node)) same visited.visit in
+          let visit = subst (λ (f : Frame). EventVisits (side_of u.circuit) (Enabled u.circuit) (x ∷ []) visited.out p.1 (path_of w.children f.node)) same visited.visit in
+          let fits = subst (λ (f : Frame). IsFitting u.circuit.net f.put visited.out p.1) same visited.fits in
           let on = k.held.enabled in (
             path_of w.children k.held.frame.node,
             p.1,
             reached_from (StartLatches (side_of u.circuit) (x ∷ [])) (IsBegun (circuit_of u.circuit.net) x) begun_from (path_of w.children k.held.frame.node) p.1
-                (visited_reached (side_of u.circuit) (Enabled u.circuit) (x ∷ []) visit on.latch (free_other k.held.frame.put p.1 k.held.free)),
+                (visited_reached (side_of u.circuit) (Enabled u.circuit) (x ∷ []) visit on.latch (fits_other u.circuit.net k.held.frame.put visited.out p.1 fits k.held.free)),
             k.onward,
           )
 
       all : (path : List ℕ) (v : ℕ) → Enabled u.circuit v → {out : Option ℕ} → IsStoodAt out v path → IsOther out v → (y : ℕ) × Contains care.enables y × IsEnableOnward u.circuit w path v y
-      all path v on k other =
-          let free = other_free k.frame.put v (subst (λ (o : Option ℕ). IsOther o v) (sym k.out_is) other) in
+      all path v on {out} k other =
+          let free = fits_free_of_put u.circuit.net k.frame.put out v k.fits other in
           let y = care.all (k.number, v) k.there (record { frame = k.frame; at = k.at; free = free; enabled = on }) in
           let same : y.2.held.frame ≡ k.frame = one_at u.frames k.number y.2.held.frame k.frame y.2.held.at k.at in
           (y.0, y.1, subst (λ (n : List ℕ). IsEnableOnward u.circuit w n v y.0) (ap (λ (f : Frame). path_of w.children f.node) same ∙ k.path_is) y.2.onward)
@@ -200,8 +212,9 @@ module _ (u : EventUnfolderView) (w : EventGraphView) (sound : IsSound u.circuit
       let i = at_of table p h in
       let visited = All-at (IsVisitedPlace u.circuit u.frames w.children x) table i.0 p i.1 (walked.visits x begins) in
       let same : visited.frame ≡ o.frame = one_at u.frames p.0 visited.frame o.frame visited.at o.at in
-      let visit = subst (λ (f : Frame). EventVisits (side_of u.circuit) (Enabled u.circuit) (x ∷ []) (out_of f.put) p.1 (path_of w.children f.node)) same visited.visit in
-      visited_reached (side_of u.circuit) (Enabled u.circuit) (x ∷ []) visit o.latch.2 (free_other o.frame.put p.1 o.free)
+      let visit = subst (λ (f : Frame). EventVisits (side_of u.circuit) (Enabled u.circuit) (x ∷ []) visited.out p.1 (path_of w.children f.node)) same visited.visit in
+      let fits = subst (λ (f : Frame). IsFitting u.circuit.net f.put visited.out p.1) same visited.fits in
+      visited_reached (side_of u.circuit) (Enabled u.circuit) (x ∷ []) visit o.latch.2 (fits_other u.circuit.net o.frame.put visited.out p.1 fits o.free)
 
   -- and takes over its data at the child by its class
   onward_node : (i : ℕ) (p : ℕ × ℕ) (g : Ways) (f : Frame) → slice_get table i ≡ Some p → slice_get ways i ≡ Some g → (o : IsOpenPlace u.circuit u.frames p) → slice_get u.frames g.onward ≡ Some f →
@@ -236,7 +249,7 @@ module _ (u : EventUnfolderView) (w : EventGraphView) (sound : IsSound u.circuit
         place = (k.number, v);
         at = i.1;
         signal_is = refl;
-        open_there = record { frame = k.frame; at = k.at; free = other_free k.frame.put v (subst (λ (o : Option ℕ). IsOther o v) (sym k.out_is) m.other); latch = latch_named path v r };
+        open_there = record { frame = k.frame; at = k.at; free = fits_free_of_put u.circuit.net k.frame.put m.out v k.fits m.other; latch = latch_named path v r };
         path_is = k.path_is;
       }
 

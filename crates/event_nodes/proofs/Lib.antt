@@ -1,4 +1,5 @@
 pub mod Growing
+pub mod Rising
 mod Kept
 pub mod Paths
 pub mod ReadPlaces

@@ -1,13 +1,18 @@
 //! A net whose latches have classes.
 
 ghost use Rattle.std.specs.Prelude.{◌≡◌, ℕ, ◌<◌, true, false, length, slice_get, Some};
+ghost use Rattle.circuit_theory.specs.Circuit.{Reaches};
 ghost use Rattle.flat_net.specs.declared.parts.LatchAt.{LatchAt};
 ghost use Rattle.flat_net.specs.Sound.{IsSound};
+ghost use Rattle.flat_net.specs.View.{circuit_of};
 ghost use Rattle.event_nodes.specs.View.{IsEventCircuit, side_of, Enabled};
 
 mod classes;
+mod levels;
 
-use flat_net::{Bits, Ids, Net};
+use flat_net::{Bits, Ids, Net, NoMemory, Seq};
+use levels::{level, levels_of};
+use std::alloc::Global;
 use std::marker::Model;
 
 /// A net, with a bit for each latch that marks the enabled ones, a number for each input and a class for each latch.
@@ -16,6 +21,7 @@ pub struct EventCircuit {
     enabled: Bits,
     order: Ids,
     classes: Vec<u32>,
+    levels: Ids,
 }
 
 /// It is let go by one call: an owner isn't taken apart field by field at each way out.
@@ -26,23 +32,25 @@ impl Drop for EventCircuit {
             enabled: _,
             order: _,
             classes: _,
+            levels: _,
         } = self;
     }
 }
 
 impl Model for EventCircuit {
     ghost use Rattle.event_nodes.specs.View.{EventCircuitView, IsEventCircuit};
+    ghost use Rattle.event_nodes.specs.Levels.{IsRising};
 
     ghost Value = { EventCircuitView };
 
     ghost view = { λ e. record { net = e.net; enabled = e.enabled; order = e.order; classes = e.classes.items } };
 
-    ghost invariant = { λ e. IsEventCircuit (record { net = e.net; enabled = e.enabled; order = e.order; classes = e.classes.items }) };
+    ghost invariant = { λ e. IsEventCircuit (record { net = e.net; enabled = e.enabled; order = e.order; classes = e.classes.items }) × IsRising e.net e.levels };
 }
 
 impl EventCircuit {
-    /// The net with these lists.
-    pub fn new(net: Net, enabled: Bits, order: Ids, classes: Ids) -> EventCircuit
+    /// The net with these lists. It is known of no signal that it doesn't read a latch.
+    pub fn new(alloc: Global, net: Net, enabled: Bits, order: Ids, classes: Ids) -> EventCircuit
         requires { IsEventCircuit (record { net = net; enabled = enabled; order = order; classes = classes }) }
         ensures { result ≡ record { net = net; enabled = enabled; order = order; classes = classes } }
     {
@@ -51,7 +59,26 @@ impl EventCircuit {
             enabled,
             order,
             classes: classes.into_vec(),
+            levels: Seq::new(alloc),
         }
+    }
+
+    /// Gives each latch a rank, by its position: a signal all of whose latches have lower ranks than a latch is then known not to read
+    /// that one within the cycle. Where each latch has a higher rank than the others in the cone of what it takes over, as its depth is,
+    /// that tells all such signals of the cone.
+    pub fn rank(&mut self, alloc: Global, ranks: &[u32]) -> Result<(), NoMemory>
+        ensures { self.new ≡ self.old }
+    {
+        self.levels = levels_of(alloc, &self.net, ranks)?;
+        Ok(())
+    }
+
+    /// Whether it is known that the signal doesn't read the latch at the second signal within the cycle.
+    pub fn is_apart(&self, signal: u32, latch: u32) -> bool
+        ensures { result ≡ true → Reaches (circuit_of self.now.net) signal latch → ⊥ }
+    {
+        let levels = self.levels.as_slice();
+        level(levels, signal) < level(levels, latch)
     }
 
     /// Tells a proof what each such circuit keeps. It does nothing.

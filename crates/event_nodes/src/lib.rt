@@ -19,5 +19,5 @@ pub use flat_net::{
     Bits, Driver, Ids, MAX_CONFLICTS, Net, NoMemory, PlaceTable, Seq, Side, Signal, Tag, gate_of,
     latch_of, weigh,
 };
-pub use net_parts::{Place, add, add_fanins};
+pub use net_parts::{Place, add};
 pub use sec_base::MAX_EVENT_NODES;

@@ -1,7 +1,6 @@
 //! Places, and tables of them.
 
-ghost use Rattle.std.specs.Prelude.{◌≡◌, ◌+◌, ◌^◌, ◌<◌, ◌≤◌, length, OnOk, All, Contains};
-ghost use Rattle.flat_net.specs.declared.signals.Signal.{Signal};
+ghost use Rattle.std.specs.Prelude.{◌≡◌, ◌+◌, ◌^◌, ◌<◌, ◌≤◌, length, OnOk, Contains};
 ghost use Rattle.aig.specs.Adds.{Adds};
 
 use flat_net::{NoMemory, PlaceTable, Signal};
@@ -17,18 +16,5 @@ pub fn add(table: &mut PlaceTable, frame: u32, s: Signal) -> Result<(), NoMemory
     ensures few { length table.new ≤ length table.old + 1 }
 {
     table.intern(frame, s.0)?;
-    Ok(())
-}
-
-/// Puts the fan-ins' places in the frame into the table.
-pub fn add_fanins(table: &mut PlaceTable, frame: u32, fanins: &[Signal]) -> Result<(), NoMemory>
-    requires { length table.old + length fanins.now + 1 < 2 ^ 32 }
-    ensures adds { Adds (λ q. (f : Signal) × Contains fanins.now f × ((frame, f.0) ≡ q)) table.old table.new }
-    ensures all { OnOk result (All (λ f. Contains table.new (frame, f.0)) fanins.now) }
-    ensures few { length table.new ≤ length table.old + length fanins.now }
-{
-    for fanin in fanins {
-        add(table, frame, *fanin)?;
-    }
     Ok(())
 }

@@ -11,6 +11,7 @@ ghost use Rattle.event_setup.specs.Recovered.{AreMarked};
 
 use crate::cutting::{CutNets, MarkedNet};
 use crate::numbering::{Numbering, number};
+use crate::ranks::ranks_of;
 use base_tables::NameTable;
 use event_nodes::EventCircuit;
 use flat_net::Net;
@@ -65,8 +66,11 @@ fn begun(alloc: Global, marked: MarkedNet, order: Ids) -> Result<EventCircuit, N
     ensures { IfOk result (IsBegun marked.net order) }
 {
     let classes = zeros(alloc, marked.net.latches().len())?;
+    let ranks = ranks_of(alloc, &marked.net, &marked.enabled)?;
     let MarkedNet { net, enabled } = marked;
-    Ok(EventCircuit::new(net, enabled, order, classes))
+    let mut circuit = EventCircuit::new(alloc, net, enabled, order, classes);
+    circuit.rank(alloc, ranks.as_slice())?;
+    Ok(circuit)
 }
 
 /// So many zeros.

@@ -10,6 +10,7 @@ mod enables;
 mod error;
 pub mod event_meaning;
 mod numbering;
+mod ranks;
 pub mod read_inputs;
 mod setup;
 

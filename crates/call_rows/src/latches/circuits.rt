@@ -51,7 +51,7 @@ fn begun(alloc: Global, net: Net, enabled: Bits) -> Result<EventCircuit, NoMemor
     net.keeps();
     let order = numbers(alloc, net.inputs().len())?;
     let classes = zeros(alloc, net.latches().len())?;
-    Ok(EventCircuit::new(net, enabled, order, classes))
+    Ok(EventCircuit::new(alloc, net, enabled, order, classes))
 }
 
 /// So many zeros.

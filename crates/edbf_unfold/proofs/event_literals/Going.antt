@@ -16,6 +16,7 @@ use Rattle.edbf_unfold.specs.event_literals.event_walk.Ready.{IsReadyBy, StandsB
 use Rattle.event_nodes.specs.flat_net.Weights.{weight_at}
 use Rattle.edbf_unfold.proofs.event_literals.Known.{known_later}
 use Rattle.event_nodes.proofs.Growing.{grows_trans}
+use Rattle.edbf_unfold.proofs.event_literals.event_walk.Fitting.{met_in_later}
 use Rattle.event_nodes.proofs.Lists.{adds_none, adds_trans, adds_push, adds_contains}
 use Rattle.edbf_unfold.proofs.event_literals.Lits.{grown_none}
 
@@ -89,7 +90,7 @@ ready_next u v w x plan i room step is later at met =
       at = r.at;
       node = r.node;
       within = r.within;
-      reads = λ q h. there (step.frame, q) (r.reads q h);
+      reads = λ q h. met_in_later u.circuit.net u.frames u.frames (StandsBefore plan i) (IsMet v.memo) r.frame step.frame step.onward q (adds_none (λ (f : Frame). Unit {0}) u.frames u.frames refl) there (r.reads q h);
       onward = λ name next latch free. let o = r.onward name next latch free in (o.0, o.1, o.2, there (step.onward, next) o.3);
       high = λ name next latch free on. let o = r.high name next latch free on in (o.0, o.1, o.2, there (step.high, next) o.3);
     })))

@@ -1,10 +1,11 @@
 -- How the literal of a signal in a frame follows from those that it reads, and stays while the event graph grows.
-use Rattle.std.proofs.Common.{◌≡◌, ◌∙◌, ◌*◌, ◌<◌, ◌≤◌, ℕ, Bool, true, false, List, [], ◌∷◌, length, map, slice_get, Option, Some, refl, sym, ap, subst, arith, inl, inr}
+use Rattle.std.proofs.Common.{◌≡◌, ◌∙◌, ◌*◌, ◌<◌, ◌≤◌, ℕ, Bool, true, false, List, [], ◌∷◌, length, map, slice_get, Option, Some, None, refl, sym, ap, subst, arith, inl, inr}
 use Rattle.std.specs.Prelude.{◌⊎◌}
 use Rattle.std.specs.List.{AllZip, Contains}
 use Rattle.std.proofs.lemmas.Option.{slice_get_within}
 use Rattle.circuit_theory.specs.Cover.{Cover}
-use Rattle.circuit_theory.specs.Circuit.{Gate as gate_equation, IsLatch}
+use Rattle.circuit_theory.specs.Circuit.{Gate as gate_equation, IsLatch, Reads, Reaches}
+use Rattle.circuit_theory.proofs.Lists.{Contains-head, Contains-tail}
 use Rattle.circuit_theory.specs.Tree.{Tree, Trees, Leaf, Fixed, Branch, Nil, Cons, IsInputNumber}
 use Rattle.circuit_theory.specs.Frame.{EventUnfolds, EventUnfoldsAll, NotPut}
 use Rattle.circuit_theory.proofs.Numbers.{slice_get-map}
@@ -21,7 +22,7 @@ use Rattle.edbf_unfold.specs.declared.event_literals.event_walk.frames.Put.{Put}
 use Rattle.edbf_unfold.specs.declared.event_literals.event_walk.frames.Put.TheVariants.{Free, Low, High}
 use Rattle.event_nodes.specs.Nodes.{EventGraphView, path_of, named_places, IsEventGraph, GrowsEvents}
 use Rattle.event_nodes.specs.View.{EventCircuitView, side_of, Enabled}
-use Rattle.edbf_unfold.specs.event_literals.event_walk.Ready.{put_of, IsOnward}
+use Rattle.edbf_unfold.specs.event_literals.event_walk.Ready.{put_of, IsOnward, IsFreeOf}
 use Rattle.edbf_unfold.specs.event_literals.Known.{IsKnownAt, IsKnownIn}
 use Rattle.event_nodes.proofs.Paths.{path_grows, child_path, named_grows}
 
@@ -107,3 +108,27 @@ module _ (e : EventCircuitView) (w : EventGraphView) (f : Frame) where
   known_gate s x fanins cover lits stands known built within =
       let trees = are_trees fanins lits known in
       record { tree = Branch cover trees.trees; unfolds = EventUnfolds.gate stands trees.unfolds; builds = (map (λ y. y.0) lits, trees.builds, built); within = within }
+
+-- Under a latch that isn't reached a signal unfolds as without one.
+module _ (e : EventCircuitView) (u : ℕ) (bit : Bool) where
+  no_put : {x : ℕ × Bool} → ◌≡◌ {A = Option (ℕ × Bool)} (Some x) None → ⊥
+  no_put e = cc
+
+  mutual
+    unput : {put : Option (ℕ × Bool)} {p : ℕ} {node : List ℕ} {tree : Tree (List ℕ)} → put ≡ None → (Reaches (circuit_of e.net) p u → ⊥) → EventUnfolds (side_of e) (Enabled e) put p node tree → EventUnfolds (side_of e) (Enabled e) (Some (u, bit)) p node tree
+    unput none away (EventUnfolds.input i) = EventUnfolds.input i
+    unput none away (EventUnfolds.gate stands all) = EventUnfolds.gate stands (unput_all none (λ q k reach. away (Reaches.there (Reads.by_gate stands k) reach)) all)
+    unput none away (EventUnfolds.port stands rest) = EventUnfolds.port stands (unput none (λ reach. away (Reaches.there (Reads.by_port stands) reach)) rest)
+    unput none away (EventUnfolds.plain latch free off rest) = EventUnfolds.plain latch (λ same. away (subst (Reaches (circuit_of e.net) _) same Reaches.here)) off rest
+    unput none away (EventUnfolds.held latch free on rest) = EventUnfolds.held latch (λ same. away (subst (Reaches (circuit_of e.net) _) same Reaches.here)) on rest
+    unput none away EventUnfolds.fixed = absurd (no_put none)
+
+    unput_all : {put : Option (ℕ × Bool)} {ps : List ℕ} {node : List ℕ} {trees : Trees (List ℕ)} → put ≡ None → ((q : ℕ) → Contains ps q → Reaches (circuit_of e.net) q u → ⊥) → EventUnfoldsAll (side_of e) (Enabled e) put ps node trees → EventUnfoldsAll (side_of e) (Enabled e) (Some (u, bit)) ps node trees
+    unput_all none away EventUnfoldsAll.none = EventUnfoldsAll.none
+    unput_all none away (EventUnfoldsAll.more {p = p} {ps = ps} first rest) = EventUnfoldsAll.more (unput none (away p (Contains-head p ps)) first) (unput_all none (λ q k. away q (Contains-tail p q ps k)) rest)
+
+-- So a signal that doesn't reach the latch that is put has there the literal that it has without one.
+pub free_known : (e : EventCircuitView) (w : EventGraphView) (node : ℕ) (put : Put) (p x : ℕ) → IsFreeOf e.net put p → IsKnownIn e w (record { node = node; put = Free }) p x → IsKnownIn e w (record { node = node; put = put }) p x
+free_known e w node Free p x away k = k
+free_known e w node (Low u) p x away k = record { tree = k.tree; unfolds = unput e u false refl away k.unfolds; builds = k.builds; within = k.within }
+free_known e w node (High u) p x away k = record { tree = k.tree; unfolds = unput e u true refl away k.unfolds; builds = k.builds; within = k.within }

@@ -8,7 +8,7 @@ use Rattle.std.proofs.Math.Nat.{mul-le-mul_right}
 use Rattle.circuit_theory.specs.Tree.{IsInputNumber}
 use Rattle.circuit_theory.specs.Cover.{Cover}
 use Rattle.circuit_theory.specs.Frame.{NotPut}
-use Rattle.circuit_theory.proofs.Lists.{All-from_each, zip_push, zip_weaker}
+use Rattle.circuit_theory.proofs.Lists.{All-from_each, zip_push, Contains-head, Contains-tail}
 use Rattle.circuit_theory.proofs.Numbers.{at_beside, slice_get-map}
 use Rattle.event_nodes.specs.flat_net.Signal.{Signal}
 use Rattle.event_nodes.specs.flat_net.Gate.{Gate}
@@ -23,15 +23,15 @@ use Rattle.event_nodes.specs.Graph.{IsLitOf}
 use Rattle.event_nodes.specs.Node.TheVariants.{Input}
 use Rattle.event_nodes.specs.Rules.{IsCoverOf, cover_room}
 use Rattle.edbf_unfold.specs.declared.event_literals.event_walk.frames.Frame.{Frame}
-use Rattle.edbf_unfold.specs.declared.event_literals.event_walk.frames.Put.TheVariants.{Low, High}
+use Rattle.edbf_unfold.specs.declared.event_literals.event_walk.frames.Put.TheVariants.{Free, Low, High}
 use Rattle.edbf_unfold.specs.declared.event_literals.event_walk.frames.Step.{Step}
 use Rattle.event_nodes.specs.Nodes.{EventGraphView, IsEventGraph, GrowsEvents}
 use Rattle.event_nodes.specs.View.{EventCircuitView}
-use Rattle.edbf_unfold.specs.event_literals.Known.{EventUnfolderView, IsKnownIn, AreKnown, IsMet, IsReady, HasGrown, IsInputLit, IsGateLit}
-use Rattle.edbf_unfold.specs.event_literals.event_walk.Ready.{put_of}
+use Rattle.edbf_unfold.specs.event_literals.Known.{EventUnfolderView, IsKnownIn, AreKnown, IsMet, IsReady, HasGrown, IsInputLit, IsReadLit, IsGateLit}
+use Rattle.edbf_unfold.specs.event_literals.event_walk.Ready.{put_of, IsMetIn}
 use Rattle.event_nodes.specs.flat_net.Weights.{gate_weight}
 use Rattle.event_nodes.proofs.flat_net.Drivers.{driven_gate, gate_equation_stands, gate_reads_to, latch_equation_stands}
-use Rattle.edbf_unfold.proofs.event_literals.Known.{known_later, known_input, known_low, known_high, known_onward, known_gate}
+use Rattle.edbf_unfold.proofs.event_literals.Known.{known_later, known_input, known_low, known_high, known_onward, known_gate, free_known}
 use Rattle.event_nodes.proofs.Growing.{grows_refl}
 
 -- a pair of lists with one element more each
@@ -44,6 +44,13 @@ zip_all R P f [] [] h = All-nil P
 zip_all R P f [] (y ∷ ys) h = absurd h
 zip_all R P f (x ∷ xs) [] h = absurd h
 zip_all R P f (x ∷ xs) (y ∷ ys) h = All-cons P y ys (f x y h.0) (zip_all R P f xs ys h.1)
+
+-- what follows for pairs of both lists, where the left one is an element of its list
+pub zip_among : {X Y : Type 0} (R S : X → Y → Type 0) (xs : List X) (ys : List Y) → ((x : X) (y : Y) → Contains xs x → R x y → S x y) → AllZip R xs ys → AllZip S xs ys
+zip_among R S [] [] f h = h
+zip_among R S [] (y ∷ ys) f h = absurd h
+zip_among R S (x ∷ xs) [] f h = absurd h
+zip_among R S (x ∷ xs) (y ∷ ys) f h = (f x y (Contains-head x xs) h.0, zip_among R S xs ys (λ a b k r. f a b (Contains-tail x a xs k) r) h.1)
 
 -- a gate's room is within what it counts
 pub cover_within_weight : (covers : List Cover) (g : Gate) (cover : Cover) → cover_of covers g ≡ cover → cover.width ≡ length g.fanins → cover_room cover + 1 ≤ gate_weight covers (Some g)
@@ -66,19 +73,19 @@ input_lit e i number node v (Ok x) at here within = record { number = number; at
 input_lit e i number node v (Err e') at here within = within
 
 -- a gate's literal from what the calls gave
-pub gate_lit : {E : Type 0} (u : EventUnfolderView) (frame j : ℕ) (h : List Node) (g : Gate) (lits : List Lit) (r : Result Lit E) → slice_get u.circuit.net.gates j ≡ Some g → (fanins : List Signal) → fanins ≡ g.fanins →
-    AllZip (λ f y. Contains u.memo ((frame, f.0), y)) fanins lits → (cover : Cover) → cover_of u.circuit.net.covers g ≡ cover → (read : List Lit) → read ≡ lits → IfOk r (λ x. IsCoverOf h cover (map (λ y. y.0) read) x.0) →
-    IfOk r (λ x. x.0 < 2 * length h) → IfOk r (λ x. IsGateLit u frame j h x.0)
-gate_lit u frame j h g lits (Ok x) at fanins are each cover is read same here within =
+pub gate_lit : {E : Type 0} (u : EventUnfolderView) (own free j : ℕ) (h : List Node) (g : Gate) (lits : List Lit) (r : Result Lit E) → slice_get u.circuit.net.gates j ≡ Some g → (fanins : List Signal) → fanins ≡ g.fanins →
+    AllZip (λ f y. IsReadLit u.memo own free f.0 y) fanins lits → (cover : Cover) → cover_of u.circuit.net.covers g ≡ cover → (read : List Lit) → read ≡ lits → IfOk r (λ x. IsCoverOf h cover (map (λ y. y.0) read) x.0) →
+    IfOk r (λ x. x.0 < 2 * length h) → IfOk r (λ x. IsGateLit u own free j h x.0)
+gate_lit u own free j h g lits (Ok x) at fanins are each cover is read same here within =
     record {
       gate = g;
       at = at;
       lits = lits;
-      each = subst (λ (l : List Signal). AllZip (λ f y. Contains u.memo ((frame, f.0), y)) l lits) are each;
+      each = subst (λ (l : List Signal). AllZip (λ f y. IsReadLit u.memo own free f.0 y) l lits) are each;
       is = subst (λ (k : Cover). IsCoverOf h k (map (λ y. y.0) lits) x.0) (sym is) (subst (λ (l : List Lit). IsCoverOf h cover (map (λ y. y.0) l) x.0) same here);
       within = within;
     }
-gate_lit u frame j h g lits (Err e) at fanins are each cover is read same here within = within
+gate_lit u own free j h g lits (Err e) at fanins are each cover is read same here within = within
 
 -- what is known of an entry in a frame
 pub entry_known : (e : EventCircuitView) (w : EventGraphView) (fs : List Frame) (memo : List ((ℕ × ℕ) × Lit)) → AreKnown e w fs memo → (k s : ℕ) (y : Lit) (f : Frame) → slice_get fs k ≡ Some f → Contains memo ((k, s), y) →
@@ -100,22 +107,42 @@ module _ (u : EventUnfolderView) (sound : IsSound u.circuit.net) (order : length
   input_is v s i k frame (Err e) at drives l = l
 
   -- a gate's step
-  pub gate_is : {E : Type 0} (w v : EventGraphView) → IsEventGraph w → GrowsEvents w v → (s j k : ℕ) (frame : Frame) (r : Result Lit E) → slice_get u.frames k ≡ Some frame → slice_get u.circuit.net.drivers s ≡ Some (driver.Gate j) →
-      AreKnown u.circuit w u.frames u.memo → IfOk r (λ x. IsGateLit u k j v.graph x.0) → IfOk r (λ x. (f : Frame) → slice_get u.frames k ≡ Some f → IsKnownIn u.circuit v f s x.0)
-  gate_is w v is grows s j k frame (Ok x) at drives known l = λ f on.
-      subst (λ (g : Frame). IsKnownIn u.circuit v g s x.0) (one_at u.frames k frame f at on)
-      (known_gate u.circuit v frame s x.0 l.gate.fanins (cover_of u.circuit.net.covers l.gate) l.lits (gate_equation_stands u.circuit.net sound s j drives l.gate l.at)
-      (zip_weaker (λ h y. Contains u.memo ((k, h.0), y)) (λ h y. IsKnownIn u.circuit v frame h.0 y.0)
-      (λ h y m. let own = entry_known u.circuit w u.frames u.memo known k h.0 y frame at m in known_later u.circuit w v is grows frame h.0 y.0 own.0 own.1) l.gate.fanins l.lits l.each)
+  pub gate_is : {E : Type 0} (w v : EventGraphView) → IsEventGraph w → GrowsEvents w v → (step : Step) (j : ℕ) (frame : Frame) (r : Result Lit E) → slice_get u.frames step.frame ≡ Some frame → slice_get u.circuit.net.drivers step.signal ≡ Some (driver.Gate j) → IsReady u w step →
+      AreKnown u.circuit w u.frames u.memo → IfOk r (λ x. IsGateLit u step.frame step.onward j v.graph x.0) → IfOk r (λ x. (f : Frame) → slice_get u.frames step.frame ≡ Some f → IsKnownIn u.circuit v f step.signal x.0)
+  gate_is w v is grows step j frame (Ok x) at drives ready known l = λ f on.
+      subst (λ (g : Frame). IsKnownIn u.circuit v g step.signal x.0) (one_at u.frames step.frame frame f at on)
+      (known_gate u.circuit v frame step.signal x.0 l.gate.fanins (cover_of u.circuit.net.covers l.gate) l.lits (gate_equation_stands u.circuit.net sound step.signal j drives l.gate l.at)
+      (zip_among (λ h y. IsReadLit u.memo step.frame step.onward h.0 y) (λ h y. IsKnownIn u.circuit v frame h.0 y.0) l.gate.fanins l.lits (λ h y k m. known_later u.circuit w v is grows frame h.0 y.0 node (own h y k m)) l.each)
       l.is l.within)
-  gate_is w v is grows s j k frame (Err e) at drives known l = l
+    where
+      same : ready.frame ≡ frame
+      same = one_at u.frames step.frame ready.frame frame ready.at at
+
+      node : frame.node ≤ length w.children
+      node = subst (λ (g : Frame). g.node ≤ length w.children) same ready.node
+
+      other : (h : Signal) (y : Lit) → (IsMet u.memo (step.frame, h.0) → ⊥) → Contains u.memo ((step.onward, h.0), y) → IsMetIn u.circuit.net u.frames (IsMet u.memo) ready.frame step.frame step.onward h.0 → IsKnownIn u.circuit w frame h.0 y.0
+      other h y absent there (inl met) = absurd (absent met)
+      other h y absent there (inr free) =
+          subst (λ (g : Frame). IsKnownIn u.circuit w g h.0 y.0) same
+          (free_known u.circuit w ready.frame.node ready.frame.put h.0 y.0 free.1 (entry_known u.circuit w u.frames u.memo known step.onward h.0 y (record { node = ready.frame.node; put = Free }) free.0 there).1)
+
+      own : (h : Signal) (y : Lit) → Contains l.gate.fanins h → IsReadLit u.memo step.frame step.onward h.0 y → IsKnownIn u.circuit w frame h.0 y.0
+      own h y k (inl there) = (entry_known u.circuit w u.frames u.memo known step.frame h.0 y frame at there).1
+      own h y k (inr m) = other h y m.0 m.1 (ready.reads h.0 (gate_reads_to u.circuit.net sound step.signal j drives l.gate l.at h k))
+  gate_is w v is grows step j frame (Err e) at drives ready known l = l
 
   -- the gate's fan-ins have been met
-  pub gate_met : (w : EventGraphView) (step : Step) (j : ℕ) → slice_get u.circuit.net.drivers step.signal ≡ Some (driver.Gate j) → IsReady u w step → IfSome (slice_get u.circuit.net.gates j) (λ g. All (λ f. IsMet u.memo (step.frame, f.0)) g.fanins)
+  pub gate_met : (w : EventGraphView) (step : Step) (j : ℕ) → slice_get u.circuit.net.drivers step.signal ≡ Some (driver.Gate j) → IsReady u w step →
+      IfSome (slice_get u.circuit.net.gates j) (λ g. All (λ f. IsMet u.memo (step.frame, f.0) ⊎ IsMet u.memo (step.onward, f.0)) g.fanins)
   gate_met w step j drives ready =
       let g = driven_gate u.circuit.net sound step.signal j drives in
-      subst (λ o. IfSome o (λ (k : Gate). All (λ f. IsMet u.memo (step.frame, f.0)) k.fanins)) (sym g.1)
-      (All-from_each (λ (f : Signal). IsMet u.memo (step.frame, f.0)) g.0.fanins (λ f h. ready.reads f.0 (gate_reads_to u.circuit.net sound step.signal j drives g.0 g.1 f h)))
+      subst (λ o. IfSome o (λ (k : Gate). All (λ f. IsMet u.memo (step.frame, f.0) ⊎ IsMet u.memo (step.onward, f.0)) k.fanins)) (sym g.1)
+      (All-from_each (λ (f : Signal). IsMet u.memo (step.frame, f.0) ⊎ IsMet u.memo (step.onward, f.0)) g.0.fanins (λ f h. met f (ready.reads f.0 (gate_reads_to u.circuit.net sound step.signal j drives g.0 g.1 f h))))
+    where
+      met : (f : Signal) → IsMetIn u.circuit.net u.frames (IsMet u.memo) ready.frame step.frame step.onward f.0 → IsMet u.memo (step.frame, f.0) ⊎ IsMet u.memo (step.onward, f.0)
+      met f (inl h) = inl h
+      met f (inr h) = inr h.2
 
   -- a latch that is put
   pub put_is : (w : EventGraphView) → IsEventGraph w → (s k : ℕ) (x : Lit) (frame : Frame) → slice_get u.frames k ≡ Some frame → ((frame.put ≡ Low s) × (x.0 ≡ 0)) ⊎ ((frame.put ≡ High s) × (x.0 ≡ 1)) →

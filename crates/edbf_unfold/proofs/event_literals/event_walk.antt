@@ -1,4 +1,6 @@
 pub mod Lent
+pub mod Fitting
+pub mod Reading
 pub mod Rooting
 pub mod Planning
 pub mod Expanding

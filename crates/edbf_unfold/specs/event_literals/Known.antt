@@ -1,5 +1,5 @@
 -- When the literal of a signal at a node is right.
-use Rattle.std.specs.Prelude.{◌≡◌, ℕ, ◌+◌, ◌*◌, ◌^◌, ◌<◌, ◌≤◌, Bool, true, false, List, length, map, Option, Some, slice_get, Contains}
+use Rattle.std.specs.Prelude.{◌≡◌, ◌⊎◌, ℕ, ◌+◌, ◌*◌, ◌^◌, ◌<◌, ◌≤◌, Bool, true, false, List, length, map, Option, Some, slice_get, Contains}
 use Rattle.std.specs.List.{AllZip}
 use Rattle.circuit_theory.specs.Tree.{Tree}
 use Rattle.circuit_theory.specs.Frame.{EventUnfolds}
@@ -106,11 +106,15 @@ pub record IsInputLit (e : EventCircuitView) (i node : ℕ) (w : EventGraphView)
   pub lit : IsLitOf w.graph (Input variable) x
   pub within : x < 2 * length w.graph
 
--- the literal is the gate's cover of its fan-ins' literals in the frame
-pub record IsGateLit (u : EventUnfolderView) (frame j : ℕ) (g : List Node) (x : ℕ) : Type 0 where
+-- the literal is the one with which the signal was met in the first frame, or, if it wasn't met there, in the second
+abbrev pub IsReadLit : List ((ℕ × ℕ) × Lit) → ℕ → ℕ → ℕ → Lit → Type 0
+IsReadLit memo own free q y = Contains memo ((own, q), y) ⊎ ((IsMet memo (own, q) → ⊥) × Contains memo ((free, q), y))
+
+-- the literal is the gate's cover of its fan-ins' literals in these frames
+pub record IsGateLit (u : EventUnfolderView) (own free j : ℕ) (g : List Node) (x : ℕ) : Type 0 where
   pub gate : Gate
   pub at : slice_get u.circuit.net.gates j ≡ Some gate
   pub lits : List Lit
-  pub each : AllZip (λ f y. Contains u.memo ((frame, f.0), y)) gate.fanins lits
+  pub each : AllZip (λ f y. IsReadLit u.memo own free f.0 y) gate.fanins lits
   pub is : IsCoverOf g (cover_of u.circuit.net.covers gate) (map (λ y. y.0) lits) x
   pub within : x < 2 * length g

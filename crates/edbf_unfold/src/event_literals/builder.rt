@@ -1,6 +1,6 @@
 //! The builder of one circuit's literals.
 
-ghost use Rattle.std.specs.Prelude.{◌≡◌, ℕ, ◌+◌, ◌*◌, ◌^◌, ◌<◌, ◌≤◌, [], length, slice_get, Some, None, All, Contains, IfOk, IfSome, OnOk};
+ghost use Rattle.std.specs.Prelude.{◌≡◌, ◌⊎◌, ℕ, ◌+◌, ◌*◌, ◌^◌, ◌<◌, ◌≤◌, [], length, slice_get, Some, None, All, Contains, IfOk, IfSome, OnOk};
 ghost use Rattle.std.specs.List.{AllZip, sum_by};
 ghost use Rattle.circuit_theory.specs.EventSizes.{Start};
 ghost use Rattle.event_nodes.specs.Lit.{Lit};
@@ -11,7 +11,7 @@ ghost use Rattle.edbf_unfold.specs.declared.event_literals.event_walk.frames.Ste
 ghost use Rattle.edbf_unfold.specs.event_literals.event_walk.Plan.{AreExpanded};
 ghost use Rattle.edbf_unfold.specs.event_literals.event_walk.Ready.{IsPlan};
 ghost use Rattle.edbf_unfold.specs.event_literals.event_walk.Walk.{IsCounting, IsRefused, IsRootOf, IsCountedOn};
-ghost use Rattle.edbf_unfold.specs.event_literals.Known.{AreKnown, IsKnownIn, HasUnfolded, IsMet, IsReady, IsLater, HasGrown, IsInputLit, IsGateLit};
+ghost use Rattle.edbf_unfold.specs.event_literals.Known.{AreKnown, IsKnownIn, HasUnfolded, IsMet, IsReady, IsLater, HasGrown, IsInputLit, IsReadLit, IsGateLit};
 ghost use Rattle.edbf_unfold.specs.event_literals.Built.{IsReadyFor, IsWalked};
 
 use crate::event_literals::event_walk::{
@@ -207,7 +207,7 @@ impl<'a> EventBuilder<'a> {
         let frame = self.frame(step.frame);
         match circuit.net().driver(Signal(step.signal)) {
             Driver::Input(i) => self.input_literal(events, frame.node, i),
-            Driver::Gate(j) => self.gate_literal(alloc, events, step.frame, j),
+            Driver::Gate(j) => self.gate_literal(alloc, events, step, j),
             Driver::Latch(j) => match constant(frame.put, step.signal) {
                 Some(lit) => Ok(lit),
                 None => Ok(self.met((step.onward, latch_of(circuit.net(), j).next.0))),
@@ -228,43 +228,54 @@ impl<'a> EventBuilder<'a> {
         events.variable(number, node)
     }
 
-    /// The cover of the gate with this position of literals that were met in the frame.
+    /// The cover of the gate with this position of literals that were met in the step's frame, or in the one onward.
     fn gate_literal(
         &self,
         alloc: Global,
         events: &mut EventGraph,
-        frame: u32,
+        step: Step,
         j: u32,
     ) -> Result<Lit, NoMemory>
         requires gate { j < length self.now.circuit.net.gates }
-        requires met { IfSome (slice_get self.now.circuit.net.gates j) (λ g. All (λ f. IsMet self.now.memo (frame, f.0)) g.fanins) }
+        requires met { IfSome (slice_get self.now.circuit.net.gates j) (λ g. All (λ f. IsMet self.now.memo (step.frame, f.0) ⊎ IsMet self.now.memo (step.onward, f.0)) g.fanins) }
         requires within { (p : ℕ × ℕ) (x : Lit) → Contains self.now.memo (p, x) → x.0 < 2 * length events.old.graph }
         requires nodes { length events.old.graph + gate_weight self.now.circuit.net.covers (slice_get self.now.circuit.net.gates j) < 2 ^ 30 }
-        ensures here { IfOk result (λ x. IsGateLit self.now frame j events.new.graph x.0) }
+        ensures here { IfOk result (λ x. IsGateLit self.now step.frame step.onward j events.new.graph x.0) }
         ensures grown { HasGrown events.old events.new (gate_weight self.now.circuit.net.covers (slice_get self.now.circuit.net.gates j)) }
     {
         let circuit = self.circuit();
         circuit.keeps();
         let net = circuit.net();
         let gate = gate_of(net, j);
-        let lits = self.fanin_literals(alloc, frame, gate.fanins.as_slice())?;
+        let lits = self.fanin_literals(alloc, step, gate.fanins.as_slice())?;
         events.cover(net.cover(gate.cover), lits.as_slice())
     }
 
-    /// The literals of the fan-ins in this frame, which were met.
+    /// The literals of the fan-ins, which were met in the step's frame or in the one onward.
     fn fanin_literals(
         &self,
         alloc: Global,
-        frame: u32,
+        step: Step,
         fanins: &[Signal],
     ) -> Result<Vec<Lit>, NoMemory>
-        requires { All (λ f. IsMet self.now.memo (frame, f.0)) fanins.now }
-        ensures { IfOk result (λ lits. AllZip (λ f y. Contains self.now.memo ((frame, f.0), y)) fanins.now lits.items) }
+        requires { All (λ f. IsMet self.now.memo (step.frame, f.0) ⊎ IsMet self.now.memo (step.onward, f.0)) fanins.now }
+        ensures { IfOk result (λ lits. AllZip (λ f y. IsReadLit self.now.memo step.frame step.onward f.0 y) fanins.now lits.items) }
     {
         let mut lits = Vec::with_capacity(alloc, fanins.len())?;
         for fanin in fanins {
-            lits.push(self.met((frame, fanin.0)))?;
+            lits.push(self.met_in(step, *fanin))?;
         }
         Ok(lits)
+    }
+
+    /// The literal of a signal that was met in the step's frame or in the one onward.
+    fn met_in(&self, step: Step, fanin: Signal) -> Lit
+        requires { IsMet self.now.memo (step.frame, fanin.0) ⊎ IsMet self.now.memo (step.onward, fanin.0) }
+        ensures { IsReadLit self.now.memo step.frame step.onward fanin.0 result }
+    {
+        match self.memo.get((step.frame, fanin.0)) {
+            Some(lit) => lit,
+            None => self.met((step.onward, fanin.0)),
+        }
     }
 }

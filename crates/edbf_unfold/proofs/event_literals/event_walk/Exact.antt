@@ -21,7 +21,7 @@ use Rattle.event_nodes.proofs.Paths.{path_grows}
 use Rattle.event_nodes.proofs.Visits.{visits_more}
 use Rattle.edbf_unfold.specs.declared.event_literals.event_walk.frames.Frame.{Frame}
 use Rattle.edbf_unfold.specs.event_literals.event_walk.Ready.{EventWalkerView}
-use Rattle.edbf_unfold.specs.event_literals.event_walk.Walk.{IsOpened, IsVisitedPlace, IsCounted, IsCounting, IsExact, out_of}
+use Rattle.edbf_unfold.specs.event_literals.event_walk.Walk.{IsOpened, IsVisitedPlace, IsCounted, IsCounting, IsExact}
 
 -- a node keeps its path
 path_later : (w x : EventGraphView) → GrowsEvents w x → (n : ℕ) → n ≤ length w.children → path_of x.children n ≡ path_of w.children n
@@ -36,7 +36,9 @@ module _ (w x : EventGraphView) (grows : GrowsEvents w x) where
         frame = k.frame;
         at = adds_at (λ (f : Frame). Unit {0}) u.frames v.frames p.0 k.frame adds k.at;
         node = let more = children_more w x grows in omega (arith, k.node, more);
-        visit = subst (λ (n : List ℕ). EventVisits (side_of u.circuit) (Enabled u.circuit) (s ∷ []) (out_of k.frame.put) p.1 n) (sym (path_later w x grows k.frame.node k.node)) k.visit;
+        out = k.out;
+        fits = k.fits;
+        visit = subst (λ (n : List ℕ). EventVisits (side_of u.circuit) (Enabled u.circuit) (s ∷ []) k.out p.1 n) (sym (path_later w x grows k.frame.node k.node)) k.visit;
       })
 
   pair_later : (e : EventCircuitView) (starts : List (Start ℕ)) (p : ℕ × ℕ) → IsVisitedPair e w.children starts p → IsVisitedPair e x.children starts p
@@ -90,8 +92,8 @@ counting_more e frames s old children c d b p f k visited inside at adds = recor
     own starts there = record {
       node = subst (λ (g : Frame). g.node ≤ length children) frame_is visited.node;
       within = inside;
-      out = out_of visited.frame.put;
-      visit = visits_more (side_of e) (Enabled e) (s ∷ []) starts (among starts there) (subst (λ (g : Frame). EventVisits (side_of e) (Enabled e) (s ∷ []) (out_of visited.frame.put) p.1 (path_of children g.node)) frame_is visited.visit);
+      out = visited.out;
+      visit = visits_more (side_of e) (Enabled e) (s ∷ []) starts (among starts there) (subst (λ (g : Frame). EventVisits (side_of e) (Enabled e) (s ∷ []) visited.out p.1 (path_of children g.node)) frame_is visited.visit);
     }
 
 pub exact_first : (u : EventWalkerView) (w : EventGraphView) (c : CounterView) (root : ℕ × ℕ) (table : List (ℕ × ℕ)) → table ≡ root ∷ [] → IsWeighed u.circuit.net c → length w.children < 10000 → IsExact u u w w c c root table 0

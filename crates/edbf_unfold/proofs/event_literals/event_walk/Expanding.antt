@@ -1,7 +1,7 @@
 -- One place more is expanded.
 use Rattle.std.proofs.Common.{◌≡◌, ◌∙◌, ◌≤◌, ℕ, List, [], ◌∷◌, length, slice_get, Option, Some, refl, sym, ap, subst, inl, inr}
 use Rattle.std.specs.Prelude.{◌⊎◌}
-use Rattle.std.specs.List.{All, Contains}
+use Rattle.std.specs.List.{Contains}
 use Rattle.std.proofs.lemmas.List.Elements.{All-contains}
 use Rattle.circuit_theory.specs.Circuit.{IsLatch, Reads}
 use Rattle.circuit_theory.specs.Frame.{NotPut, IsNode}
@@ -12,7 +12,7 @@ use Rattle.event_nodes.specs.flat_net.Gate.{Gate}
 use Rattle.event_nodes.specs.flat_net.LatchAt.{LatchAt}
 use Rattle.event_nodes.specs.flat_net.Driver.TheVariants as driver
 use Rattle.event_nodes.specs.flat_net.Sound.{IsSound}
-use Rattle.event_nodes.specs.flat_net.View.{circuit_of}
+use Rattle.event_nodes.specs.flat_net.View.{NetView, circuit_of}
 use Rattle.event_nodes.proofs.flat_net.Places.{one_at}
 use Rattle.event_nodes.specs.Lit.{Lit}
 use Rattle.edbf_unfold.specs.declared.event_literals.event_walk.frames.Frame.{Frame}
@@ -22,11 +22,12 @@ use Rattle.edbf_unfold.specs.declared.event_literals.event_walk.frames.Ways.{Way
 use Rattle.event_nodes.specs.Adds.{Adds}
 use Rattle.event_nodes.specs.Nodes.{IsChild, path_of}
 use Rattle.event_nodes.specs.View.{EventCircuitView, side_of, Enabled}
-use Rattle.edbf_unfold.specs.event_literals.event_walk.Ready.{put_of, IsOwnPut}
-use Rattle.edbf_unfold.specs.event_literals.event_walk.Walk.{IsSeen, IsExpanded, IsVisitedPlace, IsHeldPut, IsEntry, AreWays, out_of}
+use Rattle.edbf_unfold.specs.event_literals.event_walk.Ready.{put_of, IsOwnPut, IsFreeOf, IsMetIn}
+use Rattle.edbf_unfold.specs.event_literals.event_walk.Walk.{IsSeen, IsExpanded, IsVisitedPlace, IsHeldPut, IsEntry, AreWays, IsFitting, AreReadIn, IsReadPlace, out_of}
 use Rattle.event_nodes.proofs.flat_net.Drivers.{input_reads, input_latch, gate_reads_from, gate_latch, latch_reads, latch_next, latch_out, latch_equation_stands}
-use Rattle.event_nodes.proofs.Lists.{adds_weaker}
+use Rattle.event_nodes.proofs.Lists.{adds_at}
 use Rattle.event_nodes.proofs.Visits.{visited_reached}
+use Rattle.edbf_unfold.proofs.event_literals.event_walk.Fitting.{fits_reads, fits_free, fits_other}
 
 module _ (e : EventCircuitView) (sound : IsSound e.net) (frames : List Frame) (children table : List (ℕ × ℕ)) (p : ℕ × ℕ) (seen : IsSeen e frames children p) where
   -- an input reads nothing
@@ -41,8 +42,8 @@ module _ (e : EventCircuitView) (sound : IsSound e.net) (frames : List Frame) (c
     high = λ name next latch free on. absurd (input_latch e.net sound p.1 i next name drives latch);
   }
 
-  -- a gate reads its fan-ins
-  pub gate_expanded : (j : ℕ) (ways : Ways) (g : Gate) (fanins : List Signal) → slice_get e.net.drivers p.1 ≡ Some (driver.Gate j) → slice_get e.net.gates j ≡ Some g → fanins ≡ g.fanins → All (λ f. Contains table (p.0, f.0)) fanins →
+  -- a gate reads its fan-ins in their frames
+  pub gate_expanded : (j : ℕ) (ways : Ways) (g : Gate) (fanins : List Signal) → slice_get e.net.drivers p.1 ≡ Some (driver.Gate j) → slice_get e.net.gates j ≡ Some g → fanins ≡ g.fanins → AreReadIn e.net frames seen.0 p.0 ways.onward table fanins →
       IsExpanded e frames children table p ways
   gate_expanded j ways g fanins drives at are all = record {
     frame = seen.0;
@@ -51,7 +52,8 @@ module _ (e : EventCircuitView) (sound : IsSound e.net) (frames : List Frame) (c
     within = seen.3;
     reads = λ q h.
         let f = gate_reads_from e.net sound p.1 j drives g at q h in
-        subst (λ (k : ℕ). Contains table (p.0, k)) f.2 (All-contains (λ (k : Signal). Contains table (p.0, k.0)) fanins f.0 all (subst (λ (l : List Signal). Contains l f.0) (sym are) f.1));
+        subst (λ (k : ℕ). IsMetIn e.net frames (Contains table) seen.0 p.0 ways.onward k) f.2
+        (All-contains (λ (k : Signal). IsMetIn e.net frames (Contains table) seen.0 p.0 ways.onward k.0) fanins f.0 all (subst (λ (l : List Signal). Contains l f.0) (sym are) f.1));
     onward = λ name next latch free. absurd (gate_latch e.net sound p.1 j drives g at name next latch);
     high = λ name next latch free on. absurd (gate_latch e.net sound p.1 j drives g at name next latch);
   }
@@ -113,16 +115,11 @@ module _ (e : EventCircuitView) (sound : IsSound e.net) (frames : List Frame) (c
       frame_is : visited.frame ≡ f
       frame_is = one_at frames p.0 visited.frame f visited.at at
 
-      visit : EventVisits (side_of e) (Enabled e) (s ∷ []) (out_of f.put) p.1 (path_of children f.node)
-      visit = subst (λ (g : Frame). EventVisits (side_of e) (Enabled e) (s ∷ []) (out_of g.put) p.1 (path_of children g.node)) frame_is visited.visit
+      visit : EventVisits (side_of e) (Enabled e) (s ∷ []) visited.out p.1 (path_of children f.node)
+      visit = subst (λ (g : Frame). EventVisits (side_of e) (Enabled e) (s ∷ []) visited.out p.1 (path_of children g.node)) frame_is visited.visit
 
-      other : IsOther (out_of f.put) p.1
-      other = by f.put free
-        where
-          by : (put : Put) → NotPut (put_of put) p.1 → IsOther (out_of put) p.1
-          by Free h = tt
-          by (Low u) h = h
-          by (High u) h = h
+      other : IsOther visited.out p.1
+      other = fits_other e.net f.put visited.out p.1 (subst (λ (g : Frame). IsFitting e.net g.put visited.out p.1) frame_is visited.fits) free
 
       latch : IsLatch (circuit_of e.net) l.name p.1 l.next.0
       latch = latch_equation_stands e.net sound p.1 j drives l on
@@ -140,6 +137,8 @@ module _ (e : EventCircuitView) (sound : IsSound e.net) (frames : List Frame) (c
           frame = h.0;
           at = h.1;
           node = subst (λ (m : ℕ). m ≤ length new) (sym h.2) made;
+          out = out_of h.0.put;
+          fits = inl refl;
           visit = subst (λ (k : ℕ). EventVisits (side_of e) (Enabled e) (s ∷ []) (out_of h.0.put) k (path_of new h.0.node)) (sym h.4)
               (subst (λ (m : ℕ). EventVisits (side_of e) (Enabled e) (s ∷ []) (out_of h.0.put) l.next.0 (path_of new m)) (sym h.2)
               (subst (λ (n : List ℕ). EventVisits (side_of e) (Enabled e) (s ∷ []) (out_of h.0.put) l.next.0 n) (sym path) (go h.3)));
@@ -157,9 +156,37 @@ module _ (e : EventCircuitView) (sound : IsSound e.net) (frames : List Frame) (c
             go (inr k) = subst (λ (o : Put). EventVisits (side_of e) (Enabled e) (s ∷ []) (out_of o) l.next.0 ((side_of e).class p.1 ∷ path_of children f.node)) (sym k.1)
                 (EventVisits.plain visit other latch (λ enabled. k.0 (subst (Enabled e) (sym out) enabled)))
 
-  -- what a gate reads is visited
-  pub fanins_visited : (s : Start ℕ) → IsVisitedPlace e frames children s p → (fanins : List Signal) (old new : List (ℕ × ℕ)) → ((f : Signal) → Contains fanins f → Reads (circuit_of e.net) p.1 f.0) →
-      Adds (λ q. (f : Signal) × Contains fanins f × ((p.0, f.0) ≡ q)) old new → Adds (IsVisitedPlace e frames children s) old new
-  fanins_visited s visited fanins old new read adds =
-      adds_weaker (λ (q : ℕ × ℕ). (f : Signal) × Contains fanins f × ((p.0, f.0) ≡ q)) (IsVisitedPlace e frames children s) old new
-      (λ q h. subst (IsVisitedPlace e frames children s) h.2 (record { frame = visited.frame; at = visited.at; node = visited.node; visit = EventVisits.reads visited.visit (read h.0 h.1) })) adds
+-- what a gate reads is visited, in its frame
+pub reads_visited : (e : EventCircuitView) (frames more : List Frame) (children : List (ℕ × ℕ)) (s : Start ℕ) (p : ℕ × ℕ) → IsVisitedPlace e frames children s p → Adds (λ g. Unit {0}) frames more → (f : Frame) → slice_get frames p.0 ≡ Some f → (fanins : List Signal) →
+    ((g : Signal) → Contains fanins g → Reads (circuit_of e.net) p.1 g.0) → (q : ℕ × ℕ) → IsReadPlace e.net more f p.0 fanins q → IsVisitedPlace e more children s q
+reads_visited e frames more children s p visited adds f at fanins read q h = subst (λ (k : ℕ). IsVisitedPlace e more children s (q.0, k)) (sym h.signal) (go h.frame)
+  where
+    frame_is : visited.frame ≡ f
+    frame_is = one_at frames p.0 visited.frame f visited.at at
+
+    fits : IsFitting e.net f.put visited.out p.1
+    fits = subst (λ (g : Frame). IsFitting e.net g.put visited.out p.1) frame_is visited.fits
+
+    node : f.node ≤ length children
+    node = subst (λ (g : Frame). g.node ≤ length children) frame_is visited.node
+
+    visit : EventVisits (side_of e) (Enabled e) (s ∷ []) visited.out h.fanin.0 (path_of children f.node)
+    visit = EventVisits.reads (subst (λ (g : Frame). EventVisits (side_of e) (Enabled e) (s ∷ []) visited.out p.1 (path_of children g.node)) frame_is visited.visit) (read h.fanin h.reads)
+
+    go : (q.0 ≡ p.0) ⊎ ((slice_get more q.0 ≡ Some (record { node = f.node; put = Free })) × IsFreeOf e.net f.put h.fanin.0) → IsVisitedPlace e more children s (q.0, h.fanin.0)
+    go (inl own) = record {
+      frame = f;
+      at = adds_at (λ (g : Frame). Unit {0}) frames more q.0 f adds (subst (λ (k : ℕ). slice_get frames k ≡ Some f) (sym own) at);
+      node = node;
+      out = visited.out;
+      fits = fits_reads e.net f.put visited.out p.1 h.fanin.0 fits (read h.fanin h.reads);
+      visit = visit;
+    }
+    go (inr free) = record {
+      frame = record { node = f.node; put = Free };
+      at = free.0;
+      node = node;
+      out = visited.out;
+      fits = fits_free e.net f.put visited.out p.1 h.fanin.0 fits (read h.fanin h.reads) free.1;
+      visit = visit;
+    }

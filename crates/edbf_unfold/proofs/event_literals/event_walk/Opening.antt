@@ -16,11 +16,13 @@ use Rattle.edbf_unfold.specs.declared.event_literals.event_walk.frames.Frame.{Fr
 use Rattle.edbf_unfold.specs.declared.event_literals.event_walk.frames.Step.{Step}
 use Rattle.event_nodes.specs.Nodes.{EventGraphView, GrowsEvents, IsChild}
 use Rattle.event_nodes.specs.View.{EventCircuitView, side_of}
-use Rattle.edbf_unfold.specs.event_literals.event_walk.Ready.{EventWalkerView, IsReadyBy}
+use Rattle.edbf_unfold.specs.event_literals.event_walk.Ready.{EventWalkerView, IsReadyBy, IsFreeOf}
 use Rattle.event_nodes.specs.flat_net.Weights.{weight_at}
 use Rattle.edbf_unfold.specs.declared.event_literals.event_walk.frames.Ways.{Ways}
-use Rattle.edbf_unfold.specs.event_literals.event_walk.Walk.{IsSeen, IsExpanded, IsEntry, IsOpened, IsWalk}
-use Rattle.event_nodes.proofs.Lists.{adds_none, adds_trans, adds_weaker, adds_contains, adds_at, adds_length, adds_take}
+use Rattle.edbf_unfold.specs.event_literals.event_walk.Walk.{IsSeen, IsExpanded, IsEntry, IsOpened, IsWalk, IsReadPlace}
+use Rattle.edbf_unfold.specs.declared.event_literals.event_walk.frames.Put.TheVariants.{Free}
+use Rattle.edbf_unfold.proofs.event_literals.event_walk.Fitting.{met_in_later}
+use Rattle.event_nodes.proofs.Lists.{adds_none, adds_trans, adds_contains, adds_at, adds_length, adds_take}
 use Rattle.event_nodes.proofs.Growing.{grows_refl, grows_trans, children_more}
 
 pub opened_none : (u : EventWalkerView) (w : EventGraphView) (room : ℕ) → IsOpened u u w w room
@@ -52,12 +54,17 @@ pub seen_later : (u v : EventWalkerView) (w x : EventGraphView) (room : ℕ) (p 
 seen_later u v w x room p opened more seen =
     subst (λ (e : EventCircuitView). IsSeen e v.frames x.children p) (sym opened.circuit) (seen.0, adds_at (λ (f : Frame). Unit {0}) u.frames v.frames p.0 seen.0 opened.frames seen.1, omega (arith, seen.2, more), seen.3)
 
--- fan-ins in a frame that is seen
-pub fanins_seen : (e : EventCircuitView) (frames : List Frame) (children : List (ℕ × ℕ)) (p : ℕ × ℕ) (fanins : List Signal) (old new : List (ℕ × ℕ)) → IsSeen e frames children p → ((f : Signal) → Contains fanins f → f.0 < p.1) →
-    Adds (λ q. (f : Signal) × Contains fanins f × ((p.0, f.0) ≡ q)) old new → Adds (IsSeen e frames children) old new
-fanins_seen e frames children p fanins old new seen lower adds =
-    adds_weaker (λ (q : ℕ × ℕ). (f : Signal) × Contains fanins f × ((p.0, f.0) ≡ q)) (IsSeen e frames children) old new
-    (λ q h. let below = lower h.0 h.1 in subst (IsSeen e frames children) h.2 (seen.0, seen.1, seen.2, omega (arith, below, seen.3))) adds
+-- fan-ins in their frames are seen
+pub fanins_seen : (e : EventCircuitView) (frames more : List Frame) (children : List (ℕ × ℕ)) (p : ℕ × ℕ) (fanins : List Signal) → (seen : IsSeen e frames children p) → Adds (λ f. Unit {0}) frames more → ((f : Signal) → Contains fanins f → f.0 < p.1) → (q : ℕ × ℕ) →
+    IsReadPlace e.net more seen.0 p.0 fanins q → IsSeen e more children q
+fanins_seen e frames more children p fanins seen adds lower q h = subst (λ (s : ℕ). IsSeen e more children (q.0, s)) (sym h.signal) (go h.frame)
+  where
+    inside : h.fanin.0 < length e.net.drivers
+    inside = let below = lower h.fanin h.reads in omega (arith, below, seen.3)
+
+    go : (q.0 ≡ p.0) ⊎ ((slice_get more q.0 ≡ Some (record { node = seen.0.node; put = Free })) × IsFreeOf e.net seen.0.put h.fanin.0) → IsSeen e more children (q.0, h.fanin.0)
+    go (inl own) = (seen.0, adds_at (λ (f : Frame). Unit {0}) frames more q.0 seen.0 adds (subst (λ (k : ℕ). slice_get frames k ≡ Some seen.0) (sym own) seen.1), seen.2, inside)
+    go (inr free) = (record { node = seen.0.node; put = Free }, free.0, seen.2, inside)
 
 -- the place where a latch takes over its data is seen
 pub entry_seen : (e : EventCircuitView) (frames : List Frame) (children : List (ℕ × ℕ)) (node class child : ℕ) → IsChild children node class child → (l : LatchAt) → l.next.0 < length e.net.drivers → (q : ℕ × ℕ) → IsEntry e frames child l q → IsSeen e frames children q
@@ -86,7 +93,7 @@ ready_later e frames new w x M N step adds grows to r = record {
   at = adds_at (λ (f : Frame). Unit {0}) frames new step.frame r.frame adds r.at;
   node = let more = children_more w x grows in omega (arith, r.node, more);
   within = r.within;
-  reads = λ q h. to (step.frame, q) (r.reads q h);
+  reads = λ q h. met_in_later e.net frames new M N r.frame step.frame step.onward q adds to (r.reads q h);
   onward = λ name next latch free.
       let o = r.onward name next latch free in (
         o.0,

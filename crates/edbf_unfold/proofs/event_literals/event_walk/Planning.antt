@@ -21,7 +21,8 @@ use Rattle.edbf_unfold.specs.declared.event_literals.event_walk.frames.Step.{Ste
 use Rattle.edbf_unfold.specs.declared.event_literals.event_walk.frames.Ways.{Ways}
 use Rattle.event_nodes.specs.Nodes.{IsTree, IsChild}
 use Rattle.event_nodes.specs.View.{EventCircuitView, side_of}
-use Rattle.edbf_unfold.specs.event_literals.event_walk.Ready.{IsReadyBy, StandsBefore}
+use Rattle.edbf_unfold.specs.event_literals.event_walk.Ready.{IsReadyBy, IsMetIn, StandsBefore}
+use Rattle.edbf_unfold.specs.declared.event_literals.event_walk.frames.Put.TheVariants.{Free}
 use Rattle.event_nodes.specs.flat_net.Weights.{weight_at}
 use Rattle.edbf_unfold.specs.event_literals.event_walk.Walk.{IsExpanded}
 use Rattle.edbf_unfold.specs.event_literals.event_walk.Plan.{IsStepOf, AreSteps, AreExpanded, IsPlanOf, place_of}
@@ -130,7 +131,7 @@ module _ (e : EventCircuitView) (sound : IsSound e.net) (frames : List Frame) (c
       at = x.at;
       node = x.node;
       within = x.within;
-      reads = λ q r. earlier (p.0, q) (x.reads q r) (λ h at_h. inr (ap (λ (k : Frame). nodes - k.node) (one_at frames p.0 h f at_h at_f), reads_lower e.net sound p.1 q r));
+      reads = λ q r. read q (reads_lower e.net sound p.1 q r) (x.reads q r);
       onward = λ name next latch free.
           let o = x.onward name next latch free in
           (o.0, o.1, o.2, earlier (g.onward, next) o.3 (λ h at_h. inl (deeper o.0 h (one_at frames g.onward o.0 h o.1 at_h) o.2.child)));
@@ -139,9 +140,19 @@ module _ (e : EventCircuitView) (sound : IsSound e.net) (frames : List Frame) (c
           (o.0, o.1, o.2, earlier (g.high, next) o.3 (λ h at_h. inl (deeper o.0 h (one_at frames g.high o.0 h o.1 at_h) o.2.0)));
     }
       where
+        parent : x.frame ≡ f
+        parent = one_at frames p.0 x.frame f x.at at_f
+
+        read : (q : ℕ) → q < p.1 → IsMetIn e.net frames (Contains table) x.frame p.0 g.onward q → IsMetIn e.net frames (StandsBefore plan i) x.frame p.0 g.onward q
+        read q lower (inl there) = inl (earlier (p.0, q) there (λ h at_h. inr (ap (λ (k : Frame). nodes - k.node) (one_at frames p.0 h f at_h at_f), lower)))
+        read q lower (inr h) = inr (
+          h.0,
+          h.1,
+          earlier (g.onward, q) h.2 (λ k at_k. inr (ap (λ (m : Frame). nodes - m.node) (one_at frames g.onward k (record { node = x.frame.node; put = Free }) at_k h.0) ∙ ap (λ (m : Frame). nodes - m.node) parent, lower)),
+        )
+
         deeper : (k h : Frame) → k ≡ h → IsChild children x.frame.node ((side_of e).class p.1) k.node → nodes - h.node < nodes - f.node
         deeper k h same child =
-            let parent : x.frame ≡ f = one_at frames p.0 x.frame f x.at at_f in
             let below = tree child.0 x.frame.node ((side_of e).class p.1) child.2 in
             let inside = slice_get_within children child.0 (x.frame.node, (side_of e).class p.1) child.2 in
             let a = ap (λ (y : Frame). y.node) parent in

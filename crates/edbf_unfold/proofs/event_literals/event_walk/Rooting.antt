@@ -1,5 +1,5 @@
 -- A walk begins at the root.
-use Rattle.std.proofs.Common.{◌≡◌, ◌∙◌, ℕ, List, [], ◌∷◌, slice_get, Option, Some, sym, ap, subst, arith}
+use Rattle.std.proofs.Common.{◌≡◌, ◌∙◌, ℕ, List, [], ◌∷◌, slice_get, Option, Some, refl, sym, ap, subst, arith, inl}
 use Rattle.circuit_theory.proofs.Lists.{Contains-head}
 use Rattle.circuit_theory.specs.EventSizes.{Start, EventVisits}
 use Rattle.event_nodes.specs.Nodes.{path_of}
@@ -17,6 +17,8 @@ root_visited e frames children frame id s at root x begins = record {
   frame = frame;
   at = at;
   node = omega (arith, root);
+  out = out_of frame.put;
+  fits = inl refl;
   visit = subst (λ (n : List ℕ). EventVisits (side_of e) (Enabled e) (x ∷ []) (out_of frame.put) s n) (sym (ap (path_of children) root ∙ root_path children))
       (subst (λ (o : Option ℕ). EventVisits (side_of e) (Enabled e) (x ∷ []) o s []) begins.1 (subst (λ (p : ℕ). EventVisits (side_of e) (Enabled e) (x ∷ []) x.left_out p []) begins.0 (EventVisits.start {s = x} (Contains-head x []))));
 }

@@ -8,6 +8,7 @@ use Rattle.circuit_theory.specs.EventSizes.{Start}
 use Rattle.circuit_theory.specs.EventTotals.{StartLatches}
 use Rattle.circuit_theory.specs.Frame.{NotPut, IsNode}
 use Rattle.event_nodes.specs.flat_net.Signal.{Signal}
+use Rattle.event_nodes.specs.flat_net.Gate.{Gate}
 use Rattle.event_nodes.specs.flat_net.LatchAt.{LatchAt}
 use Rattle.event_nodes.specs.flat_net.Driver.TheVariants as driver
 use Rattle.event_nodes.specs.flat_net.Sound.{IsSound}
@@ -20,12 +21,14 @@ use Rattle.event_nodes.specs.Nodes.{EventGraphView, IsTree, IsChild, GrowsEvents
 use Rattle.event_nodes.specs.View.{EventCircuitView, side_of, Enabled}
 use Rattle.event_nodes.specs.Visited.{AreNodesFrom, places_weight}
 use Rattle.event_nodes.proofs.flat_net.Drivers.{latch_out, latch_equation_stands, latch_within, reads_lower}
-use Rattle.event_nodes.proofs.Lists.{adds_none, adds_weaker, adds_cases}
+use Rattle.event_nodes.proofs.Lists.{adds_none, adds_weaker, adds_cases, adds_at}
 use Rattle.event_nodes.proofs.Paths.{child_path, path_grows}
 use Rattle.edbf_unfold.specs.declared.event_literals.event_walk.frames.Frame.{Frame}
 use Rattle.edbf_unfold.specs.event_literals.event_walk.Ready.{EventWalkerView, put_of}
-use Rattle.edbf_unfold.specs.event_literals.event_walk.Walk.{IsSeen, IsEntry, IsVisitedPlace, IsStep, IsRefused}
-use Rattle.edbf_unfold.proofs.event_literals.event_walk.Expanding.{entry_visited, latch_node, fanins_visited}
+use Rattle.edbf_unfold.specs.event_literals.event_walk.Walk.{IsSeen, IsExpanded, IsEntry, IsVisitedPlace, IsStep, IsRefused, AreReadIn, IsReadPlace}
+use Rattle.edbf_unfold.specs.declared.event_literals.event_walk.frames.Ways.{Ways}
+use Rattle.event_nodes.proofs.Growing.{grows_refl}
+use Rattle.edbf_unfold.proofs.event_literals.event_walk.Expanding.{gate_expanded, entry_visited, latch_node, reads_visited}
 use Rattle.edbf_unfold.proofs.event_literals.event_walk.Opening.{opened_none, opened_one, fanins_seen, entry_seen}
 
 pub nodes_none : (e : EventCircuitView) (children : List (ℕ × ℕ)) (s : Start ℕ) → AreNodesFrom e children s (length children)
@@ -39,14 +42,30 @@ step_none u w p old = record {
   visits = λ s visited. (adds_none (IsVisitedPlace u.circuit u.frames w.children s) old old refl, nodes_none u.circuit w.children s);
 }
 
--- a gate's fan-ins
-pub step_gate : (u : EventWalkerView) (w : EventGraphView) (sound : IsSound u.circuit.net) (p : ℕ × ℕ) (fanins : List Signal) (old new : List (ℕ × ℕ)) → IsSeen u.circuit u.frames w.children p → ((f : Signal) → Contains fanins f → Reads (circuit_of u.circuit.net) p.1 f.0) →
-    Adds (λ q. (f : Signal) × Contains fanins f × ((p.0, f.0) ≡ q)) old new → IsStep u u w w p old new
-step_gate u w sound p fanins old new seen read adds = record {
-  opened = opened_none u w 1;
-  seen = fanins_seen u.circuit u.frames w.children p fanins old new seen (λ f h. reads_lower u.circuit.net sound p.1 f.0 (read f h)) adds;
-  visits = λ s visited. (fanins_visited u.circuit sound u.frames w.children old p seen s visited fanins old new read adds, nodes_none u.circuit w.children s);
-}
+-- a gate's fan-ins, with a frame more
+module _ (u v : EventWalkerView) (w : EventGraphView) (sound : IsSound u.circuit.net) (same : v ≡ record u { frames = v.frames }) (adds : Adds (λ f. Unit {0}) u.frames v.frames) (p : ℕ × ℕ) (fanins : List Signal) (old new : List (ℕ × ℕ)) (seen : IsSeen u.circuit u.frames w.children p) where
+  one_circuit : v.circuit ≡ u.circuit
+  one_circuit = ap (λ (k : EventWalkerView). k.circuit) same
+
+  pub step_gate : length v.frames ≤ length u.frames + 1 → ((f : Signal) → Contains fanins f → Reads (circuit_of u.circuit.net) p.1 f.0) → Adds (IsReadPlace u.circuit.net v.frames seen.0 p.0 fanins) old new → IsStep u v w w p old new
+  step_gate few read places = record {
+    opened = record { circuit = one_circuit; frames = adds; grows = grows_refl w; graph = refl; places = refl; few_frames = omega (arith, few) };
+    seen = subst (λ (e : EventCircuitView). Adds (IsSeen e v.frames w.children) old new) (sym one_circuit)
+        (adds_weaker (IsReadPlace u.circuit.net v.frames seen.0 p.0 fanins) (IsSeen u.circuit v.frames w.children) old new
+        (fanins_seen u.circuit u.frames v.frames w.children p fanins seen adds (λ f h. reads_lower u.circuit.net sound p.1 f.0 (read f h))) places);
+    visits = λ s visited. (
+      subst (λ (e : EventCircuitView). Adds (IsVisitedPlace e v.frames w.children s) old new) (sym one_circuit)
+          (adds_weaker (IsReadPlace u.circuit.net v.frames seen.0 p.0 fanins) (IsVisitedPlace u.circuit v.frames w.children s) old new
+          (reads_visited u.circuit u.frames v.frames w.children s p visited adds seen.0 seen.1 fanins read) places),
+      nodes_none u.circuit w.children s,
+    );
+  }
+
+  pub gate_goes_on : (j : ℕ) (ways : Ways) (g : Gate) → slice_get u.circuit.net.drivers p.1 ≡ Some (driver.Gate j) → slice_get u.circuit.net.gates j ≡ Some g → fanins ≡ g.fanins → AreReadIn u.circuit.net v.frames seen.0 p.0 ways.onward new fanins →
+      IsExpanded v.circuit v.frames w.children new p ways
+  gate_goes_on j ways g drives at are all =
+      subst (λ (e : EventCircuitView). IsExpanded e v.frames w.children new p ways) (sym one_circuit)
+      (gate_expanded u.circuit sound v.frames w.children new p (seen.0, adds_at (λ (f : Frame). Unit {0}) u.frames v.frames p.0 seen.0 adds seen.1, seen.2, seen.3) j ways g fanins drives at are all)
 
 -- a latch's child, and the frames there
 module _ (u : EventWalkerView) (sound : IsSound u.circuit.net) (w x : EventGraphView) (tree : IsTree x.children) (grows : GrowsEvents w x) (is : x ≡ record w { children = x.children }) (p : ℕ × ℕ) (seen : IsSeen u.circuit u.frames w.children p) (j : ℕ) (l : LatchAt)

@@ -1,8 +1,8 @@
 -- When a place of a walk can be unfolded: a place is the number of a frame, and a signal.
 use Rattle.std.specs.Prelude.{◌≡◌, ◌⊎◌, ℕ, ◌<◌, ◌≤◌, Bool, true, false, List, length, Option, Some, None, slice_get}
-use Rattle.circuit_theory.specs.Circuit.{IsLatch, Reads}
+use Rattle.circuit_theory.specs.Circuit.{IsLatch, Reads, Reaches}
 use Rattle.circuit_theory.specs.Frame.{NotPut}
-use Rattle.event_nodes.specs.flat_net.View.{circuit_of}
+use Rattle.event_nodes.specs.flat_net.View.{NetView, circuit_of}
 use Rattle.edbf_unfold.specs.declared.event_literals.event_walk.frames.Frame.{Frame}
 use Rattle.edbf_unfold.specs.declared.event_literals.event_walk.frames.Put.{Put}
 use Rattle.edbf_unfold.specs.declared.event_literals.event_walk.frames.Put.TheVariants.{Free, Low, High}
@@ -35,6 +35,17 @@ pub record EventWalkerView : Type 0 where
   -- the frames that were met
   pub frames : List Frame
 
+-- The latch that is put, if one is, isn't reached from the signal: so its function there is the one without a latch put.
+abbrev pub IsFreeOf : NetView → Put → ℕ → Type 0
+IsFreeOf n Free q = Unit {0}
+IsFreeOf n (Low u) q = Reaches (circuit_of n) q u → ⊥
+IsFreeOf n (High u) q = Reaches (circuit_of n) q u → ⊥
+
+-- The signal, read in the frame, has been met: in the frame itself, or, if it doesn't reach the latch that is put, in the frame of the same
+-- node without one.
+abbrev pub IsMetIn : NetView → List Frame → (ℕ × ℕ → Type 0) → Frame → ℕ → ℕ → ℕ → Type 0
+IsMetIn n frames Met frame own free q = Met (own, q) ⊎ ((slice_get frames free ≡ Some (record { node = frame.node; put = Free })) × IsFreeOf n frame.put q × Met (free, q))
+
 -- The step can be done, where Met says which places have been met: what its signal reads in its frame has been met, and so has what
 -- its latch takes over in the frame onward, and in the frame beside it if the latch is enabled.
 pub record IsReadyBy (e : EventCircuitView) (frames : List Frame) (children : List (ℕ × ℕ)) (Met : ℕ × ℕ → Type 0) (step : Step) : Type 0 where
@@ -42,7 +53,7 @@ pub record IsReadyBy (e : EventCircuitView) (frames : List Frame) (children : Li
   pub at : slice_get frames step.frame ≡ Some frame
   pub node : frame.node ≤ length children
   pub within : step.signal < length e.net.drivers
-  pub reads : (q : ℕ) → Reads (circuit_of e.net) step.signal q → Met (step.frame, q)
+  pub reads : (q : ℕ) → Reads (circuit_of e.net) step.signal q → IsMetIn e.net frames Met frame step.frame step.onward q
   pub onward : (name : List ℕ) (next : ℕ) → IsLatch (circuit_of e.net) name step.signal next → NotPut (put_of frame.put) step.signal →
       (g : Frame) × (slice_get frames step.onward ≡ Some g) × IsOnward e children step.signal frame g × Met (step.onward, next)
   pub high : (name : List ℕ) (next : ℕ) → IsLatch (circuit_of e.net) name step.signal next → NotPut (put_of frame.put) step.signal → Enabled e step.signal →

@@ -2,8 +2,10 @@
 use Rattle.std.specs.Prelude.{◌≡◌, ◌⊎◌, ℕ, ◌+◌, ◌*◌, ◌<◌, ◌≤◌, List, [], ◌∷◌, length, slice_get, take, Option, Some, None, Result, Err, All, Contains}
 use Rattle.std.specs.List.{sum_by}
 use Rattle.circuit_theory.specs.EventSizes.{Start, EventVisits}
+use Rattle.circuit_theory.specs.Circuit.{Reaches}
+use Rattle.event_nodes.specs.flat_net.Signal.{Signal}
 use Rattle.event_nodes.specs.flat_net.LatchAt.{LatchAt}
-use Rattle.event_nodes.specs.flat_net.View.{NetView}
+use Rattle.event_nodes.specs.flat_net.View.{NetView, circuit_of}
 use Rattle.event_nodes.specs.declared.error.EventUnfoldError.{EventUnfoldError}
 use Rattle.event_nodes.specs.declared.error.EventUnfoldError.TheVariants as unfold_error
 use Rattle.event_nodes.specs.Adds.{Adds}
@@ -15,7 +17,7 @@ use Rattle.edbf_unfold.specs.declared.event_literals.event_walk.frames.Frame.{Fr
 use Rattle.edbf_unfold.specs.declared.event_literals.event_walk.frames.Put.{Put}
 use Rattle.edbf_unfold.specs.declared.event_literals.event_walk.frames.Put.TheVariants.{Free, Low, High}
 use Rattle.edbf_unfold.specs.declared.event_literals.event_walk.frames.Ways.{Ways}
-use Rattle.edbf_unfold.specs.event_literals.event_walk.Ready.{EventWalkerView, IsReadyBy, IsOwnPut}
+use Rattle.edbf_unfold.specs.event_literals.event_walk.Ready.{EventWalkerView, IsReadyBy, IsOwnPut, IsFreeOf, IsMetIn}
 
 -- the place has a frame, at an event node that was made, and a signal of the net
 abbrev pub IsSeen : EventCircuitView → List Frame → List (ℕ × ℕ) → ℕ × ℕ → Type 0
@@ -31,12 +33,44 @@ out_of Free = None
 out_of (Low u) = Some u
 out_of (High u) = Some u
 
+-- The frame's latch is the one that is read as a constant in a visit of the signal, or the frame has none and the signal doesn't reach it.
+abbrev pub IsFitting : NetView → Put → Option ℕ → ℕ → Type 0
+IsFitting n put out q = (out ≡ out_of put) ⊎ ((put ≡ Free) × ((u : ℕ) → out ≡ Some u → Reaches (circuit_of n) q u → ⊥))
+
 -- the unfolding from the start visits the place
 pub record IsVisitedPlace (e : EventCircuitView) (frames : List Frame) (children : List (ℕ × ℕ)) (s : Start ℕ) (p : ℕ × ℕ) : Type 0 where
   pub frame : Frame
   pub at : slice_get frames p.0 ≡ Some frame
   pub node : frame.node ≤ length children
-  pub visit : EventVisits (side_of e) (Enabled e) (s ∷ []) (out_of frame.put) p.1 (path_of children frame.node)
+  pub out : Option ℕ
+  pub fits : IsFitting e.net frame.put out p.1
+  pub visit : EventVisits (side_of e) (Enabled e) (s ∷ []) out p.1 (path_of children frame.node)
+
+-- a fan-in in its frame: its own, or the other one if the latch that is put isn't reached from it
+abbrev pub IsFrameFor : NetView → Put → ℕ → ℕ → ℕ → ℕ → Type 0
+IsFrameFor n put own free q k = (k ≡ own) ⊎ (IsFreeOf n put q × (k ≡ free))
+
+-- the place is a fan-in in its frame
+pub record IsReadAt (n : NetView) (put : Put) (own free : ℕ) (fanins : List Signal) (q : ℕ × ℕ) : Type 0 where
+  pub fanin : Signal
+  pub reads : Contains fanins fanin
+  pub signal : q.1 ≡ fanin.0
+  pub frame : IsFrameFor n put own free fanin.0 q.0
+
+-- the fan-in stands in the table in its frame
+abbrev pub IsReadIn : NetView → Put → ℕ → ℕ → List (ℕ × ℕ) → Signal → Type 0
+IsReadIn n put own free table f = (k : ℕ) × IsFrameFor n put own free f.0 k × Contains table (k, f.0)
+
+-- the place is a fan-in in the frame, or in the one of the same node without a latch put, if the latch that is put isn't reached from it
+pub record IsReadPlace (n : NetView) (frames : List Frame) (f : Frame) (own : ℕ) (fanins : List Signal) (q : ℕ × ℕ) : Type 0 where
+  pub fanin : Signal
+  pub reads : Contains fanins fanin
+  pub signal : q.1 ≡ fanin.0
+  pub frame : (q.0 ≡ own) ⊎ ((slice_get frames q.0 ≡ Some (record { node = f.node; put = Free })) × IsFreeOf n f.put fanin.0)
+
+-- the fan-ins stand in the table in the frame, or in the one of the same node without a latch put
+abbrev pub AreReadIn : NetView → List Frame → Frame → ℕ → ℕ → List (ℕ × ℕ) → List Signal → Type 0
+AreReadIn n frames f own free table fanins = All (λ s. IsMetIn n frames (Contains table) f own free s.0) fanins
 
 -- what is put where the latch takes over its data: an enabled one itself, as 0 or as 1
 abbrev pub IsHeldPut : EventCircuitView → ℕ → Put → Type 0

@@ -1,12 +1,44 @@
-//! Where a latch takes over its data.
+//! The frames that a place leads to.
 
-ghost use Rattle.std.specs.Prelude.{◌≡◌, ◌+◌, ◌^◌, ◌<◌, ◌≤◌, length, slice_get, Some, Contains, IfOk};
+ghost use Rattle.std.specs.Prelude.{◌≡◌, ◌+◌, ◌^◌, ◌<◌, ◌≤◌, true, length, slice_get, Some, Contains, IfOk};
 ghost use Rattle.event_nodes.specs.flat_net.LatchAt.{LatchAt};
 ghost use Rattle.event_nodes.specs.Adds.{Adds};
+ghost use Rattle.edbf_unfold.specs.declared.event_literals.event_walk.frames.Put.TheVariants.{Free};
+ghost use Rattle.edbf_unfold.specs.event_literals.event_walk.Ready.{IsFreeOf};
 ghost use Rattle.edbf_unfold.specs.event_literals.event_walk.Walk.{IsEntry, AreWays};
 
 use crate::event_literals::event_walk::frames::{Frame, Frames, Put, Ways};
 use event_nodes::{EventCircuit, NoMemory, PlaceTable, Signal, add, latch_of};
+
+/// Whether it is known that the signal doesn't read the latch that is put within the cycle.
+pub(crate) fn avoids(circuit: &EventCircuit, put: Put, signal: u32) -> bool
+    ensures { result ≡ true → IsFreeOf circuit.now.net put signal }
+{
+    match put {
+        Put::Free => false,
+        Put::Low(latch) => circuit.is_apart(signal, latch),
+        Put::High(latch) => circuit.is_apart(signal, latch),
+    }
+}
+
+/// The number of the frame of the same node without a latch put.
+pub(crate) fn free_frame(frames: &mut Frames, id: u32, frame: Frame) -> Result<u32, NoMemory>
+    requires framed { slice_get frames.old id ≡ Some frame }
+    requires room { length frames.old + 1 < 2 ^ 32 }
+    ensures at { IfOk result (λ k. slice_get frames.new k ≡ Some (record { node = frame.node; put = Free })) }
+    ensures frames { Adds (λ f. Unit {0}) frames.old frames.new }
+    ensures few_frames { length frames.new ≤ length frames.old + 1 }
+{
+    match frame.put {
+        Put::Free => Ok(id),
+        _ => {
+            let put = Put::Free;
+            let node = frame.node;
+            let free = frames.insert(Frame { node, put })?;
+            Ok(free)
+        }
+    }
+}
 
 /// The number of the frame, where the signal's place in it is put into the table.
 fn enter(

@@ -12,14 +12,14 @@ ghost use Rattle.edbf_unfold.specs.event_literals.event_walk.Plan.{AreExpanded, 
 ghost use Rattle.event_nodes.specs.Visited.{IsWeighed, places_weight};
 ghost use Rattle.event_nodes.specs.flat_net.Weights.{weight_at};
 ghost use Rattle.edbf_unfold.specs.declared.event_literals.event_walk.frames.Frame.{Frame};
-ghost use Rattle.edbf_unfold.specs.event_literals.event_walk.Walk.{IsSeen, IsExpanded, IsVisitedPlace, IsWalk, IsCounting, IsExact, IsStep, IsRefused};
+ghost use Rattle.edbf_unfold.specs.event_literals.event_walk.Walk.{IsSeen, IsExpanded, IsVisitedPlace, IsWalk, IsCounting, IsExact, IsStep, IsRefused, IsFrameFor, IsReadAt, IsReadIn, AreReadIn, IsReadPlace};
 
-use crate::event_literals::event_walk::entering::enter_latch;
-use crate::event_literals::event_walk::frames::{Frame, Frames, Step, Ways, constant};
+use crate::event_literals::event_walk::entering::{avoids, enter_latch, free_frame};
+use crate::event_literals::event_walk::frames::{Frame, Frames, Put, Step, Ways, constant};
 use base_tables::UniqueTable;
 use event_nodes::{
     Counter, Driver, EventCircuit, EventGraph, EventUnfoldError, MAX_EVENT_NODES, NoMemory, Place,
-    PlaceTable, Signal, add, add_fanins, gate_of, weigh,
+    PlaceTable, Signal, add, gate_of, weigh,
 };
 use std::alloc::Global;
 use std::marker::Model;
@@ -186,10 +186,70 @@ impl<'a> EventWalker<'a> {
         match circuit.net().driver(Signal(place.1)) {
             Driver::Input(_) => Ok(stay(place)),
             Driver::Gate(j) => {
-                add_fanins(table, place.0, gate_of(circuit.net(), j).fanins.as_slice())?;
-                Ok(stay(place))
+                let gate = gate_of(circuit.net(), j);
+                let ways = self.expand_gate(table, place, gate.fanins.as_slice())?;
+                Ok(ways)
             }
             Driver::Latch(j) => self.expand_latch(events, table, place, j),
+        }
+    }
+
+    /// The same for a gate: each fan-in goes into the frame, or, if it surely doesn't reach the latch that is put there, into the frame of
+    /// the same node without one.
+    fn expand_gate(
+        &mut self,
+        table: &mut PlaceTable,
+        place: Place,
+        fanins: &[Signal],
+    ) -> Result<Ways, NoMemory>
+        requires framed { (f : Frame) × (slice_get self.old.frames place.0 ≡ Some f) }
+        requires frames { length self.old.frames + 1 < 2 ^ 32 }
+        requires table { length table.old + length fanins.now + 1 < 2 ^ 32 }
+        ensures all { IfOk result (λ ways. (f : Frame) → slice_get self.old.frames place.0 ≡ Some f → AreReadIn self.old.circuit.net self.new.frames f place.0 ways.onward table.new fanins.now) }
+        ensures adds { (f : Frame) → slice_get self.old.frames place.0 ≡ Some f → Adds (IsReadPlace self.old.circuit.net self.new.frames f place.0 fanins.now) table.old table.new }
+        ensures frames { Adds (λ f. Unit {0}) self.old.frames self.new.frames }
+        ensures few_frames { length self.new.frames ≤ length self.old.frames + 1 }
+        ensures same { self.new ≡ record self.old { frames = self.new.frames } }
+        ensures few { length table.new ≤ length table.old + length fanins.now }
+    {
+        let frame = self.frame(place.0);
+        let free = free_frame(&mut self.frames, place.0, frame)?;
+        self.add_reads(table, frame.put, place.0, free, fanins)?;
+        Ok(Ways {
+            onward: free,
+            high: free,
+        })
+    }
+
+    /// Puts the fan-ins' places into the table.
+    fn add_reads(
+        &self,
+        table: &mut PlaceTable,
+        put: Put,
+        own: u32,
+        free: u32,
+        fanins: &[Signal],
+    ) -> Result<(), NoMemory>
+        requires { length table.old + length fanins.now + 1 < 2 ^ 32 }
+        ensures adds { Adds (IsReadAt self.now.circuit.net put own free fanins.now) table.old table.new }
+        ensures all { OnOk result (All (IsReadIn self.now.circuit.net put own free table.new) fanins.now) }
+        ensures few { length table.new ≤ length table.old + length fanins.now }
+    {
+        for fanin in fanins {
+            let frame = self.frame_for(put, own, free, *fanin);
+            add(table, frame, *fanin)?;
+        }
+        Ok(())
+    }
+
+    /// The frame of a fan-in by its number.
+    fn frame_for(&self, put: Put, own: u32, free: u32, fanin: Signal) -> u32
+        ensures { IsFrameFor self.now.circuit.net put own free fanin.0 result }
+    {
+        if avoids(self.circuit(), put, fanin.0) {
+            free
+        } else {
+            own
         }
     }
 

@@ -5,7 +5,7 @@ use Rattle.event_nodes.specs.View.{EventCircuitView, IsEventCircuit}
 use Rattle.event_nodes.proofs.circuit.EventCircuit.keeps.Goals as goal
 
 pub returns-clause-circuit : goal.returns-clause-circuit
-returns-clause-circuit c = subst IsEventCircuit c.self.view_is c.self.invariant
+returns-clause-circuit c = subst IsEventCircuit c.self.view_is c.self.invariant.0
 
 pub returns-clause-sound : goal.returns-clause-sound
 returns-clause-sound c = subst (λ (e : EventCircuitView). IsSound e.net) c.self.view_is c.keeps.ensures.sound

@@ -77,8 +77,8 @@ returns-in-Gate-clause-known c =
     let sound = sound_of u.circuit lent c.circuit-circuit.ensures c.keeps.ensures.sound in
     let drives = drives_of u.circuit lent c.circuit-circuit.ensures c.net.result.now c.net.ensures c.args.step.signal c.driver.result (driver.Gate c.in-Gate.j) c.driver.ensures c.in-Gate.is in
     let at = c.frame-frame.ensures in
-    gate_is u sound (order_of u.circuit lent c.circuit-circuit.ensures c.keeps.ensures.circuit) c.args.events.now c.gate_literal.new.events c.keeps-2.ensures.events c.gate_literal.ensures.grown.grows c.args.step.signal c.in-Gate.j c.args.step.frame c.frame-frame.result c.gate_literal.result at drives
-    c.requires.known c.gate_literal.ensures.here
+    gate_is u sound (order_of u.circuit lent c.circuit-circuit.ensures c.keeps.ensures.circuit) c.args.events.now c.gate_literal.new.events c.keeps-2.ensures.events c.gate_literal.ensures.grown.grows c.args.step c.in-Gate.j c.frame-frame.result c.gate_literal.result at drives
+    c.requires.ready c.requires.known c.gate_literal.ensures.here
 
 pub returns-in-Some-clause-known : goal.returns-in-Some-clause-known
 returns-in-Some-clause-known c =
