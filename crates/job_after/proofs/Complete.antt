@@ -112,8 +112,8 @@ can_begin None left right stimulus can = can.0
 
 -- a cycle that is told of circuits without cycles
 untold : (l r : NetView) (side : Side) (latches : List (List ℕ)) → IsCyclic l r side latches → IsAcyclic l × IsAcyclic r → ⊥
-untold l r A latches h free = is_not_free l [] latches h.2 free.0
-untold l r B latches h free = is_not_free r [] latches h.3 free.1
+untold l r A latches h free = is_not_free l [] latches h.1.1 free.0
+untold l r B latches h free = is_not_free r [] latches h.1.2 free.1
 
 -- none is told where all cycles can be compared, and none where a last one is named
 no_cycle : (cycles : Option ℕ) (left right stimulus : Option (List ℕ)) → CanBeSearchedBehind cycles left right stimulus → (side : Side) (latches : List (List ℕ)) →

@@ -7,13 +7,12 @@ ghost use Rattle.event_nodes.specs.Visited.{AreNodesFrom, places_weight};
 ghost use Rattle.event_classes.specs.event_functions.Functions.{signal_start};
 ghost use Rattle.event_classes.specs.event_functions.Refused.{HasFewNodes, IsOverweight};
 
-use crate::event_functions::event_reach::reached_latches;
+use crate::event_functions::event_reach::{MOST_REACHED, reached_latches};
 use event_nodes::event_variables::{Counter, EventCircuit, EventGraph, EventUnfoldError, Signal};
-use sec_base::{MAX_EVENT_NODES, MAX_WEIGHT};
+use sec_base::MAX_EVENT_NODES;
 use std::alloc::Global;
 
-/// Why the signal is refused, where its walk ended with this error: for more than 10,000 event nodes also where it weighs too much, and for
-/// memory where these can't be told within 2,000,000 latches at event nodes.
+/// Why the signal is refused, where its walk ended with this error: for more than 10,000 event nodes also where it weighs too much.
 pub(crate) fn signal_refusal(
     alloc: Global,
     circuit: &EventCircuit,
@@ -56,7 +55,7 @@ fn signal_nodes(
     if events.nodes() >= MAX_EVENT_NODES {
         return EventUnfoldError::TooManyEvents;
     }
-    let told = reached_latches(alloc, circuit, events, s, MAX_WEIGHT).is_ok();
+    let told = reached_latches(alloc, circuit, events, s, MOST_REACHED).is_ok();
     refusal(events.nodes(), told)
 }
 

@@ -8,14 +8,14 @@ ghost use Rattle.event_nodes.specs.Visited.{AreNodesFrom, places_weight};
 ghost use Rattle.edbf_unfold.specs.event_literals.event_walk.Walk.{enable_start};
 ghost use Rattle.event_classes.specs.event_functions.Refused.{HasFewNodes, IsOverweight};
 
-use crate::event_functions::event_reach::reached_others;
+use crate::event_functions::event_reach::{MOST_REACHED, reached_others};
 use crate::event_functions::refusal::refusal;
 use event_nodes::event_variables::{Counter, EventCircuit, EventGraph, EventUnfoldError};
-use sec_base::{MAX_EVENT_NODES, MAX_WEIGHT};
+use sec_base::MAX_EVENT_NODES;
 use std::alloc::Global;
 
 /// Why the enable of the latch with this position is refused, where its walk ended with this error: for more than 10,000 event nodes also where it
-/// weighs too much, and for memory where these can't be told within 2,000,000 latches at event nodes.
+/// weighs too much.
 pub(crate) fn enable_refusal(
     alloc: Global,
     circuit: &EventCircuit,
@@ -58,6 +58,6 @@ fn enable_nodes(
     if events.nodes() >= MAX_EVENT_NODES {
         return EventUnfoldError::TooManyEvents;
     }
-    let told = reached_others(alloc, circuit, events, j, MAX_WEIGHT).is_ok();
+    let told = reached_others(alloc, circuit, events, j, MOST_REACHED).is_ok();
     refusal(events.nodes(), told)
 }

@@ -24,7 +24,7 @@ use std::alloc::Global;
 
 /// Puts the latch at the node into the table. `TooLarge` comes where that then holds more than the cap.
 fn put(table: &mut PlaceTable, node: u32, latch: u32, cap: u32) -> Result<(), EventUnfoldError>
-    requires cap { cap ≤ 2000000 }
+    requires cap { cap ≤ 4000000000 }
     requires few { length table.old ≤ cap }
     ensures adds { Adds (λ q. q ≡ (node, latch)) table.old table.new }
     ensures here { OnOk result (Contains table.new (node, latch)) }
@@ -44,7 +44,7 @@ fn put_all(
     latches: &[Signal],
     cap: u32,
 ) -> Result<(), EventUnfoldError>
-    requires cap { cap ≤ 2000000 }
+    requires cap { cap ≤ 4000000000 }
     requires few { length table.old ≤ cap }
     ensures adds { Adds (λ q. (f : Signal) × Contains latches.now f × ((node, f.0) ≡ q)) table.old table.new }
     ensures all { OnOk result (All (λ f. Contains table.new (node, f.0)) latches.now) }
@@ -63,7 +63,7 @@ fn put_latches(
     signals: &UniqueTable<u32>,
     cap: u32,
 ) -> Result<(), EventUnfoldError>
-    requires cap { cap ≤ 2000000 }
+    requires cap { cap ≤ 4000000000 }
     requires few { length table.old ≤ cap }
     requires within { (i s : ℕ) → slice_get signals.now i ≡ Some s → s < length net.now.drivers }
     ensures adds { Adds (λ q. (q.0 ≡ 0) × Contains signals.now q.1 × ((name : List ℕ) × (next : ℕ) × IsLatch (circuit_of net.now) name q.1 next)) table.old table.new }
@@ -89,7 +89,7 @@ fn pass_on(
     place: Place,
     cap: u32,
 ) -> Result<(), EventUnfoldError>
-    requires cap { cap ≤ 2000000 }
+    requires cap { cap ≤ 4000000000 }
     requires few { length table.old ≤ cap }
     requires latch { (name : List ℕ) × (next : ℕ) × IsLatch (circuit_of circuit.now.net) name place.1 next }
     requires node { place.0 ≤ length events.old.children }
@@ -125,7 +125,7 @@ fn pass_on_all(
     table: &mut PlaceTable,
     cap: u32,
 ) -> Result<(), EventUnfoldError>
-    requires cap { cap ≤ 2000000 }
+    requires cap { cap ≤ 4000000000 }
     requires few { length table.old ≤ cap }
     requires reached { (x : Start ℕ) × All (IsReachedPlace circuit.now events.old.children x) table.old }
     requires room { length events.old.children + cap + 2 < 2 ^ 32 }
@@ -163,7 +163,7 @@ pub fn reached_latches(
     cap: u32,
 ) -> Result<PlaceTable, EventUnfoldError>
     requires signal { s.0 < length circuit.now.net.drivers }
-    requires cap { cap ≤ 2000000 }
+    requires cap { cap ≤ 4000000000 }
     requires room { length events.old.children + cap + 2 < 2 ^ 32 }
     ensures reached { IfOk result (λ table. LatchesHaveDepths (circuit_of circuit.now.net) (Enabled circuit.now) → AreReachedPlaces circuit.now events.new.children (record { place = s.0; left_out = None }) table) }
     ensures nodes { OnOk result (LatchesHaveDepths (circuit_of circuit.now.net) (Enabled circuit.now) → HoldsNodes circuit.now events.new.children (record { place = s.0; left_out = None })) }
@@ -191,7 +191,7 @@ pub fn reached_others(
     cap: u32,
 ) -> Result<PlaceTable, EventUnfoldError>
     requires latch { j < length circuit.now.net.latches }
-    requires cap { cap ≤ 2000000 }
+    requires cap { cap ≤ 4000000000 }
     requires room { length events.old.children + cap + 2 < 2 ^ 32 }
     ensures reached { IfOk result (λ table. (l : LatchAt) → slice_get circuit.now.net.latches j ≡ Some l → LatchesHaveDepths (circuit_of circuit.now.net) (Enabled circuit.now) → AreReachedPlaces circuit.now events.new.children (record { place = l.next.0; left_out = Some l.out.0 }) table) }
     ensures nodes { OnOk result ((l : LatchAt) → slice_get circuit.now.net.latches j ≡ Some l → LatchesHaveDepths (circuit_of circuit.now.net) (Enabled circuit.now) → HoldsNodes circuit.now events.new.children (record { place = l.next.0; left_out = Some l.out.0 })) }

@@ -11,6 +11,12 @@ use Rattle.job_after.proofs.Deepest.{decided}
 use Rattle.job_after.proofs.Searched.{refused_by, unfit, refused, endless, judged_by}
 use Rattle.job_after.proofs.judging.judge_after.Goals as goal
 
+pub last_cycle-requires-clause-left : goal.last_cycle-requires-clause-left
+last_cycle-requires-clause-left c = comparable c.args.a _ _ _ c.begin.new.net c.in_ok-left.ensures c.requires.left
+
+pub last_cycle-requires-clause-right : goal.last_cycle-requires-clause-right
+last_cycle-requires-clause-right c = comparable c.args.b _ _ _ c.begin-2.new.net c.in_ok-right.ensures c.requires.right
+
 pub search_cycles-requires-clause-left : goal.search_cycles-requires-clause-left
 search_cycles-requires-clause-left c = comparable c.args.a _ _ _ c.begin.new.net c.in_ok-left.ensures c.requires.left
 

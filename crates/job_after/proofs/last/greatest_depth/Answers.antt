@@ -1,5 +1,5 @@
 -- One pair more.
-use Rattle.std.proofs.Common.{◌≡◌, ◌∙◌, ◌≤◌, ℕ, List, [], ◌∷◌, ◌++◌, length, map, max, take, slice_get, Some, sym, ap, subst}
+use Rattle.std.proofs.Common.{◌≡◌, ◌∙◌, ◌+◌, ◌≤◌, ℕ, List, [], ◌∷◌, ◌++◌, length, map, max, take, slice_get, Some, sym, ap, subst}
 use Rattle.std.proofs.lemmas.List.{take_all, map-append}
 use Rattle.circuit_theory.proofs.Lists.{of_at}
 use Rattle.flat_net.specs.View.{circuit_of}
