@@ -237,17 +237,17 @@ allowed_cert rows job e =
     let conflicts = map_some (task.Cert a.0 b.0 pair.0 refuted.0) (conflicts_in rows) job refuted.2 in
     subst IsAllowed conflicts.2 (few rows conflicts.0 conflicts.1)
 
-allowed_inducted : (signals : Bool) (a b : Text) (n : ℕ) → n ≤ 200000 → IsAllowed (inducted_in signals a b n)
-allowed_inducted false a b n h = h
-allowed_inducted true a b n h = h
+allowed_inducted : (signals : Bool) (a b : Text) (n : ℕ) (after : Option Text) → n ≤ 200000 → IsAllowed (inducted_in signals a b n after)
+allowed_inducted false a b n None h = h
+allowed_inducted true a b n None h = h
+allowed_inducted false a b n (Some s) h = h
+allowed_inducted true a b n (Some s) h = h
 
 allowed_tied : (signals : Bool) (a b : Text) (n : ℕ) (assumed after : Option Text) → n ≤ 200000 → (job : Task) → tied_in signals a b n assumed after ≡ Some job → IsAllowed job
-allowed_tied signals a b n None None h job e = subst IsAllowed (some_is e) (allowed_inducted signals a b n h)
-allowed_tied false a b n None (Some s) h job e = absurd (cc)
+allowed_tied signals a b n None after h job e = subst IsAllowed (some_is e) (allowed_inducted signals a b n after h)
 allowed_tied false a b n (Some c) after h job e = absurd (cc)
 allowed_tied true a b n (Some c) None h job e = let here : IsAllowed (task.InductUnder a b c n) = h in subst IsAllowed (some_is e) here
 allowed_tied true a b n (Some c) (Some s) h job e = absurd (cc)
-allowed_tied true a b n None (Some s) h job e = let here : IsAllowed (task.InductAfter a b s n) = h in subst IsAllowed (some_is e) here
 
 allowed_induct : (rows : List Row) (job : Task) → induct_in rows ≡ Some job → IsAllowed job
 allowed_induct rows job e =

@@ -147,9 +147,7 @@ cert_job rows a b pair n ea eb ep en passes form = by (form_in rows) refl form
     by (Some f) e h = rw (ea, eb, ep, e, conflicts) refl
 
 tied_job : (signals : Bool) (a b : Text) (n : ℕ) (assumed after : Option Text) → ties_fit signals assumed after ≡ true → is_some (tied_in signals a b n assumed after) ≡ true
-tied_job signals a b n None None h = refl
-tied_job false a b n None (Some s) h = h
-tied_job true a b n None (Some s) h = refl
+tied_job signals a b n None after h = refl
 tied_job false a b n (Some c) after h = h
 tied_job true a b n (Some c) None h = refl
 tied_job true a b n (Some c) (Some s) h = h
@@ -279,7 +277,7 @@ induct_is words e help known =
     let a = first_good c (codes "a") _ rows refl read.good (read.required (codes "a") _ refl refl) in
     let b = first_good c (codes "b") _ rows refl read.good (read.required (codes "b") _ refl refl) in
     let n = first_good c (codes "conflicts") _ rows refl read.good (read.defaulted (codes "conflicts") _ (codes "20000") [] refl refl) in
-    induct_job rows a.0 b.0 n.0 a.1 b.1 n.1 n.2 known
+    induct_job rows a.0 b.0 n.0 a.1 b.1 n.1 n.2
 
 help_is : IsJob (built_leaf help_shape)
 help_is words e help known = absurd (true≢false help)

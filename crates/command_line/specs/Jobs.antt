@@ -134,17 +134,16 @@ cert_in rows =
     with_word (codes "a") rows (λ a. with_word (codes "b") rows (λ b. with_word (codes "pair") rows (λ pair.
     option_and_then (λ lrat. option_map (λ conflicts. task.Cert a b pair lrat conflicts) (conflicts_in rows)) (form_in rows))))
 
--- the induction over both circuits, by ties of signals with `--signals`, and else by blocks of latches
-abbrev pub inducted_in : Bool → Text → Text → ℕ → Task
-inducted_in false a b conflicts = task.Induct a b conflicts
-inducted_in true a b conflicts = task.InductSignals a b conflicts
+-- the induction over both circuits, by ties of signals with `--signals`, and else by blocks of latches; behind the rows of a stimulus where
+-- one is named
+abbrev pub inducted_in : Bool → Text → Text → ℕ → Option Text → Task
+inducted_in false a b conflicts None = task.Induct a b conflicts
+inducted_in true a b conflicts None = task.InductSignals a b conflicts
+inducted_in signals a b conflicts (Some s) = task.InductAfter a b s signals conflicts
 
--- The same where an assumption is named, or a stimulus, behind whose rows both are compared. Each stands only beside `--signals`, and not
--- beside the other.
+-- The same under an assumption where one is named, which stands only beside `--signals`, and not beside a stimulus.
 abbrev pub tied_in : Bool → Text → Text → ℕ → Option Text → Option Text → Option Task
-tied_in signals a b conflicts None None = Some (inducted_in signals a b conflicts)
-tied_in false a b conflicts None (Some s) = None
-tied_in true a b conflicts None (Some s) = Some (task.InductAfter a b s conflicts)
+tied_in signals a b conflicts None after = Some (inducted_in signals a b conflicts after)
 tied_in false a b conflicts (Some c) after = None
 tied_in true a b conflicts (Some c) None = Some (task.InductUnder a b c conflicts)
 tied_in true a b conflicts (Some c) (Some s) = None

@@ -29,9 +29,9 @@ pairs_fit rows =
     not (is_some (first_of (codes "pairs") rows))
     || (is_set (codes "expose") rows && (stands_alone (is_set (codes "settles") rows) (first_of (codes "assume") rows) (first_of (codes "cycles") rows) (first_of (codes "after") rows) && not (is_some (first_of (codes "pair") rows))))
 
--- An assumption and a stimulus aren't given, or one of them is beside `--signals`.
+-- No assumption is given, or it stands beside `--signals` and without a stimulus.
 abbrev pub ties_fit : Bool → Option Text → Option Text → Bool
-ties_fit signals assumed after = not (is_some assumed || is_some after) || (signals && not (is_some assumed && is_some after))
+ties_fit signals assumed after = not (is_some assumed) || (signals && not (is_some after))
 
 abbrev pub tied_fits : List Row → Bool
 tied_fits rows = ties_fit (is_set (codes "signals") rows) (first_of (codes "assume") rows) (first_of (codes "after") rows)
@@ -89,7 +89,7 @@ SignalsAreTaken =
     AreTaken (codes "induct" ∷ codes "a" ∷ codes "b" ∷ codes "--signals" ∷ [])
     × (job_of (codes "induct" ∷ codes "--signals" ∷ codes "a" ∷ codes "b" ∷ codes "--conflicts" ∷ codes "7" ∷ []) ≡ Some (task.InductSignals (codes "a") (codes "b") 7))
     × AreTaken (codes "induct" ∷ codes "a" ∷ codes "b" ∷ codes "--signals" ∷ codes "--after" ∷ codes "s" ∷ [])
-    × (job_of (codes "induct" ∷ codes "a" ∷ codes "b" ∷ codes "--signals" ∷ codes "--after" ∷ codes "s" ∷ []) ≡ Some (task.InductAfter (codes "a") (codes "b") (codes "s") 20000))
+    × (job_of (codes "induct" ∷ codes "a" ∷ codes "b" ∷ codes "--signals" ∷ codes "--after" ∷ codes "s" ∷ []) ≡ Some (task.InductAfter (codes "a") (codes "b") (codes "s") true 20000))
     × AreTaken (codes "induct" ∷ codes "a" ∷ codes "b" ∷ codes "--signals" ∷ codes "--assume" ∷ codes "c" ∷ [])
     × (job_of (codes "induct" ∷ codes "a" ∷ codes "b" ∷ codes "--signals" ∷ codes "--assume" ∷ codes "c" ∷ []) ≡ Some (task.InductUnder (codes "a") (codes "b") (codes "c") 20000))
 
@@ -170,14 +170,14 @@ AfterIsTaken =
     AreTaken (codes "check" ∷ codes "a" ∷ codes "b" ∷ codes "--reset" ∷ codes "--cycles" ∷ codes "20" ∷ codes "--after" ∷ codes "s" ∷ [])
     × (job_of (codes "check" ∷ codes "a" ∷ codes "b" ∷ codes "--reset" ∷ codes "--cycles" ∷ codes "20" ∷ codes "--after" ∷ codes "s" ∷ []) ≡ Some (task.After (codes "a") (codes "b") (codes "s") (Some 20) 20000))
     × (job_of (codes "check" ∷ codes "a" ∷ codes "b" ∷ codes "--reset" ∷ codes "--after" ∷ codes "s" ∷ []) ≡ Some (task.After (codes "a") (codes "b") (codes "s") None 20000))
+    × (job_of (codes "induct" ∷ codes "a" ∷ codes "b" ∷ codes "--after" ∷ codes "s" ∷ []) ≡ Some (task.InductAfter (codes "a") (codes "b") (codes "s") false 20000))
 
--- since `--after` stands without `--reset`, or with `--assume`; behind `induct` without `--signals`
+-- since `--after` stands without `--reset`, or with `--assume`
 abbrev pub AfterIsNoJob : Type 0
 AfterIsNoJob =
     AreNoJob (codes "check" ∷ codes "a" ∷ codes "b" ∷ codes "--after" ∷ codes "s" ∷ [])
     × AreNoJob (codes "check" ∷ codes "a" ∷ codes "b" ∷ codes "--cycles" ∷ codes "20" ∷ codes "--after" ∷ codes "s" ∷ [])
     × AreNoJob (codes "check" ∷ codes "a" ∷ codes "b" ∷ codes "--reset" ∷ codes "--cycles" ∷ codes "20" ∷ codes "--after" ∷ codes "s" ∷ codes "--assume" ∷ codes "c" ∷ [])
-    × AreNoJob (codes "induct" ∷ codes "a" ∷ codes "b" ∷ codes "--after" ∷ codes "s" ∷ [])
 
 -- words with `--pair`, and what they ask for
 abbrev pub PairIsTaken : Type 0

@@ -21,10 +21,9 @@ use std::alloc::{AllocError, Global};
 pub enum WordsError {
     /// `clap`'s definition for the command doesn't take the words, the mode is neither `plain` nor `event`, `--reset` stands with
     /// `event`, with `--expose` or with `--settles`, `--cycles` or `--after` of `check` stands without
-    /// `--reset`, `--after` with `--assume`, `--after` or `--assume` of `induct` without `--signals` or
-    /// both there, `--pair` with `--settles`, `--assume`, `--cycles` or `--after`, `--pairs` with one of
-    /// these or with `--pair` or without `--expose`, or the form of a certificate is neither `cnf` nor
-    /// `lrat`.
+    /// `--reset`, `--after` with `--assume`, `--assume` of `induct` without `--signals`, `--pair` with
+    /// `--settles`, `--assume`, `--cycles` or `--after`, `--pairs` with one of these or with `--pair` or
+    /// without `--expose`, or the form of a certificate is neither `cnf` nor `lrat`.
     Refused,
     /// Memory was wanted and couldn't be had.
     NoMemory,
@@ -561,31 +560,28 @@ fn induct_in(alloc: Global, matches: &ArgMatches<'_>) -> Result<Option<Task>, No
         return Ok(None);
     };
     let signals = is_set(matches, "signals");
-    let assumed = word(matches, "assume");
-    match word(matches, "after") {
-        Some(stimulus) => tied_in(alloc, signals, a, b, assumed, stimulus, conflicts),
-        None => match assumed {
-            Some(assumed) => tied_under(alloc, signals, a, b, assumed, conflicts),
-            None => {
-                let (a, b) = paths_of(alloc, a, b)?;
-                Ok(Some(inducted_in(signals, a, b, conflicts)))
-            }
-        },
+    let after = word(matches, "after");
+    if let Some(assumed) = word(matches, "assume") {
+        return tied_under(alloc, signals, a, b, conflicts, assumed, after);
     }
+    let after = path_of(alloc, after)?;
+    let (a, b) = paths_of(alloc, a, b)?;
+    Ok(Some(inducted_in(signals, a, b, conflicts, after)))
 }
 
-/// The comparison by ties of signals under an assumption. It stands only beside `--signals`.
+/// The comparison by ties of signals under an assumption. It stands only beside `--signals`, and not beside a stimulus.
 fn tied_under(
     alloc: Global,
     signals: bool,
     a: &str,
     b: &str,
-    assumed: &str,
     conflicts: u32,
+    assumed: &str,
+    after: Option<&str>,
 ) -> Result<Option<Task>, NoMemory>
-    ensures { IfOk result (λ task. task ≡ tied_in signals a.now b.now conflicts (Some assumed.now) None) }
+    ensures { IfOk result (λ task. task ≡ tied_in signals a.now b.now conflicts (Some assumed.now) (option_map (λ w. w.now) after.entry)) }
 {
-    if !signals {
+    if !signals || after.is_some() {
         return Ok(None);
     }
     let c = FilePath::from_str(alloc, assumed)?;
@@ -593,30 +589,25 @@ fn tied_under(
     Ok(Some(Task::InductUnder { a, b, c, conflicts }))
 }
 
-/// The comparison by ties of signals behind the rows of the stimulus. It stands only beside `--signals`, and without an assumption.
-fn tied_in(
-    alloc: Global,
+/// The induction over these files, by ties of signals where `--signals` stands, and behind the rows of a stimulus where one is named.
+fn inducted_in(
     signals: bool,
-    a: &str,
-    b: &str,
-    assumed: Option<&str>,
-    stimulus: &str,
+    a: FilePath,
+    b: FilePath,
     conflicts: u32,
-) -> Result<Option<Task>, NoMemory>
-    ensures { IfOk result (λ task. task ≡ tied_in signals a.now b.now conflicts (option_map (λ w. w.now) assumed.entry) (Some stimulus.now)) }
+    after: Option<FilePath>,
+) -> Task
+    ensures { result ≡ inducted_in signals a b conflicts after }
 {
-    if !signals || assumed.is_some() {
-        return Ok(None);
+    if let Some(s) = after {
+        return Task::InductAfter {
+            a,
+            b,
+            s,
+            signals,
+            conflicts,
+        };
     }
-    let s = FilePath::from_str(alloc, stimulus)?;
-    let (a, b) = paths_of(alloc, a, b)?;
-    Ok(Some(Task::InductAfter { a, b, s, conflicts }))
-}
-
-/// The induction over these files, by ties of signals where `--signals` stands.
-fn inducted_in(signals: bool, a: FilePath, b: FilePath, conflicts: u32) -> Task
-    ensures { result ≡ inducted_in signals a b conflicts }
-{
     if signals {
         return Task::InductSignals { a, b, conflicts };
     }

@@ -125,11 +125,12 @@ pub enum Task {
         c: FilePath,
         conflicts: u32,
     },
-    /// Compare them by ties of signals behind the rows of a stimulus, whatever they power up with.
+    /// Compare them behind the rows of a stimulus, whatever they power up with: by ties of signals, or by blocks of latches.
     InductAfter {
         a: FilePath,
         b: FilePath,
         s: FilePath,
+        signals: bool,
         conflicts: u32,
     },
 }
@@ -236,6 +237,7 @@ impl Drop for Task {
                 a: _,
                 b: _,
                 s: _,
+                signals: _,
                 conflicts: _,
             } => {}
         }

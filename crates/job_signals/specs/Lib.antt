@@ -2,4 +2,4 @@ pub mod Judged
 pub mod Found
 pub mod Ends
 pub mod Answer
-pub mod job_tied
+pub mod job_begun

@@ -2,8 +2,7 @@
 #![tactic(auto)]
 
 mod comparison;
-pub mod job_tied;
+pub mod job_begun;
 mod judging;
 
 pub use comparison::{SignalComparison, compare_by_signals};
-pub use judging::{JudgeError, Judged, judge_nets};

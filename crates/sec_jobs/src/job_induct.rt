@@ -5,3 +5,4 @@ pub mod induct_meaning;
 mod judging;
 
 pub use comparison::{BlockComparison, compare_by_blocks};
+pub use judging::{JudgeError, Judged, judge_nets};

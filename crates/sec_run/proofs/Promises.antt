@@ -29,9 +29,9 @@ use Rattle.job_under.proofs.Means.{under_means}
 use Rattle.job_under.proofs.Complete.{under_complete}
 use Rattle.job_under.proofs.ties.Means.{ties_mean}
 use Rattle.job_under.proofs.ties.Complete.{ties_complete}
-use Rattle.job_signals.proofs.job_tied.Means.{tied_means}
+use Rattle.job_signals.proofs.job_begun.Means.{begun_means}
 use Rattle.job_signals.proofs.Complete.{signals_complete}
-use Rattle.job_signals.proofs.job_tied.Complete.{tied_complete}
+use Rattle.job_signals.proofs.job_begun.Complete.{begun_complete}
 use Rattle.job_gen.proofs.gen_meaning.Means.{gen_means, gen_complete}
 use Rattle.job_cert.proofs.job_lrat.Means.{lrat_means, lrat_complete}
 use Rattle.job_cert.proofs.Means.{cert_means}
@@ -66,7 +66,7 @@ means held (Some (task.After a b s cycles conflicts)) before now f proofs name f
 means held (Some (task.Induct a b conflicts)) before now f proofs name found w = induct_means conflicts (held a) (held b) before now f proofs name found w
 means held (Some (task.InductSignals a b conflicts)) before now f proofs name found w = signals_means (held a) (held b) before now f proofs name found w
 means held (Some (task.InductUnder a b c conflicts)) before now f proofs name found w = ties_mean conflicts (held a) (held b) (held c) before now f proofs name found w
-means held (Some (task.InductAfter a b s conflicts)) before now f proofs name found w = tied_means (held a) (held b) (held s) before now f proofs name found w
+means held (Some (task.InductAfter a b s signals conflicts)) before now f proofs name found w = begun_means conflicts (held a) (held b) (held s) before now signals f proofs name found w
 
 -- a run that ends before it has found anything says nothing
 pub memory_means : (held : Held) (job : Option Task) (before now : Option (List ℕ)) (proofs : List Proof) → Means held job before now proofs status.NoMemory
@@ -88,7 +88,7 @@ memory_means held (Some (task.After a b s cycles conflicts)) before now proofs =
 memory_means held (Some (task.Induct a b conflicts)) before now proofs = tt
 memory_means held (Some (task.InductSignals a b conflicts)) before now proofs = tt
 memory_means held (Some (task.InductUnder a b c conflicts)) before now proofs = tt
-memory_means held (Some (task.InductAfter a b s conflicts)) before now proofs = tt
+memory_means held (Some (task.InductAfter a b s signals conflicts)) before now proofs = tt
 
 pub fault_means : (held : Held) (job : Option Task) (before now : Option (List ℕ)) (proofs : List Proof) → Means held job before now proofs status.ReadFault
 fault_means held None before now proofs = tt
@@ -109,7 +109,7 @@ fault_means held (Some (task.After a b s cycles conflicts)) before now proofs = 
 fault_means held (Some (task.Induct a b conflicts)) before now proofs = tt
 fault_means held (Some (task.InductSignals a b conflicts)) before now proofs = tt
 fault_means held (Some (task.InductUnder a b c conflicts)) before now proofs = tt
-fault_means held (Some (task.InductAfter a b s conflicts)) before now proofs = tt
+fault_means held (Some (task.InductAfter a b s signals conflicts)) before now proofs = tt
 
 -- a job that can be done is done, by what is found of it
 is_complete : (held : Held) (job : Option Task) (f : Finding) → IsFinding held job f → IsComplete held job (status_of f)
@@ -131,7 +131,7 @@ is_complete held (Some (task.After a b s cycles conflicts)) f found = after_comp
 is_complete held (Some (task.Induct a b conflicts)) f found = induct_complete conflicts (held a) (held b) f found
 is_complete held (Some (task.InductSignals a b conflicts)) f found = signals_complete (held a) (held b) f found
 is_complete held (Some (task.InductUnder a b c conflicts)) f found = ties_complete conflicts (held a) (held b) (held c) f found
-is_complete held (Some (task.InductAfter a b s conflicts)) f found = tied_complete (held a) (held b) (held s) f found
+is_complete held (Some (task.InductAfter a b s signals conflicts)) f found = begun_complete signals conflicts (held a) (held b) (held s) f found
 
 -- so is one that ends at want of memory
 pub memory_is_complete : (held : Held) (job : Option Task) → IsComplete held job status.NoMemory
@@ -153,7 +153,7 @@ memory_is_complete held (Some (task.After a b s cycles conflicts)) = λ can. tt
 memory_is_complete held (Some (task.Induct a b conflicts)) = λ can. tt
 memory_is_complete held (Some (task.InductSignals a b conflicts)) = λ can. tt
 memory_is_complete held (Some (task.InductUnder a b c conflicts)) = λ can. tt
-memory_is_complete held (Some (task.InductAfter a b s conflicts)) = λ can. tt
+memory_is_complete held (Some (task.InductAfter a b s signals conflicts)) = λ can. tt
 
 -- so a run is complete that ends with a finding, or at want of memory
 pub written_is_complete : (held : Held) (job : Option Task) (before now : Option (List ℕ)) (f : Finding) (proofs : List Proof) (name : StatusName) →

@@ -21,7 +21,7 @@ use Rattle.job_pair.specs.Found.{check_of, IsPairFound}
 use Rattle.job_pair.specs.job_renamed.Found.{IsRenamedFound}
 use Rattle.job_settles.specs.Found.{IsSettlesFound}
 use Rattle.job_signals.specs.Found.{IsSignalsFound}
-use Rattle.job_signals.specs.job_tied.Found.{IsTiedFound}
+use Rattle.job_signals.specs.job_begun.Found.{IsBegunFound}
 use Rattle.job_under.specs.Found.{IsUnderFound}
 use Rattle.job_under.specs.ties.Found.{AreTiesFound}
 use Rattle.job_gen.specs.gen_meaning.Found.{IsGenFound}
@@ -50,7 +50,7 @@ IsFoundOfJob held (task.After a b s cycles conflicts) f = IsAfterFound cycles co
 IsFoundOfJob held (task.Induct a b conflicts) f = IsInductFound conflicts (held a) (held b) f
 IsFoundOfJob held (task.InductSignals a b conflicts) f = IsSignalsFound (held a) (held b) f
 IsFoundOfJob held (task.InductUnder a b c conflicts) f = AreTiesFound conflicts (held a) (held b) (held c) f
-IsFoundOfJob held (task.InductAfter a b s conflicts) f = IsTiedFound (held a) (held b) (held s) f
+IsFoundOfJob held (task.InductAfter a b s signals conflicts) f = IsBegunFound signals conflicts (held a) (held b) (held s) f
 
 -- what is found: that the words are no job, or what is true of the job
 abbrev pub IsFinding : Held → Option Task → Finding → Type 0

@@ -32,7 +32,7 @@ paths_of (task.After a b s cycles conflicts) = replay_paths a b s
 paths_of (task.Induct a b conflicts) = induct_paths a b
 paths_of (task.InductSignals a b conflicts) = induct_paths a b
 paths_of (task.InductUnder a b c conflicts) = under_paths a b c
-paths_of (task.InductAfter a b s conflicts) = replay_paths a b s
+paths_of (task.InductAfter a b s signals conflicts) = replay_paths a b s
 
 -- none where the words are no job
 abbrev pub paths_in : Option Task → List (List ℕ)
@@ -58,7 +58,7 @@ GoesOn (task.After a b s cycles conflicts) = IsLoaded
 GoesOn (task.Induct a b conflicts) = IsLoaded
 GoesOn (task.InductSignals a b conflicts) = IsLoaded
 GoesOn (task.InductUnder a b c conflicts) = IsLoaded
-GoesOn (task.InductAfter a b s conflicts) = IsLoaded
+GoesOn (task.InductAfter a b s signals conflicts) = IsLoaded
 
 -- words that are no job read nothing
 abbrev pub GoesOnIn : Option Task → Option (List ℕ) → Type 0

@@ -17,7 +17,7 @@ use Rattle.job_pair.specs.Found.{check_of}
 use Rattle.job_pair.specs.job_renamed.Answer.{RenamedMeans, IsRenamedComplete}
 use Rattle.job_settles.specs.Answer.{SettlesMeans}
 use Rattle.job_signals.specs.Answer.{SignalsMeans}
-use Rattle.job_signals.specs.job_tied.Answer.{TiedMeans, IsTiedComplete}
+use Rattle.job_signals.specs.job_begun.Answer.{BegunMeans, IsBegunComplete}
 use Rattle.job_under.specs.Answer.{UnderMeans, IsUnderComplete}
 use Rattle.job_under.specs.ties.Answer.{TiesMean, AreTiesComplete}
 use Rattle.job_gen.specs.gen_meaning.Answer.{GenMeans, IsGenAnswer}
@@ -47,7 +47,7 @@ Means held (Some (task.After a b s cycles conflicts)) before now proofs name = A
 Means held (Some (task.Induct a b conflicts)) before now proofs name = InductMeans conflicts (held a) (held b) before now proofs name
 Means held (Some (task.InductSignals a b conflicts)) before now proofs name = SignalsMeans (held a) (held b) before now proofs name
 Means held (Some (task.InductUnder a b c conflicts)) before now proofs name = TiesMean conflicts (held a) (held b) (held c) before now proofs name
-Means held (Some (task.InductAfter a b s conflicts)) before now proofs name = TiedMeans (held a) (held b) (held s) before now proofs name
+Means held (Some (task.InductAfter a b s signals conflicts)) before now proofs name = BegunMeans signals conflicts (held a) (held b) (held s) before now proofs name
 
 -- Where the job can be done, it ends so, if no read and no write fails; words that are no job are told.
 abbrev pub IsComplete : Held → Option Task → StatusName → Type 0
@@ -69,4 +69,4 @@ IsComplete held (Some (task.After a b s cycles conflicts)) name = IsAfterComplet
 IsComplete held (Some (task.Induct a b conflicts)) name = IsInductComplete (held a) (held b) name
 IsComplete held (Some (task.InductSignals a b conflicts)) name = IsInductComplete (held a) (held b) name
 IsComplete held (Some (task.InductUnder a b c conflicts)) name = AreTiesComplete conflicts (held a) (held b) (held c) name
-IsComplete held (Some (task.InductAfter a b s conflicts)) name = IsTiedComplete (held a) (held b) (held s) name
+IsComplete held (Some (task.InductAfter a b s signals conflicts)) name = IsBegunComplete (held a) (held b) (held s) name

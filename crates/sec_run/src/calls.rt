@@ -25,7 +25,7 @@ use job_gen::{Generation, compare_generated};
 use job_pair::job_renamed::{RenamedComparison, compare_renamed};
 use job_pair::{PairComparison, compare_pair};
 use job_settles::check_settles;
-use job_signals::job_tied::{TiedComparison, compare_tied};
+use job_signals::job_begun::{BegunComparison, compare_begun};
 use job_signals::{SignalComparison, compare_by_signals};
 use job_under::ties::{TiesComparison, compare_ties};
 use job_under::{UnderComparison, compare_under};
@@ -253,14 +253,21 @@ fn find<S: Shelf>(alloc: Global, task: &Task, shelf: &mut S) -> Result<Finding, 
             };
             compare_ties(alloc, &comparison, shelf)
         }
-        Task::InductAfter { a, b, s, conflicts } => {
-            let comparison = TiedComparison {
+        Task::InductAfter {
+            a,
+            b,
+            s,
+            signals,
+            conflicts,
+        } => {
+            let comparison = BegunComparison {
                 left: a.as_str(),
                 right: b.as_str(),
                 stimulus: s.as_str(),
+                signals: *signals,
                 conflicts: *conflicts,
             };
-            compare_tied(alloc, &comparison, shelf)
+            compare_begun(alloc, &comparison, shelf)
         }
     }
 }

@@ -28,7 +28,7 @@ use Rattle.job_base.specs.sec_files.Loading.{Loads}
 use Rattle.job_base.specs.sec_files.Stimuli.{IsStimulus}
 use Rattle.job_circuit.specs.replay.replay_header.Header.{opened}
 use Rattle.job_after.specs.Answer.{IsWide, CanBeBegun}
-use Rattle.job_signals.specs.job_tied.Found.{IsHeavy}
+use Rattle.job_signals.specs.job_begun.Found.{IsHeavy}
 use Rattle.job_check.specs.check_meaning.design_rows.NoFault.{has_no_fault}
 use Rattle.job_check.specs.check_meaning.design_rows.Designs.{one_model, same_cover, not_cover}
 use Rattle.job_check.specs.check_meaning.design_rows.Designs as design

@@ -1,7 +1,7 @@
 -- Texts that meet the premise of what is promised of comparisons behind a reset sequence.
 use Rattle.std.specs.Prelude.{ℕ, List, Some, None, codes}
 use Rattle.job_after.specs.Answer.{IsWide, CanBeBegun, CanBeSearchedBehind}
-use Rattle.job_signals.specs.job_tied.Found.{IsHeavy}
+use Rattle.job_signals.specs.job_begun.Found.{IsHeavy}
 use Rattle.job_check.specs.check_meaning.design_rows.Texts.{late, early}
 use Rattle.premise_rows.specs.job_rows.Replays.{both_and_none}
 

@@ -19,15 +19,15 @@ use std::alloc::Global;
 
 /// What is judged of two circuits: with the proofs of the queries that met the limit, and the report.
 #[derive(Drop)]
-pub(crate) struct Judged {
-    pub(crate) judgement: Judgement,
-    pub(crate) proofs: Proofs,
-    pub(crate) text: Text,
+pub struct Judged {
+    pub judgement: Judgement,
+    pub proofs: Proofs,
+    pub text: Text,
 }
 
 /// Why two circuits aren't judged.
 #[derive(Drop)]
-pub(crate) enum JudgeError {
+pub enum JudgeError {
     /// The first name that one circuit has and the other lacks.
     Interface(Word),
     /// All inputs, latches and gates of this circuit weigh too much together; A comes first.
@@ -62,12 +62,7 @@ impl From<InductError> for JudgeError {
 }
 
 /// Compares the circuits, where their interfaces match.
-pub(crate) fn judge_nets(
-    alloc: Global,
-    a: &Net,
-    b: &Net,
-    conflicts: u32,
-) -> Result<Judged, JudgeError>
+pub fn judge_nets(alloc: Global, a: &Net, b: &Net, conflicts: u32) -> Result<Judged, JudgeError>
     requires left { IsComparable a.now }
     requires right { IsComparable b.now }
     requires conflicts { conflicts ≤ MAX_CONFLICTS }

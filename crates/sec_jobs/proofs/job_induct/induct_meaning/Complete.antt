@@ -20,6 +20,12 @@ use Rattle.sec_jobs.specs.job_induct.induct_meaning.Judged.{judgement_of}
 use Rattle.sec_jobs.specs.job_induct.induct_meaning.Found.{IsInductRefusal, IsInductFound}
 use Rattle.sec_jobs.specs.job_induct.induct_meaning.Answer.{CanBeJudged, IsInductAnswer, IsInductComplete}
 
+pub judged : (v : InductVerdict) → IsInductAnswer (judgement_status (judgement_of v))
+judged verdict.Equal = tt
+judged (verdict.NotShown pair own other vars bits) = tt
+judged (verdict.Limit pair) = tt
+judged (verdict.SplitLimit own other proof) = tt
+
 module _ (left right : Option (List ℕ)) (x y : List ℕ) (is : left ≡ Some x) (also : right ≡ Some y) (can : CanBeJudged x y) where
   of_left : (P : List ℕ → Type 0) → IfSome left P → P x
   of_left P h = if_told left P x is h
@@ -61,12 +67,6 @@ module _ (left right : Option (List ℕ)) (x y : List ℕ) (is : left ≡ Some x
   stands refusal.Vacuous h = h
   stands (refusal.Pair name) h = h
   stands (refusal.Pairs fault) h = h
-
-  judged : (v : InductVerdict) → IsInductAnswer (judgement_status (judgement_of v))
-  judged verdict.Equal = tt
-  judged (verdict.NotShown pair own other vars bits) = tt
-  judged (verdict.Limit pair) = tt
-  judged (verdict.SplitLimit own other proof) = tt
 
   answered : (conflicts : ℕ) (f : Finding) → IsInductFound conflicts left right f → IsInductAnswer (status_of f)
   answered conflicts finding.Words h = absurd h

@@ -23,7 +23,7 @@ use Rattle.induct.specs.declared.induction.InductVerdict.TheVariants as verdict
 use Rattle.induct.specs.Inductions.{IsOver, IsSplitLimitOf}
 use Rattle.sec_jobs.specs.job_induct.induct_meaning.Judged.{judgement_of, IsJudged}
 use Rattle.sec_jobs.specs.job_induct.induct_meaning.Found.{OfNets, IsInductFound}
-use Rattle.sec_jobs.specs.job_induct.induct_meaning.Answer.{OfTexts, BlocksAgree, BlocksNotShown, BlocksUndecided, InductMeans}
+use Rattle.sec_jobs.specs.job_induct.induct_meaning.Answer.{OfTexts, BlocksAgree, IsUnshown, BlocksNotShown, PairUndecided, SplitUndecided, BlocksUndecided, InductMeans}
 use Rattle.sec_jobs.proofs.job_induct.induct_meaning.Judging.{tell_apart, pair_undecided, is_no_split, split_undecided}
 
 -- verdicts by their statuses
@@ -56,11 +56,53 @@ of_texts left right a b P l r f = record { left_loads = is_loaded left a l; righ
     both (Some x) None here there = tt
     both (Some x) (Some y) here there = f x y here there
 
+-- what the judgement of two nets says of them
+module _ (conflicts : ℕ) (a b : NetView) (j : Judgement) (proofs : List Proof) (text : List ℕ) (h : IsJudged a b conflicts j proofs text) where
+  pub equal_judged : judgement_status j ≡ status.Equal → h.made.verdict ≡ verdict.Equal
+  equal_judged e = equal_verdict h.made.verdict (ap judgement_status (sym h.judgement_is) ∙ e)
+
+  pub unshown : judgement_status j ≡ status.NotShown → IsUnshown a b conflicts h.made
+  unshown e = go h.is.is
+    where
+      v : IsNotShown h.made.verdict
+      v = not_shown_verdict h.made.verdict (ap judgement_status (sym h.judgement_is) ∙ e)
+
+      go : IsOver a b h.is.own conflicts h.made ⊎ IsSplitLimitOf a b h.is.own conflicts h.made → IsUnshown a b conflicts h.made
+      go (inl over) = record {
+        own = h.is.own;
+        are_own = h.is.are_own;
+        over = over;
+        pair = v.pair;
+        left = v.left;
+        right = v.right;
+        vars = v.vars;
+        bits = v.bits;
+        is_verdict = v.is;
+        shown = tell_apart a b h.is.own h.is.are_own conflicts h.made over h.left_sound h.right_sound h.matches v.pair v.left v.right v.vars v.bits v.is;
+      }
+      go (inr split) = absurd (other (sym v.is ∙ split.verdict_is))
+        where
+          other : {l r : Tag} {proof : Proof} → verdict.NotShown v.pair v.left v.right v.vars v.bits ≡ verdict.SplitLimit l r proof → ⊥
+          other q = cc
+
+  pub undecided : judgement_status j ≡ status.Limit → PairUndecided a b conflicts proofs h.made ⊎ SplitUndecided a b conflicts proofs h.made
+  undecided e = go h.is.is
+    where
+      limit : (v : InductVerdict) → h.made.verdict ≡ v → judgement_status (judgement_of v) ≡ status.Limit → IsOver a b h.is.own conflicts h.made → PairUndecided a b conflicts proofs h.made
+      limit verdict.Equal is q over = absurd (cc)
+      limit (verdict.NotShown pair l r vars bits) is q over = absurd (cc)
+      limit (verdict.Limit pair) is q over = pair_undecided a b h.is.own h.is.are_own conflicts h.made over proofs pair is h.proofs_are
+      limit (verdict.SplitLimit l r proof) is q over = absurd (is_no_split a b h.is.own h.is.are_own conflicts h.made over l r proof is)
+
+      go : IsOver a b h.is.own conflicts h.made ⊎ IsSplitLimitOf a b h.is.own conflicts h.made → PairUndecided a b conflicts proofs h.made ⊎ SplitUndecided a b conflicts proofs h.made
+      go (inl over) = inl (limit h.made.verdict refl (ap judgement_status (sym h.judgement_is) ∙ e) over)
+      go (inr split) = inr (split_undecided a b h.is.own h.is.are_own conflicts h.made split proofs h.proofs_are)
+
 module _ (conflicts : ℕ) (before now : Option (List ℕ)) (a b : NetView) (j : Judgement) (proofs : List Proof) (text : List ℕ) (h : IsJudged a b conflicts j proofs text) (taken : Takes before now text) (x y : List ℕ) (left : Loads x a)
     (right : Loads y b) where
   agree : judgement_status j ≡ status.Equal → BlocksAgree x y conflicts before now
   agree e =
-      let equal = equal_verdict h.made.verdict (ap judgement_status (sym h.judgement_is) ∙ e) in
+      let equal = equal_judged conflicts a b j proofs text h e in
       record {
         left_clock = a.clock;
         right_clock = b.clock;
@@ -81,72 +123,19 @@ module _ (conflicts : ℕ) (before now : Option (List ℕ)) (a b : NetView) (j :
       }
 
   not_shown : judgement_status j ≡ status.NotShown → BlocksNotShown x y conflicts before now
-  not_shown e = go h.is.is
-    where
-      v : IsNotShown h.made.verdict
-      v = not_shown_verdict h.made.verdict (ap judgement_status (sym h.judgement_is) ∙ e)
+  not_shown e = record { left_net = a; right_net = b; left_loads = left; right_loads = right; made = h.made; printed = subst (Takes before now) h.text_is taken; unshown = unshown conflicts a b j proofs text h e }
 
-      go : IsOver a b h.is.own conflicts h.made ⊎ IsSplitLimitOf a b h.is.own conflicts h.made → BlocksNotShown x y conflicts before now
-      go (inl over) = record {
-        left_net = a;
-        right_net = b;
-        left_loads = left;
-        right_loads = right;
-        made = h.made;
-        own = h.is.own;
-        are_own = h.is.are_own;
-        over = over;
-        pair = v.pair;
-        left = v.left;
-        right = v.right;
-        vars = v.vars;
-        bits = v.bits;
-        is_verdict = v.is;
-        printed = subst (Takes before now) h.text_is taken;
-        shown = tell_apart a b h.is.own h.is.are_own conflicts h.made over h.left_sound h.right_sound h.matches v.pair v.left v.right v.vars v.bits v.is;
-      }
-      go (inr split) = absurd (other (sym v.is ∙ split.verdict_is))
-        where
-          other : {l r : Tag} {proof : Proof} → verdict.NotShown v.pair v.left v.right v.vars v.bits ≡ verdict.SplitLimit l r proof → ⊥
-          other q = cc
-
-  undecided : judgement_status j ≡ status.Limit → BlocksUndecided x y conflicts proofs before now
-  undecided e = go h.is.is
-    where
-      limit : (v : InductVerdict) → h.made.verdict ≡ v → judgement_status (judgement_of v) ≡ status.Limit → IsOver a b h.is.own conflicts h.made → BlocksUndecided x y conflicts proofs before now
-      limit verdict.Equal is q over = absurd (cc)
-      limit (verdict.NotShown pair l r vars bits) is q over = absurd (cc)
-      limit (verdict.Limit pair) is q over = record {
-        left_net = a;
-        right_net = b;
-        left_loads = left;
-        right_loads = right;
-        made = h.made;
-        printed = subst (Takes before now) h.text_is taken;
-        undecided = inl (pair_undecided a b h.is.own h.is.are_own conflicts h.made over proofs pair is h.proofs_are);
-      }
-      limit (verdict.SplitLimit l r proof) is q over = absurd (is_no_split a b h.is.own h.is.are_own conflicts h.made over l r proof is)
-
-      go : IsOver a b h.is.own conflicts h.made ⊎ IsSplitLimitOf a b h.is.own conflicts h.made → BlocksUndecided x y conflicts proofs before now
-      go (inl over) = limit h.made.verdict refl (ap judgement_status (sym h.judgement_is) ∙ e) over
-      go (inr split) = record {
-        left_net = a;
-        right_net = b;
-        left_loads = left;
-        right_loads = right;
-        made = h.made;
-        printed = subst (Takes before now) h.text_is taken;
-        undecided = inr (split_undecided a b h.is.own h.is.are_own conflicts h.made split proofs h.proofs_are);
-      }
+  limited : judgement_status j ≡ status.Limit → BlocksUndecided x y conflicts proofs before now
+  limited e = record { left_net = a; right_net = b; left_loads = left; right_loads = right; made = h.made; printed = subst (Takes before now) h.text_is taken; undecided = undecided conflicts a b j proofs text h e }
 
 -- a verdict is none of the other statuses
-not_different : (v : InductVerdict) → judgement_status (judgement_of v) ≡ status.Different → ⊥
+pub not_different : (v : InductVerdict) → judgement_status (judgement_of v) ≡ status.Different → ⊥
 not_different verdict.Equal q = cc
 not_different (verdict.NotShown pair left right vars bits) q = cc
 not_different (verdict.Limit pair) q = cc
 not_different (verdict.SplitLimit left right proof) q = cc
 
-not_done : (j : Judgement) → judgement_status j ≡ status.Done → ⊥
+pub not_done : (j : Judgement) → judgement_status j ≡ status.Done → ⊥
 not_done judgement.Equal q = cc
 not_done judgement.Different q = cc
 not_done judgement.NotShown q = cc
@@ -163,7 +152,7 @@ module _ (conflicts : ℕ) (left right before now : Option (List ℕ)) where
       of_texts left right h.a h.b (λ x y. BlocksNotShown x y conflicts before now) h.left_loads h.right_loads (λ x y l r. not_shown conflicts before now h.a h.b j kept text h.said w.2 x y l r w.1)
   judged_means j kept text h proofs status.Limit w =
       of_texts left right h.a h.b (λ x y. BlocksUndecided x y conflicts proofs before now) h.left_loads h.right_loads
-      (λ x y l r. subst (λ (ps : List Proof). BlocksUndecided x y conflicts ps before now) (sym w.0) (undecided conflicts before now h.a h.b j kept text h.said w.2 x y l r w.1))
+      (λ x y l r. subst (λ (ps : List Proof). BlocksUndecided x y conflicts ps before now) (sym w.0) (limited conflicts before now h.a h.b j kept text h.said w.2 x y l r w.1))
   judged_means j kept text h proofs status.Refused w = tt
   judged_means j kept text h proofs status.Words w = tt
   judged_means j kept text h proofs status.ReadFault w = tt

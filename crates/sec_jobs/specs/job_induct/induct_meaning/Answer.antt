@@ -87,26 +87,29 @@ pub record TellApart (a b : NetView) (own : Orders) (blocks : List ℕ) (pair : 
   pub right_is : x (Right other) ≡ right
   pub differ : left ≢ right
 
--- The blocks that are printed are those of the coarsest inductive partition of the two texts' nets. The output that is named is the first
--- that isn't equal for all values that are constant on the blocks, as such values show, and no output met the limit. Nothing is said of
--- the circuits.
-pub record BlocksNotShown (x y : List ℕ) (conflicts : ℕ) (before now : Option (List ℕ)) : Type 0 where
-  pub left_net : NetView
-  pub right_net : NetView
-  pub left_loads : Loads x left_net
-  pub right_loads : Loads y right_net
-  pub made : Induction
+-- The blocks that are printed are those of the coarsest inductive partition of both nets. The output that is named is the first that isn't
+-- equal for all values that are constant on the blocks, as such values show, and no output met the limit. Nothing is said of the circuits.
+pub record IsUnshown (a b : NetView) (conflicts : ℕ) (made : Induction) : Type 0 where
   pub own : Orders
-  pub are_own : AreOwnNumbers left_net right_net own
-  pub over : IsOver left_net right_net own conflicts made
+  pub are_own : AreOwnNumbers a b own
+  pub over : IsOver a b own conflicts made
   pub pair : List ℕ
   pub left : Bool
   pub right : Bool
   pub vars : List ℕ
   pub bits : List Bool
   pub is_verdict : made.verdict ≡ verdict.NotShown pair left right vars bits
+  pub shown : TellApart a b own over.n.blocks.now pair left right vars bits
+
+-- this is so of the two texts' nets, and printed
+pub record BlocksNotShown (x y : List ℕ) (conflicts : ℕ) (before now : Option (List ℕ)) : Type 0 where
+  pub left_net : NetView
+  pub right_net : NetView
+  pub left_loads : Loads x left_net
+  pub right_loads : Loads y right_net
+  pub made : Induction
   pub printed : IsPrinted left_net right_net conflicts made before now
-  pub shown : TellApart left_net right_net own over.n.blocks.now pair left right vars bits
+  pub unshown : IsUnshown left_net right_net conflicts made
 
 -- The report names an output of both nets, whose query over the blocks of the coarsest inductive partition has more than 16 variables and
 -- met the limit, which one of the proofs shows: its clauses, and a log of exactly as many chains as conflicts are allowed.

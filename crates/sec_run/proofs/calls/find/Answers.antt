@@ -56,6 +56,9 @@ compare_ties-requires g c = subst IsAllowed c.in-InductUnder.is c.requires
 pub compare_after-requires : goal.compare_after-requires
 compare_after-requires g c = (subst IsAllowed c.in-After.is c.requires).0
 
+pub compare_begun-requires : goal.compare_begun-requires
+compare_begun-requires g c = subst IsAllowed c.in-InductAfter.is c.requires
+
 pub returns-in-Gen-clause-found : goal.returns-in-Gen-clause-found
 returns-in-Gen-clause-found g c =
     let held = g.S.Shelf.held c.args.shelf.now in
