@@ -1,3 +1,5 @@
 pub mod Cycles
 pub mod FirstCycle
 pub mod Searched
+pub mod SearchedUnder
+pub mod Under

@@ -1,2 +1,4 @@
 pub mod Cycles
 pub mod Searched
+pub mod Under
+pub mod SearchedUnder
