@@ -11,7 +11,7 @@ use Rattle.sec_base.specs.declared.settings.Settings.{Settings}
 use Rattle.command_line.specs.declared.task.Task.{Task}
 use Rattle.command_line.specs.declared.task.Task.TheVariants as task
 use Rattle.command_line.specs.command_words.Command.{sec_app, most_conflicts, most_cycles, any_number}
-use Rattle.command_line.specs.Jobs.{task_in, check_in, compared_in, checked_in, begun_in, paired_in, stands_alone, graph_in, sim_in, replay_in, settle_in, gen_in, lrat_in, cert_in, induct_in, form_in, settings_in, conflicts_in, mode_in, mode_of, refuses_reset, number_of, is_set, with_word, inducted_in, tied_in, searched_in}
+use Rattle.command_line.specs.Jobs.{task_in, check_in, compared_in, checked_in, begun_in, paired_in, stands_alone, graph_in, sim_in, replay_in, settle_in, gen_in, lrat_in, cert_in, induct_in, form_in, settings_in, conflicts_in, mode_in, mode_of, refuses_reset, number_of, is_set, with_word, inducted_in, tied_in, searched_in, begun_search}
 use Rattle.command_line.specs.Allowed.{IsAllowed, JobsAreAllowed}
 
 some_is : {X : Type 0} {x y : X} → Some x ≡ Some y → x ≡ y
@@ -122,15 +122,18 @@ allowed_checked settles a b s assumed (Some word) allowed always job e =
     let cycles = map_some (λ n. searched_in a b assumed n s.conflicts) (number_of most_cycles word) job set.1 in
     subst IsAllowed cycles.2 (allowed_searched a b assumed cycles.0 s.conflicts (allowed.0, few_cycles word cycles.0 cycles.1))
 
+allowed_behind : (a b z : Text) (assumed : Option Text) (n conflicts : ℕ) → (conflicts ≤ 200000) × (n ≤ 1000) → IsAllowed (begun_search a b z assumed n conflicts)
+allowed_behind a b z None n conflicts h = h
+allowed_behind a b z (Some c) n conflicts h = h
+
 -- the same behind the rows of a stimulus, where one is named
 allowed_begun : (settles : Bool) (a b : Text) (s : Settings) (assumed cycles after : Option Text) → AreAllowed s → (settles ≡ true → s.reset ≡ false) → (job : Task) → begun_in settles a b s assumed cycles after ≡ Some job → IsAllowed job
 allowed_begun settles a b s assumed cycles None allowed always job e = allowed_checked settles a b s assumed cycles allowed always job e
 allowed_begun settles a b s assumed None (Some z) allowed always job e = absurd (cc)
-allowed_begun settles a b s (Some c) (Some word) (Some z) allowed always job e = absurd (cc)
-allowed_begun settles a b s None (Some word) (Some z) allowed always job e =
-    let set = where_true s.reset (option_map (λ n. task.After a b z n s.conflicts) (number_of most_cycles word)) job e in
-    let cycles = map_some (λ n. task.After a b z n s.conflicts) (number_of most_cycles word) job set.1 in
-    subst IsAllowed cycles.2 (allowed.0, few_cycles word cycles.0 cycles.1)
+allowed_begun settles a b s assumed (Some word) (Some z) allowed always job e =
+    let set = where_true s.reset (option_map (λ n. begun_search a b z assumed n s.conflicts) (number_of most_cycles word)) job e in
+    let cycles = map_some (λ n. begun_search a b z assumed n s.conflicts) (number_of most_cycles word) job set.1 in
+    subst IsAllowed cycles.2 (allowed_behind a b z assumed cycles.0 s.conflicts (allowed.0, few_cycles word cycles.0 cycles.1))
 
 -- or the comparison of the outputs of one name
 allowed_paired : (settles : Bool) (a b : Text) (s : Settings) (assumed cycles after pair : Option Text) → AreAllowed s → (settles ≡ true → s.reset ≡ false) → (job : Task) → paired_in settles a b s assumed cycles after pair ≡ Some job → IsAllowed job

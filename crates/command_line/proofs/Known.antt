@@ -46,13 +46,12 @@ checked_job : (settles : Bool) (a b : Text) (s : Settings) (assumed cycles : Opt
 checked_job settles a b s assumed None fits = refl
 checked_job settles a b s assumed (Some w) fits = let f = fits w refl in let n = number_known most_cycles w f.0 in rw (f.1, n) refl
 
--- the same behind the rows of a stimulus, which stands beside a number of cycles and without an assumption
+-- the same behind the rows of a stimulus, which stands beside a number of cycles
 begun_job : (settles : Bool) (a b : Text) (s : Settings) (assumed cycles after : Option Text) → ((w : Text) → cycles ≡ Some w → (value_kinds false most_cycles w ≡ []) × (s.reset ≡ true)) →
-    (not (is_some after) || (is_some cycles && not (is_some assumed))) ≡ true → is_some (begun_in settles a b s assumed cycles after) ≡ true
+    (not (is_some after) || is_some cycles) ≡ true → is_some (begun_in settles a b s assumed cycles after) ≡ true
 begun_job settles a b s assumed cycles None fits named = checked_job settles a b s assumed cycles fits
 begun_job settles a b s assumed None (Some z) fits named = absurd (true≢false (sym named))
-begun_job settles a b s (Some c) (Some w) (Some z) fits named = absurd (true≢false (sym named))
-begun_job settles a b s None (Some w) (Some z) fits named = let f = fits w refl in let n = number_known most_cycles w f.0 in rw (f.1, n) refl
+begun_job settles a b s assumed (Some w) (Some z) fits named = let f = fits w refl in let n = number_known most_cycles w f.0 in rw (f.1, n) refl
 
 -- or the comparison of the outputs of one name, which stands beside none of these
 paired_job : (settles : Bool) (a b : Text) (s : Settings) (assumed cycles after pair : Option Text) → is_some (begun_in settles a b s assumed cycles after) ≡ true → (not (is_some pair) || stands_alone settles assumed cycles after) ≡ true →

@@ -66,12 +66,15 @@ abbrev pub checked_in : Bool → Text → Text → Settings → Option Text → 
 checked_in settles a b settings assumed None = Some (compared_in settles a b settings assumed)
 checked_in settles a b settings assumed (Some word) = search_in a b settings assumed word
 
--- the search behind the rows of a stimulus, up to the cycle that the word spells; it stands only beside `--reset` and `--cycles`, and
--- without an assumption
+-- the search of these files behind the rows of a stimulus, under an assumption where one is named
+abbrev pub begun_search : Text → Text → Text → Option Text → ℕ → ℕ → Task
+begun_search a b s None cycles conflicts = task.After a b s cycles conflicts
+begun_search a b s (Some c) cycles conflicts = task.AfterUnder a b c s cycles conflicts
+
+-- the search behind the rows of a stimulus, up to the cycle that the word spells; it stands only beside `--reset` and `--cycles`
 abbrev pub after_in : Text → Text → Text → Settings → Option Text → Option Text → Option Task
 after_in a b s settings assumed None = None
-after_in a b s settings (Some assumed) (Some word) = None
-after_in a b s settings None (Some word) = if settings.reset then option_map (λ cycles. task.After a b s cycles settings.conflicts) (number_of most_cycles word) else None
+after_in a b s settings assumed (Some word) = if settings.reset then option_map (λ cycles. begun_search a b s assumed cycles settings.conflicts) (number_of most_cycles word) else None
 
 -- the same where a stimulus is named
 abbrev pub begun_in : Bool → Text → Text → Settings → Option Text → Option Text → Option Text → Option Task

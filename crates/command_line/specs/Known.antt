@@ -15,9 +15,9 @@ cycles_given rows (Some word) = is_set (codes "reset") rows
 abbrev pub cycles_fit : List Row → Bool
 cycles_fit rows = cycles_given rows (first_of (codes "cycles") rows)
 
--- `--after` isn't given, or stands beside `--cycles` and without `--assume`
+-- `--after` isn't given, or stands beside `--cycles`
 abbrev pub after_fits : List Row → Bool
-after_fits rows = not (is_some (first_of (codes "after") rows)) || (is_some (first_of (codes "cycles") rows) && not (is_some (first_of (codes "assume") rows)))
+after_fits rows = not (is_some (first_of (codes "after") rows)) || is_some (first_of (codes "cycles") rows)
 
 -- `--pair` isn't given, or stands beside none of `--settles`, `--assume`, `--cycles` and `--after`
 abbrev pub pair_fits : List Row → Bool
@@ -157,13 +157,13 @@ abbrev pub AfterIsTaken : Type 0
 AfterIsTaken =
     AreTaken (codes "check" ∷ codes "a" ∷ codes "b" ∷ codes "--reset" ∷ codes "--cycles" ∷ codes "20" ∷ codes "--after" ∷ codes "s" ∷ [])
     × (job_of (codes "check" ∷ codes "a" ∷ codes "b" ∷ codes "--reset" ∷ codes "--cycles" ∷ codes "20" ∷ codes "--after" ∷ codes "s" ∷ []) ≡ Some (task.After (codes "a") (codes "b") (codes "s") 20 20000))
+    × (job_of (codes "check" ∷ codes "a" ∷ codes "b" ∷ codes "--reset" ∷ codes "--cycles" ∷ codes "20" ∷ codes "--after" ∷ codes "s" ∷ codes "--assume" ∷ codes "c" ∷ []) ≡ Some (task.AfterUnder (codes "a") (codes "b") (codes "c") (codes "s") 20 20000))
 
--- since `--after` stands without `--cycles`, without `--reset`, or with `--assume`; behind `induct` without `--signals`
+-- since `--after` stands without `--cycles` or without `--reset`; behind `induct` without `--signals`
 abbrev pub AfterIsNoJob : Type 0
 AfterIsNoJob =
     AreNoJob (codes "check" ∷ codes "a" ∷ codes "b" ∷ codes "--reset" ∷ codes "--after" ∷ codes "s" ∷ [])
     × AreNoJob (codes "check" ∷ codes "a" ∷ codes "b" ∷ codes "--cycles" ∷ codes "20" ∷ codes "--after" ∷ codes "s" ∷ [])
-    × AreNoJob (codes "check" ∷ codes "a" ∷ codes "b" ∷ codes "--reset" ∷ codes "--cycles" ∷ codes "20" ∷ codes "--after" ∷ codes "s" ∷ codes "--assume" ∷ codes "c" ∷ [])
     × AreNoJob (codes "induct" ∷ codes "a" ∷ codes "b" ∷ codes "--after" ∷ codes "s" ∷ [])
 
 -- words with `--pair`, and what they ask for

@@ -6,7 +6,7 @@ ghost use Rattle.clap.specs.Words.{fault_of, first_of, found_of, rows_of, subcom
 ghost use Rattle.clap.specs.ValueTests.{accepts};
 ghost use Rattle.clap.specs.declared.builder.value_parser.ValueParser.TheVariants as parser;
 ghost use Rattle.command_line.specs.command_words.Command.{sec_app};
-ghost use Rattle.command_line.specs.Jobs.{job_of, task_in, check_in, compared_in, graph_in, sim_in, replay_in, settle_in, gen_in, lrat_in, cert_in, induct_in, form_in, mode_of, mode_in, refuses_reset, is_set, number_of, conflicts_in, settings_in, checked_in, paired_in, stands_alone, search_in, after_in, inducted_in, tied_in, searched_in};
+ghost use Rattle.command_line.specs.Jobs.{job_of, task_in, check_in, compared_in, graph_in, sim_in, replay_in, settle_in, gen_in, lrat_in, cert_in, induct_in, form_in, mode_of, mode_in, refuses_reset, is_set, number_of, conflicts_in, settings_in, checked_in, paired_in, stands_alone, search_in, after_in, inducted_in, tied_in, searched_in, begun_search};
 
 use crate::command_words::sec_command;
 use crate::task::Task;
@@ -21,7 +21,7 @@ use std::alloc::{AllocError, Global};
 pub enum WordsError {
     /// `clap`'s definition for the command doesn't take the words, the mode is neither `plain` nor `event`, `--reset` stands with
     /// `event`, with `--expose` or with `--settles`, `--cycles` stands without `--reset`, `--after`
-    /// without `--cycles` or `--signals` or with `--assume`, `--pair` with `--settles`, `--assume`,
+    /// without `--cycles` or `--signals`, `--pair` with `--settles`, `--assume`,
     /// `--cycles` or `--after`, or the form of a certificate is neither `cnf` nor `lrat`.
     Refused,
     /// Memory was wanted and couldn't be had.
@@ -222,8 +222,7 @@ fn paired_in(
     }))
 }
 
-/// The search behind the rows of the stimulus, up to the cycle that the word spells. It stands only beside `--reset` and `--cycles`, and
-/// without an assumption.
+/// The search behind the rows of the stimulus, up to the cycle that the word spells. It stands only beside `--reset` and `--cycles`.
 fn after_in(
     alloc: Global,
     a: &str,
@@ -235,7 +234,7 @@ fn after_in(
 ) -> Result<Option<Task>, NoMemory>
     ensures { IfOk result (λ task. task ≡ after_in a.now b.now stimulus.now settings (option_map (λ w. w.now) assumed.entry) (option_map (λ w. w.now) cycles.entry)) }
 {
-    if !settings.reset || assumed.is_some() {
+    if !settings.reset {
         return Ok(None);
     }
     let Some(cycles) = cycles else {
@@ -245,14 +244,40 @@ fn after_in(
         return Ok(None);
     };
     let s = FilePath::from_str(alloc, stimulus)?;
+    let assumed = path_of(alloc, assumed)?;
     let (a, b) = paths_of(alloc, a, b)?;
-    Ok(Some(Task::After {
-        a,
-        b,
-        s,
-        cycles: cycles as u32,
-        conflicts: settings.conflicts,
-    }))
+    let conflicts = settings.conflicts;
+    Ok(Some(begun_search(a, b, s, assumed, cycles as u32, conflicts)))
+}
+
+/// The search of these files behind the rows of the stimulus, under an assumption where one is named.
+fn begun_search(
+    a: FilePath,
+    b: FilePath,
+    s: FilePath,
+    assumed: Option<FilePath>,
+    cycles: u32,
+    conflicts: u32,
+) -> Task
+    ensures { result ≡ begun_search a b s assumed cycles conflicts }
+{
+    match assumed {
+        Some(c) => Task::AfterUnder {
+            a,
+            b,
+            c,
+            s,
+            cycles,
+            conflicts,
+        },
+        None => Task::After {
+            a,
+            b,
+            s,
+            cycles,
+            conflicts,
+        },
+    }
 }
 
 /// The check of two circuits, with `--settles` where that stands.
@@ -608,7 +633,7 @@ fn matches_of<'a>(alloc: Global, words: &'a [String]) -> Result<ArgMatches<'a>, 
 
 /// The job of the words behind the program's name. `Refused` comes exactly where `clap`'s definition for the command
 /// doesn't take them, the mode is neither `plain` nor `event`, `--reset` stands with `event`, with `--expose` or with `--settles`, `--cycles`
-/// stands without `--reset`, `--after` with `--assume`, `--pair` with `--settles`, `--assume`, `--cycles` or `--after`, or the form of a certificate is neither `cnf` nor `lrat`.
+/// stands without `--reset`, `--after` without `--cycles` or `--signals`, `--pair` with `--settles`, `--assume`, `--cycles` or `--after`, or the form of a certificate is neither `cnf` nor `lrat`.
 pub fn job(alloc: Global, words: &[String]) -> Result<Task, WordsError>
     ensures job { IfOk result (λ task. job_of (map (λ w. string_bytes w) words.now) ≡ Some task) }
     ensures refused { IsErrOf result WordsError.Refused → job_of (map (λ w. string_bytes w) words.now) ≡ None }

@@ -47,6 +47,12 @@ compare_under-requires-clause-cycles g c = (subst IsAllowed c.in-SearchUnder.is 
 pub compare_after-requires : goal.compare_after-requires
 compare_after-requires g c = (subst IsAllowed c.in-After.is c.requires).0
 
+pub compare_after_under-requires-clause-conflicts : goal.compare_after_under-requires-clause-conflicts
+compare_after_under-requires-clause-conflicts g c = (subst IsAllowed c.in-AfterUnder.is c.requires).0
+
+pub compare_after_under-requires-clause-cycles : goal.compare_after_under-requires-clause-cycles
+compare_after_under-requires-clause-cycles g c = (subst IsAllowed c.in-AfterUnder.is c.requires).1
+
 pub returns-in-Gen-clause-found : goal.returns-in-Gen-clause-found
 returns-in-Gen-clause-found g c =
     let held = g.S.Shelf.held c.args.shelf.now in
