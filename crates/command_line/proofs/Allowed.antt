@@ -132,7 +132,11 @@ allowed_checked settles a b s assumed (Some word) allowed always job e =
 -- the same behind the rows of a stimulus, where one is named
 allowed_begun : (settles : Bool) (a b : Text) (s : Settings) (assumed cycles after : Option Text) → AreAllowed s → (settles ≡ true → s.reset ≡ false) → (job : Task) → begun_in settles a b s assumed cycles after ≡ Some job → IsAllowed job
 allowed_begun settles a b s assumed cycles None allowed always job e = allowed_checked settles a b s assumed cycles allowed always job e
-allowed_begun settles a b s (Some c) cycles (Some z) allowed always job e = absurd (cc)
+allowed_begun settles a b s (Some c) None (Some z) allowed always job e = absurd (cc)
+allowed_begun settles a b s (Some c) (Some word) (Some z) allowed always job e =
+    let set = where_true s.reset (option_map (λ n. task.AfterUnder a b c z n s.conflicts) (number_of most_cycles word)) job e in
+    let last = map_some (λ n. task.AfterUnder a b c z n s.conflicts) (number_of most_cycles word) job set.1 in
+    subst IsAllowed last.2 (allowed.0, few_cycles word last.0 last.1)
 allowed_begun settles a b s None cycles (Some z) allowed always job e =
     let set = where_true s.reset (option_map (λ n. task.After a b z n s.conflicts) (last_in cycles)) job e in
     let last = map_some (λ n. task.After a b z n s.conflicts) (last_in cycles) job set.1 in

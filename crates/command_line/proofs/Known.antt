@@ -46,11 +46,12 @@ checked_job : (settles : Bool) (a b : Text) (s : Settings) (assumed cycles : Opt
 checked_job settles a b s assumed None fits = refl
 checked_job settles a b s assumed (Some w) fits = let f = fits w refl in let n = number_known most_cycles w f.0 in rw (f.1, n) refl
 
--- the same behind the rows of a stimulus, which stands beside `--reset` and without an assumption
+-- the same behind the rows of a stimulus, which stands beside `--reset`, and beside an assumption with a number of cycles
 begun_job : (settles : Bool) (a b : Text) (s : Settings) (assumed cycles after : Option Text) → ((w : Text) → cycles ≡ Some w → (value_kinds false most_cycles w ≡ []) × (s.reset ≡ true)) →
-    (not (is_some after) || (s.reset && not (is_some assumed))) ≡ true → is_some (begun_in settles a b s assumed cycles after) ≡ true
+    (not (is_some after) || (s.reset && (not (is_some assumed) || is_some cycles))) ≡ true → is_some (begun_in settles a b s assumed cycles after) ≡ true
 begun_job settles a b s assumed cycles None fits named = checked_job settles a b s assumed cycles fits
-begun_job settles a b s (Some c) cycles (Some z) fits named = absurd (true≢false (sym (both_hold s.reset false named).1))
+begun_job settles a b s (Some c) None (Some z) fits named = absurd (true≢false (sym (both_hold s.reset false named).1))
+begun_job settles a b s (Some c) (Some w) (Some z) fits named = let f = fits w refl in let n = number_known most_cycles w f.0 in rw (f.1, n) refl
 begun_job settles a b s None None (Some z) fits named = let reset : s.reset ≡ true = (both_hold s.reset true named).0 in rw reset refl
 begun_job settles a b s None (Some w) (Some z) fits named = let f = fits w refl in let n = number_known most_cycles w f.0 in rw (f.1, n) refl
 

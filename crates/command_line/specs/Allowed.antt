@@ -24,6 +24,7 @@ IsAllowed (task.Cert a b pair lrat conflicts) = conflicts ≤ MAX_CONFLICTS
 IsAllowed (task.Search a b cycles conflicts) = (conflicts ≤ MAX_CONFLICTS) × (cycles ≤ 1000)
 IsAllowed (task.SearchUnder a b c cycles conflicts) = (conflicts ≤ MAX_CONFLICTS) × (cycles ≤ 1000)
 IsAllowed (task.After a b s cycles conflicts) = (conflicts ≤ MAX_CONFLICTS) × IfSome cycles (λ last. last ≤ 1000)
+IsAllowed (task.AfterUnder a b c s cycles conflicts) = (conflicts ≤ MAX_CONFLICTS) × (cycles ≤ 1000)
 IsAllowed (task.Induct a b conflicts) = conflicts ≤ MAX_CONFLICTS
 IsAllowed (task.InductSignals a b conflicts) = conflicts ≤ MAX_CONFLICTS
 IsAllowed (task.InductUnder a b c conflicts) = conflicts ≤ MAX_CONFLICTS

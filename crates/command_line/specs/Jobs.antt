@@ -71,10 +71,11 @@ abbrev pub last_in : Option Text → Option (Option ℕ)
 last_in None = Some None
 last_in (Some word) = option_map (λ cycles. Some cycles) (number_of most_cycles word)
 
--- the search behind the rows of a stimulus, up to the cycle that the word spells, or without one in all cycles; it stands only beside
--- `--reset`, and without an assumption
+-- the search behind the rows of a stimulus, up to the cycle that the word spells, or without one in all cycles; under an assumption it wants
+-- such a word. It stands only beside `--reset`.
 abbrev pub after_in : Text → Text → Text → Settings → Option Text → Option Text → Option Task
-after_in a b s settings (Some assumed) cycles = None
+after_in a b s settings (Some c) None = None
+after_in a b s settings (Some c) (Some word) = if settings.reset then option_map (λ last. task.AfterUnder a b c s last settings.conflicts) (number_of most_cycles word) else None
 after_in a b s settings None cycles = if settings.reset then option_map (λ last. task.After a b s last settings.conflicts) (last_in cycles) else None
 
 -- the same where a stimulus is named

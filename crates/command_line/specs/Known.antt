@@ -15,9 +15,11 @@ cycles_given rows (Some word) = is_set (codes "reset") rows
 abbrev pub cycles_fit : List Row → Bool
 cycles_fit rows = cycles_given rows (first_of (codes "cycles") rows)
 
--- `--after` isn't given, or stands beside `--reset` and without `--assume`
+-- `--after` isn't given, or stands beside `--reset`, and beside `--assume` with `--cycles`
 abbrev pub after_fits : List Row → Bool
-after_fits rows = not (is_some (first_of (codes "after") rows)) || (is_set (codes "reset") rows && not (is_some (first_of (codes "assume") rows)))
+after_fits rows =
+    not (is_some (first_of (codes "after") rows))
+    || (is_set (codes "reset") rows && (not (is_some (first_of (codes "assume") rows)) || is_some (first_of (codes "cycles") rows)))
 
 -- `--pair` isn't given, or stands beside none of `--settles`, `--assume`, `--cycles` and `--after`
 abbrev pub pair_fits : List Row → Bool
@@ -171,13 +173,14 @@ AfterIsTaken =
     × (job_of (codes "check" ∷ codes "a" ∷ codes "b" ∷ codes "--reset" ∷ codes "--cycles" ∷ codes "20" ∷ codes "--after" ∷ codes "s" ∷ []) ≡ Some (task.After (codes "a") (codes "b") (codes "s") (Some 20) 20000))
     × (job_of (codes "check" ∷ codes "a" ∷ codes "b" ∷ codes "--reset" ∷ codes "--after" ∷ codes "s" ∷ []) ≡ Some (task.After (codes "a") (codes "b") (codes "s") None 20000))
     × (job_of (codes "induct" ∷ codes "a" ∷ codes "b" ∷ codes "--after" ∷ codes "s" ∷ []) ≡ Some (task.InductAfter (codes "a") (codes "b") (codes "s") false 20000))
+    × (job_of (codes "check" ∷ codes "a" ∷ codes "b" ∷ codes "--reset" ∷ codes "--cycles" ∷ codes "20" ∷ codes "--after" ∷ codes "s" ∷ codes "--assume" ∷ codes "c" ∷ []) ≡ Some (task.AfterUnder (codes "a") (codes "b") (codes "c") (codes "s") 20 20000))
 
--- since `--after` stands without `--reset`, or with `--assume`
+-- since `--after` stands without `--reset`, or with `--assume` and without `--cycles`
 abbrev pub AfterIsNoJob : Type 0
 AfterIsNoJob =
     AreNoJob (codes "check" ∷ codes "a" ∷ codes "b" ∷ codes "--after" ∷ codes "s" ∷ [])
     × AreNoJob (codes "check" ∷ codes "a" ∷ codes "b" ∷ codes "--cycles" ∷ codes "20" ∷ codes "--after" ∷ codes "s" ∷ [])
-    × AreNoJob (codes "check" ∷ codes "a" ∷ codes "b" ∷ codes "--reset" ∷ codes "--cycles" ∷ codes "20" ∷ codes "--after" ∷ codes "s" ∷ codes "--assume" ∷ codes "c" ∷ [])
+    × AreNoJob (codes "check" ∷ codes "a" ∷ codes "b" ∷ codes "--reset" ∷ codes "--after" ∷ codes "s" ∷ codes "--assume" ∷ codes "c" ∷ [])
 
 -- words with `--pair`, and what they ask for
 abbrev pub PairIsTaken : Type 0

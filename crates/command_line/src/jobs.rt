@@ -21,7 +21,7 @@ use std::alloc::{AllocError, Global};
 pub enum WordsError {
     /// `clap`'s definition for the command doesn't take the words, the mode is neither `plain` nor `event`, `--reset` stands with
     /// `event`, with `--expose` or with `--settles`, `--cycles` or `--after` of `check` stands without
-    /// `--reset`, `--after` with `--assume`, `--assume` of `induct` without `--signals`, `--pair` with
+    /// `--reset`, `--after` with `--assume` and without `--cycles`, `--assume` of `induct` without `--signals`, `--pair` with
     /// `--settles`, `--assume`, `--cycles` or `--after`, `--pairs` with one of these or with `--pair` or
     /// without `--expose`, or the form of a certificate is neither `cnf` nor `lrat`.
     Refused,
@@ -264,8 +264,8 @@ fn last_in(cycles: Option<&str>) -> Option<Option<u32>>
     }
 }
 
-/// The search behind the rows of the stimulus, up to the cycle that the word spells, or without one in all cycles. It stands only beside
-/// `--reset`, and without an assumption.
+/// The search behind the rows of the stimulus, up to the cycle that the word spells, or without one in all cycles; under an
+/// assumption it wants such a word. It stands only beside `--reset`.
 fn after_in(
     alloc: Global,
     a: &str,
@@ -277,8 +277,11 @@ fn after_in(
 ) -> Result<Option<Task>, NoMemory>
     ensures { IfOk result (λ task. task ≡ after_in a.now b.now stimulus.now settings (option_map (λ w. w.now) assumed.entry) (option_map (λ w. w.now) cycles.entry)) }
 {
-    if !settings.reset || assumed.is_some() {
+    if !settings.reset {
         return Ok(None);
+    }
+    if let Some(assumed) = assumed {
+        return after_under(alloc, a, b, stimulus, settings, assumed, cycles);
     }
     let Some(cycles) = last_in(cycles) else {
         return Ok(None);
@@ -290,6 +293,40 @@ fn after_in(
         b,
         s,
         cycles,
+        conflicts: settings.conflicts,
+    }))
+}
+
+/// The same under an assumption. It stands only beside `--reset` and `--cycles`.
+fn after_under(
+    alloc: Global,
+    a: &str,
+    b: &str,
+    stimulus: &str,
+    settings: Settings,
+    assumed: &str,
+    cycles: Option<&str>,
+) -> Result<Option<Task>, NoMemory>
+    ensures { IfOk result (λ task. task ≡ after_in a.now b.now stimulus.now settings (Some assumed.now) (option_map (λ w. w.now) cycles.entry)) }
+{
+    let Some(cycles) = cycles else {
+        return Ok(None);
+    };
+    if !settings.reset {
+        return Ok(None);
+    }
+    let Some(cycles) = number_of(0, 1_000, cycles) else {
+        return Ok(None);
+    };
+    let s = FilePath::from_str(alloc, stimulus)?;
+    let c = FilePath::from_str(alloc, assumed)?;
+    let (a, b) = paths_of(alloc, a, b)?;
+    Ok(Some(Task::AfterUnder {
+        a,
+        b,
+        c,
+        s,
+        cycles: cycles as u32,
         conflicts: settings.conflicts,
     }))
 }
@@ -663,7 +700,7 @@ fn matches_of<'a>(alloc: Global, words: &'a [String]) -> Result<ArgMatches<'a>, 
 
 /// The job of the words behind the program's name. `Refused` comes exactly where `clap`'s definition for the command
 /// doesn't take them, the mode is neither `plain` nor `event`, `--reset` stands with `event`, with `--expose` or with `--settles`, `--cycles`
-/// stands without `--reset`, `--after` with `--assume`, `--pair` with `--settles`, `--assume`, `--cycles` or `--after`, `--pairs` with one of these or with
+/// stands without `--reset`, `--after` with `--assume` and without `--cycles`, `--pair` with `--settles`, `--assume`, `--cycles` or `--after`, `--pairs` with one of these or with
 /// `--pair` or without `--expose`, or the form of a certificate is neither `cnf` nor `lrat`.
 pub fn job(alloc: Global, words: &[String]) -> Result<Task, WordsError>
     ensures job { IfOk result (λ task. job_of (map (λ w. string_bytes w) words.now) ≡ Some task) }

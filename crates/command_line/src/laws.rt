@@ -4,7 +4,7 @@ ghost use Rattle.command_line.specs.Allowed.{JobsAreAllowed};
 ghost use Rattle.command_line.specs.Known.{TakenWordsAreJob, CheckIsTaken, GraphIsTaken, SimIsTaken, ReplayIsTaken, SettleIsTaken, GenIsTaken, LratIsTaken, CertIsTaken, InductIsTaken, ResetIsTaken, CyclesAreTaken, AfterIsTaken, AssumedIsTaken, CheckSettlesIsTaken, ReplaySettlesIsTaken, SettlesIsRefused, AssumedIsRefused, OtherModeIsNoJob, OtherFormIsNoJob, ResetIsNoJob, CyclesAreNoJob, AfterIsNoJob, SignalsAreTaken, PairIsTaken, PairIsNoJob, PairsAreTaken, PairsAreNoJob};
 
 /// Words that `clap`'s definition for the command takes are a job wherever their mode is `plain` or `event` and `--reset` stands
-/// neither with `event` nor with `--expose` or `--settles`, and `--cycles` only with `--reset` and without `--assume`, and `--pair` without `--settles`, `--assume`, `--cycles` and `--after`, or they name the subcommand `gen`, `lrat` or `induct`, which have no mode, or `cert` with
+/// neither with `event` nor with `--expose` or `--settles`, and `--cycles` only with `--reset`, and `--after` only with `--cycles`, and `--pair` without `--settles`, `--assume`, `--cycles` and `--after`, or they name the subcommand `gen`, `lrat` or `induct`, which have no mode, or `cert` with
 /// the form `cnf` or `lrat`. So `job` never refuses such words.
 pub fn taken_words_are_job()
     ensures { TakenWordsAreJob }

@@ -106,6 +106,15 @@ pub enum Task {
         cycles: Option<u32>,
         conflicts: u32,
     },
+    /// Search them so behind the rows in the runs whose inputs make the output of a fourth file's circuit 1 in each cycle there.
+    AfterUnder {
+        a: FilePath,
+        b: FilePath,
+        c: FilePath,
+        s: FilePath,
+        cycles: u32,
+        conflicts: u32,
+    },
     /// Compare the circuits of two files from their initial values, by blocks of latches that are equal in every cycle.
     Induct {
         a: FilePath,
@@ -213,6 +222,14 @@ impl Drop for Task {
             Task::After {
                 a: _,
                 b: _,
+                s: _,
+                cycles: _,
+                conflicts: _,
+            } => {}
+            Task::AfterUnder {
+                a: _,
+                b: _,
+                c: _,
                 s: _,
                 cycles: _,
                 conflicts: _,

@@ -8,7 +8,7 @@ use Rattle.job_base.proofs.design_laws.text_circuits.Resets.{output_value}
 use Rattle.restart.specs.Agreement.{BeginsBy, AgreeBehind}
 
 -- a run of the design that begins by the rows is a run of the net that does
-begins_down : {P : Type 0} {d : Circuit P} {net : Circuit ℕ} {clocked : P → Type 0} (f : FlatDesign d net clocked) (names : List (List ℕ)) (rows : List (List Bool)) (run : ℕ → P → Bool) → BeginsBy d names rows run →
+pub begins_down : {P : Type 0} {d : Circuit P} {net : Circuit ℕ} {clocked : P → Type 0} (f : FlatDesign d net clocked) (names : List (List ℕ)) (rows : List (List Bool)) (run : ℕ → P → Bool) → BeginsBy d names rows run →
     BeginsBy net names rows (λ t s. run t (f.origin s))
 begins_down f names rows run h t i row name bit s row_is bit_is name_is input = h t i row name bit (f.origin s) row_is bit_is name_is (input_up f name s input)
 

@@ -16,7 +16,7 @@ use Rattle.restart.specs.Behind.{begun, AreKnownBehind}
 use Rattle.restart.specs.Agreement.{AgreeBehind, Each, UpTo, Before}
 use Rattle.job_after.specs.Last.{IsLast}
 use Rattle.job_after.specs.Report.{after_text}
-use Rattle.restart.specs.Sequence.{IsShownBehind}
+use Rattle.restart.specs.Sequence.{IsShownBehind, GoesOnAs}
 
 -- m is the net with what is known of its latches behind the rows as their initial values
 pub record IsBegun (n : NetView) (names : List (List ℕ)) (rows : List (List Bool)) (known : List (Option Bool)) (m : NetView) : Type 0 where
@@ -35,6 +35,11 @@ judgement_of (verdict.Limit name) None = judgement.Limit
 -- the proofs of the pairs that met the limit, in their order
 abbrev pub proofs_of : List PairResult → List Proof
 proofs_of pairs = filter_map (λ (p : PairResult). p.proof) pairs
+
+-- behind so many rows the sequence of a difference goes on as the one that was found
+abbrev pub GoesOnAsFound : ℕ → SearchVerdict → Witness → Type 0
+GoesOnAsFound count (verdict.Different found) w = GoesOnAs count found.witness.stimulus w
+GoesOnAsFound count other w = ⊥
 
 -- both nets as they begin behind the rows, what is known of their latches there, the last cycle that was to be compared, what was found of
 -- them, and the difference that is shown

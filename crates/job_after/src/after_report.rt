@@ -95,7 +95,7 @@ fn put_first(text: &mut Vec<u8>, net: &Net, known: &[Option<bool>]) -> Result<()
 }
 
 /// Puts the verdict, with what shows it.
-fn put_after_verdict(
+pub fn put_after_verdict(
     alloc: Global,
     text: &mut Vec<u8>,
     conflicts: u32,

@@ -89,7 +89,8 @@ pub fn match_header(alloc: Global, a: &Net, b: &Net, header: &NameTable) -> Resu
     Ok(())
 }
 
-fn judgement_of(verdict: &SearchVerdict, shown: &Option<Witness>) -> Judgement
+/// The judgement of what was found. A difference that isn't shown is none.
+pub fn judgement_of(verdict: &SearchVerdict, shown: &Option<Witness>) -> Judgement
     ensures { result ≡ judgement_of verdict.now shown.now }
 {
     if shown.is_some() {
@@ -104,7 +105,7 @@ fn judgement_of(verdict: &SearchVerdict, shown: &Option<Witness>) -> Judgement
 }
 
 /// The proofs of the pairs that met the limit, in their order.
-fn proofs_of(alloc: Global, searched: Searched) -> Result<Proofs, NoMemory>
+pub fn proofs_of(alloc: Global, searched: Searched) -> Result<Proofs, NoMemory>
     ensures { IfOk result (λ proofs. proofs ≡ proofs_of searched.pairs) }
 {
     let Searched { pairs, .. } = searched;

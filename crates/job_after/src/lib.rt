@@ -10,9 +10,10 @@ mod last;
 mod reading;
 mod shown;
 
-pub use after_report::put_begun;
+pub use after_report::{put_after_verdict, put_begun};
 pub use comparison::{AfterComparison, compare_after};
 pub use fault::AfterFault;
-pub use judging::{Judged, after_end, match_header};
+pub use judging::{Judged, after_end, judgement_of, match_header, proofs_of};
 pub use known::begin;
 pub use reading::{AfterPaths, ReadFiles, read_files};
+pub use shown::{Start, or_zero, shown_by};

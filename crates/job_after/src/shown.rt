@@ -4,6 +4,7 @@ ghost use Rattle.std.specs.Prelude.{◌≡◌, ◌≤◌, length, IfOk, IfSome};
 ghost use Rattle.flat_net.specs.Comparable.{IsComparable};
 ghost use Rattle.restart.specs.Behind.{begun};
 ghost use Rattle.restart.specs.Sequence.{IsShownBehind};
+ghost use Rattle.job_after.specs.Judged.{GoesOnAsFound};
 
 use base_tables::NameTable;
 use cycle_search::{SearchError, SearchVerdict, Searched, search_cycles};
@@ -17,13 +18,15 @@ use witness_report::Stimulus;
 /// Where a search begins, and how far it goes: the stimulus, with the table of its names, and what is known of both circuits' latches
 /// behind its rows.
 #[derive(Clone, Copy)]
-pub(crate) struct Start<'a> {
-    pub(crate) header: &'a NameTable,
-    pub(crate) stimulus: &'a Stimulus,
-    pub(crate) left: &'a [Option<bool>],
-    pub(crate) right: &'a [Option<bool>],
-    pub(crate) cycles: u32,
-    pub(crate) conflicts: u32,
+pub struct Start<'a> {
+    pub header: &'a NameTable,
+    pub stimulus: &'a Stimulus,
+    pub left: &'a [Option<bool>],
+    pub right: &'a [Option<bool>],
+    /// The last cycle behind the rows that is to be compared; the first one is 0.
+    pub cycles: u32,
+    /// The greatest number of conflicts of each query, 0 to 200,000.
+    pub conflicts: u32,
 }
 
 /// The difference that is shown where this was found, if one is. Where the sequence that was found shows none, since a latch that isn't known
@@ -56,8 +59,8 @@ pub(crate) fn shown_of(
     shown_from_zeros(alloc, a, b, start)
 }
 
-/// The difference that the sequence which was found shows, if it shows one.
-fn shown_by(
+/// The difference that the sequence which was found shows, if it shows one. Its sequence has the rows, and then that one.
+pub fn shown_by(
     alloc: Global,
     a: &Net,
     b: &Net,
@@ -65,7 +68,8 @@ fn shown_by(
     searched: &Searched,
 ) -> Result<Option<Witness>, NoMemory>
     requires { start.now.header.now ≡ start.now.stimulus.now.names }
-    ensures { IfOk result (λ shown. IfSome shown (IsShownBehind a.now b.now start.now.stimulus.now.names start.now.stimulus.now.rows)) }
+    ensures shown { IfOk result (λ shown. IfSome shown (IsShownBehind a.now b.now start.now.stimulus.now.names start.now.stimulus.now.rows)) }
+    ensures goes_on { IfOk result (λ shown. IfSome shown (GoesOnAsFound (length start.now.stimulus.now.rows) searched.now.verdict)) }
 {
     match &searched.verdict {
         SearchVerdict::Different(found) => match &found.witness.pair {
@@ -129,7 +133,7 @@ fn shown_from_zeros(
 }
 
 /// What is known, and 0 of what isn't.
-fn or_zero(alloc: Global, known: &[Option<bool>]) -> Result<Vec<Option<bool>>, NoMemory>
+pub fn or_zero(alloc: Global, known: &[Option<bool>]) -> Result<Vec<Option<bool>>, NoMemory>
     ensures { IfOk result (λ filled. length filled.items ≡ length known.now) }
 {
     let mut filled = Vec::new(alloc);

@@ -17,10 +17,6 @@ head_text a b name = counts_text (length (shared_inputs (ports_of a) (ports_of b
 abbrev pub cycles_text : ℕ → List ℕ
 cycles_text cycles = codes "cycles " ++ decimal cycles ++ codes "\nexposed 0\n"
 
--- what stands before the verdict
-abbrev pub front_text : NetView → NetView → List ℕ → ℕ → Searched → List ℕ
-front_text a b name cycles s = head_text a b name ++ cycles_text cycles ++ flat_map pair_line s.pairs
-
 -- the line of the assumption that is too large in the next cycle, where the last is below the wanted one
 abbrev pub over_line : Bool → ℕ → List ℕ
 over_line false last = []
@@ -31,9 +27,13 @@ abbrev pub stop_text : ℕ → ℕ → SearchVerdict → List ℕ
 stop_text cycles last (verdict.NoDifference None) = over_line (nat_lt last cycles) last
 stop_text cycles last other = []
 
+-- what stands before the verdict
+abbrev pub under_front : NetView → NetView → List ℕ → ℕ → Searched → List ℕ
+under_front a b name cycles s = head_text a b name ++ cycles_text cycles ++ flat_map pair_line s.pairs ++ stop_text cycles s.last s.verdict
+
 -- the whole report
 abbrev pub searched_text : NetView → NetView → List ℕ → ℕ → ℕ → Searched → List ℕ
-searched_text a b name cycles conflicts s = front_text a b name cycles s ++ stop_text cycles s.last s.verdict ++ verdict_text conflicts s.last s.verdict
+searched_text a b name cycles conflicts s = under_front a b name cycles s ++ verdict_text conflicts s.last s.verdict
 
 -- the report where it wasn't decided whether some inputs meet the assumption
 abbrev pub undecided_text : NetView → NetView → List ℕ → ℕ → List ℕ

@@ -9,3 +9,5 @@ pub mod ties;
 mod under_report;
 
 pub use comparison::{UnderComparison, compare_under};
+pub use reading::{ReadThree, UnderPaths, read_three};
+pub use under_report::{put_undecided, put_under_front};

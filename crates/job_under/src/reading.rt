@@ -14,25 +14,21 @@ use std::alloc::Global;
 
 /// The paths of two circuits and of the assumption.
 #[derive(Clone, Copy)]
-pub(crate) struct UnderPaths<'a> {
-    pub(crate) left: &'a str,
-    pub(crate) right: &'a str,
-    pub(crate) assumed: &'a str,
+pub struct UnderPaths<'a> {
+    pub left: &'a str,
+    pub right: &'a str,
+    pub assumed: &'a str,
 }
 
 /// The three circuits, or how the work ends where one of them isn't loaded.
 #[derive(Drop)]
-pub(crate) enum ReadThree {
+pub enum ReadThree {
     Whole(Net, Net, Net),
     Ended(Result<Finding, Stop>),
 }
 
 /// Loads both circuits, A first, and then the assumption.
-pub(crate) fn read_three<S: Shelf>(
-    alloc: Global,
-    paths: &UnderPaths<'_>,
-    shelf: &mut S,
-) -> ReadThree
+pub fn read_three<S: Shelf>(alloc: Global, paths: &UnderPaths<'_>, shelf: &mut S) -> ReadThree
     ensures read { IsRead (S.held shelf.old) (S.faults shelf.old) (S.faults shelf.new) paths.now.left.now paths.now.right.now paths.now.assumed.now result }
     ensures keeps { SameHeld (S.held shelf.old) (S.held shelf.new) }
     ensures later { NoneFell (S.faults shelf.old) (S.faults shelf.new) }

@@ -1,7 +1,7 @@
 //! The report of a search under an assumption.
 
 ghost use Rattle.std.specs.Prelude.{◌≡◌, ◌<◌, ◌++◌, length, codes, IfOk, OnOk};
-ghost use Rattle.job_under.specs.Report.{head_text, cycles_text, front_text, over_line, stop_text, searched_text, undecided_text};
+ghost use Rattle.job_under.specs.Report.{head_text, cycles_text, under_front, over_line, stop_text, searched_text, undecided_text};
 
 use cycle_search::search_report::{put_count_line, put_counts, put_pairs, put_verdict};
 use cycle_search::{SearchVerdict, Searched};
@@ -26,12 +26,27 @@ pub(crate) fn report_searched(
     ensures { IfOk result (λ text. text ≡ searched_text a.now b.now name.now cycles conflicts searched.now) }
 {
     let mut text = Vec::new(alloc);
-    put_head(alloc, &mut text, a, b, name)?;
-    put_cycles(alloc, &mut text, cycles)?;
-    put_pairs(alloc, &mut text, searched.pairs.as_slice())?;
-    put_stop(alloc, &mut text, cycles, searched.last, &searched.verdict)?;
+    put_under_front(alloc, &mut text, a, b, name, cycles, searched)?;
     put_verdict(alloc, &mut text, conflicts, searched)?;
     Ok(Seq::from_vec(text))
+}
+
+/// Puts what stands before the verdict.
+pub fn put_under_front(
+    alloc: Global,
+    text: &mut Vec<u8>,
+    a: &Net,
+    b: &Net,
+    name: &Word,
+    cycles: u32,
+    searched: &Searched,
+) -> Result<(), NoMemory>
+    ensures { OnOk result (text.new.items ≡ text.old.items ++ under_front a.now b.now name.now cycles searched.now) }
+{
+    put_head(alloc, text, a, b, name)?;
+    put_cycles(alloc, text, cycles)?;
+    put_pairs(alloc, text, searched.pairs.as_slice())?;
+    put_stop(alloc, text, cycles, searched.last, &searched.verdict)
 }
 
 /// The report where it wasn't decided whether some row of inputs meets the assumption: the counts, the start, the name and that verdict.
@@ -45,14 +60,28 @@ pub(crate) fn report_undecided(
     ensures { IfOk result (λ text. text ≡ undecided_text a.now b.now name.now conflicts) }
 {
     let mut text = Vec::new(alloc);
-    put_head(alloc, &mut text, a, b, name)?;
+    put_undecided(alloc, &mut text, a, b, name, conflicts)?;
+    Ok(Seq::from_vec(text))
+}
+
+/// Puts that report.
+pub fn put_undecided(
+    alloc: Global,
+    text: &mut Vec<u8>,
+    a: &Net,
+    b: &Net,
+    name: &Word,
+    conflicts: u32,
+) -> Result<(), NoMemory>
+    ensures { OnOk result (text.new.items ≡ text.old.items ++ undecided_text a.now b.now name.now conflicts) }
+{
+    put_head(alloc, text, a, b, name)?;
     put_count_line(
         alloc,
-        &mut text,
+        text,
         b"verdict limit assume conflicts ",
         u64::from(conflicts),
-    )?;
-    Ok(Seq::from_vec(text))
+    )
 }
 
 /// Puts the counts, the start and the name of the assumption's output.

@@ -3,6 +3,7 @@
 
 ghost use Rattle.premise_rows.specs.start_premises.Restarted.{CircuitsAgreeBehindRows};
 ghost use Rattle.premise_rows.specs.start_premises.Begun.{TextsCanBegin};
+ghost use Rattle.premise_rows.specs.start_premises.BegunUnder.{TextsCanBeginUnder};
 
 /// Behind one cycle of reset a latch that toggles and the complement of another agree for ever, and a latch that rises agrees with the
 /// first in two cycles.
@@ -13,4 +14,9 @@ pub fn circuits_agree_behind_rows()
 /// Two circuits with a cycle of latches each, and a retiming, can be compared behind a reset sequence.
 pub fn texts_can_begin()
     ensures { TextsCanBegin }
+{}
+
+/// A retiming, and two latches on cycles, can be compared behind a reset sequence where both inputs are equal.
+pub fn texts_can_begin_under()
+    ensures { TextsCanBeginUnder }
 {}

@@ -1,5 +1,5 @@
 -- Sequences that begin with the rows of a stimulus.
-use Rattle.std.specs.Prelude.{◌≡◌, ℕ, ◌≤◌, Bool, List, length, Some, slice_get}
+use Rattle.std.specs.Prelude.{◌≡◌, ℕ, ◌+◌, ◌≤◌, Bool, List, ◌++◌, length, Some, slice_get}
 use Rattle.std.specs.List.{All}
 use Rattle.flat_net.specs.View.{NetView, circuit_of}
 use Rattle.witness_report.specs.declared.stimulus.Stimulus.{Stimulus}
@@ -26,3 +26,15 @@ pub record IsShownBehind (a b : NetView) (header : List (List ℕ)) (rows : List
   pub begins : BeginsWithRows header rows w.stimulus
   pub behind : length rows ≤ w.cycle
   pub differ : MakesDiffer (circuit_of a) (circuit_of b) w
+
+-- behind so many rows stand these, and no more
+pub record StandBehind (count : ℕ) (rows all : List (List Bool)) : Type 0 where
+  pub front : List (List Bool)
+  pub counted : length front ≡ count
+  pub are : all ≡ front ++ rows
+
+-- behind so many rows the sequence of a difference goes on as this one, with whose last row it ends
+pub record GoesOnAs (count : ℕ) (s : Stimulus) (w : Witness) : Type 0 where
+  pub names_are : w.stimulus.names ≡ s.names
+  pub rows_are : StandBehind count s.rows w.stimulus.rows
+  pub cycle_is : w.cycle + 1 ≡ count + length s.rows

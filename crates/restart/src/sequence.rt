@@ -1,7 +1,7 @@
 //! A sequence that begins with the rows of a stimulus, and whether it makes a pair differ whatever the circuits power up with.
 
 ghost use Rattle.std.specs.Prelude.{◌≡◌, ◌+◌, ◌++◌, ℕ, Bool, Some, length, slice_get, IfOk, OnOk, IfSome};
-ghost use Rattle.restart.specs.Sequence.{IsRowUnder, AreRowsUnder, BeginsWithRows, IsShownBehind};
+ghost use Rattle.restart.specs.Sequence.{IsRowUnder, AreRowsUnder, BeginsWithRows, IsShownBehind, StandBehind, GoesOnAs};
 
 use crate::three_run::known_output;
 use base_tables::NameTable;
@@ -69,6 +69,7 @@ fn joined(
 ) -> Result<Stimulus, NoMemory>
     ensures names { IfOk result (λ made. made.names ≡ sequence.now.names) }
     ensures rows { IfOk result (λ made. BeginsWithRows header.now rows.now made) }
+    ensures behind { IfOk result (λ made. StandBehind (length rows.now) sequence.now.rows made.rows) }
     ensures size { IfOk result (λ made. length made.rows ≡ length rows.now + length sequence.now.rows) }
 {
     let names = sequence.names.copy()?;
@@ -78,7 +79,7 @@ fn joined(
 }
 
 /// The difference of the outputs of this name that the sequence shows behind the rows of the stimulus with this header, if in its last cycle
-/// both are known, whatever the circuits power up with, and differ.
+/// both are known, whatever the circuits power up with, and differ. The difference's sequence has the rows, and then the sequence.
 pub fn shown_behind(
     alloc: Global,
     a: &Net,
@@ -88,7 +89,8 @@ pub fn shown_behind(
     name: &Word,
     sequence: &Stimulus,
 ) -> Result<Option<Witness>, NoMemory>
-    ensures { IfOk result (λ shown. IfSome shown (IsShownBehind a.now b.now header.now rows.now)) }
+    ensures shown { IfOk result (λ shown. IfSome shown (IsShownBehind a.now b.now header.now rows.now)) }
+    ensures goes_on { IfOk result (λ shown. IfSome shown (GoesOnAs (length rows.now) sequence.now)) }
 {
     if sequence.rows.len() == 0 {
         return Ok(None);

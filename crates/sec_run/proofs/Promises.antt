@@ -42,6 +42,8 @@ use Rattle.sec_jobs.proofs.job_search.search_meaning.Means.{search_means}
 use Rattle.sec_jobs.proofs.job_search.search_meaning.Complete.{search_complete}
 use Rattle.job_after.proofs.Means.{after_means}
 use Rattle.job_after.proofs.Complete.{after_complete}
+use Rattle.job_after_under.proofs.Means.{after_under_means}
+use Rattle.job_after_under.proofs.Complete.{after_under_complete}
 use Rattle.sec_run.specs.Answer.{IsFinding}
 use Rattle.sec_run.specs.Promises.{Means, IsComplete}
 
@@ -63,6 +65,7 @@ means held (Some (task.Cert a b pair lrat conflicts)) before now f proofs name f
 means held (Some (task.Search a b cycles conflicts)) before now f proofs name found w = search_means cycles conflicts (held a) (held b) before now f proofs name found w
 means held (Some (task.SearchUnder a b c cycles conflicts)) before now f proofs name found w = under_means cycles conflicts (held a) (held b) (held c) before now f proofs name found w
 means held (Some (task.After a b s cycles conflicts)) before now f proofs name found w = after_means cycles conflicts (held a) (held b) (held s) before now f proofs name found w
+means held (Some (task.AfterUnder a b c s cycles conflicts)) before now f proofs name found w = after_under_means cycles conflicts (held a) (held b) (held c) (held s) before now f proofs name found w
 means held (Some (task.Induct a b conflicts)) before now f proofs name found w = induct_means conflicts (held a) (held b) before now f proofs name found w
 means held (Some (task.InductSignals a b conflicts)) before now f proofs name found w = signals_means (held a) (held b) before now f proofs name found w
 means held (Some (task.InductUnder a b c conflicts)) before now f proofs name found w = ties_mean conflicts (held a) (held b) (held c) before now f proofs name found w
@@ -85,6 +88,7 @@ memory_means held (Some (task.Cert a b pair lrat conflicts)) before now proofs =
 memory_means held (Some (task.Search a b cycles conflicts)) before now proofs = tt
 memory_means held (Some (task.SearchUnder a b c cycles conflicts)) before now proofs = tt
 memory_means held (Some (task.After a b s cycles conflicts)) before now proofs = tt
+memory_means held (Some (task.AfterUnder a b c s cycles conflicts)) before now proofs = tt
 memory_means held (Some (task.Induct a b conflicts)) before now proofs = tt
 memory_means held (Some (task.InductSignals a b conflicts)) before now proofs = tt
 memory_means held (Some (task.InductUnder a b c conflicts)) before now proofs = tt
@@ -106,6 +110,7 @@ fault_means held (Some (task.Cert a b pair lrat conflicts)) before now proofs = 
 fault_means held (Some (task.Search a b cycles conflicts)) before now proofs = tt
 fault_means held (Some (task.SearchUnder a b c cycles conflicts)) before now proofs = tt
 fault_means held (Some (task.After a b s cycles conflicts)) before now proofs = tt
+fault_means held (Some (task.AfterUnder a b c s cycles conflicts)) before now proofs = tt
 fault_means held (Some (task.Induct a b conflicts)) before now proofs = tt
 fault_means held (Some (task.InductSignals a b conflicts)) before now proofs = tt
 fault_means held (Some (task.InductUnder a b c conflicts)) before now proofs = tt
@@ -128,6 +133,7 @@ is_complete held (Some (task.Cert a b pair lrat conflicts)) f found = cert_compl
 is_complete held (Some (task.Search a b cycles conflicts)) f found = search_complete cycles conflicts (held a) (held b) f found
 is_complete held (Some (task.SearchUnder a b c cycles conflicts)) f found = under_complete cycles conflicts (held a) (held b) (held c) f found
 is_complete held (Some (task.After a b s cycles conflicts)) f found = after_complete cycles conflicts (held a) (held b) (held s) f found
+is_complete held (Some (task.AfterUnder a b c s cycles conflicts)) f found = after_under_complete cycles conflicts (held a) (held b) (held c) (held s) f found
 is_complete held (Some (task.Induct a b conflicts)) f found = induct_complete conflicts (held a) (held b) f found
 is_complete held (Some (task.InductSignals a b conflicts)) f found = signals_complete (held a) (held b) f found
 is_complete held (Some (task.InductUnder a b c conflicts)) f found = ties_complete conflicts (held a) (held b) (held c) f found
@@ -150,6 +156,7 @@ memory_is_complete held (Some (task.Cert a b pair lrat conflicts)) = memory_cert
 memory_is_complete held (Some (task.Search a b cycles conflicts)) = λ can. tt
 memory_is_complete held (Some (task.SearchUnder a b c cycles conflicts)) = λ can. tt
 memory_is_complete held (Some (task.After a b s cycles conflicts)) = λ can. tt
+memory_is_complete held (Some (task.AfterUnder a b c s cycles conflicts)) = λ can. tt
 memory_is_complete held (Some (task.Induct a b conflicts)) = λ can. tt
 memory_is_complete held (Some (task.InductSignals a b conflicts)) = λ can. tt
 memory_is_complete held (Some (task.InductUnder a b c conflicts)) = λ can. tt

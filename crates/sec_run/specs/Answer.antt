@@ -28,6 +28,7 @@ use Rattle.job_gen.specs.gen_meaning.Found.{IsGenFound}
 use Rattle.job_cert.specs.job_lrat.Found.{IsLratFound}
 use Rattle.job_cert.specs.Found.{IsCertFound}
 use Rattle.job_after.specs.Answer.{IsAfterFound}
+use Rattle.job_after_under.specs.Found.{IsAfterUnderFound}
 use Rattle.sec_jobs.specs.job_induct.induct_meaning.Found.{IsInductFound}
 use Rattle.sec_jobs.specs.job_search.search_meaning.Found.{IsSearchFound}
 
@@ -47,6 +48,7 @@ IsFoundOfJob held (task.Cert a b pair lrat conflicts) f = IsCertFound (record { 
 IsFoundOfJob held (task.Search a b cycles conflicts) f = IsSearchFound cycles conflicts (held a) (held b) f
 IsFoundOfJob held (task.SearchUnder a b c cycles conflicts) f = IsUnderFound cycles conflicts (held a) (held b) (held c) f
 IsFoundOfJob held (task.After a b s cycles conflicts) f = IsAfterFound cycles conflicts (held a) (held b) (held s) f
+IsFoundOfJob held (task.AfterUnder a b c s cycles conflicts) f = IsAfterUnderFound cycles conflicts (held a) (held b) (held c) (held s) f
 IsFoundOfJob held (task.Induct a b conflicts) f = IsInductFound conflicts (held a) (held b) f
 IsFoundOfJob held (task.InductSignals a b conflicts) f = IsSignalsFound (held a) (held b) f
 IsFoundOfJob held (task.InductUnder a b c conflicts) f = AreTiesFound conflicts (held a) (held b) (held c) f

@@ -12,6 +12,7 @@ use Rattle.job_cert.specs.job_lrat.Found.{lrat_paths, AreSpelled}
 use Rattle.job_cert.specs.Found.{cert_paths}
 use Rattle.sec_jobs.specs.job_induct.induct_meaning.Found.{induct_paths}
 use Rattle.job_under.specs.Found.{under_paths}
+use Rattle.job_after_under.specs.Found.{after_under_paths}
 
 -- the paths that a job reads, in the order of their fetches; none where it makes its circuits itself
 abbrev pub paths_of : Task → List (List ℕ)
@@ -29,6 +30,7 @@ paths_of (task.Cert a b pair lrat conflicts) = cert_paths a b
 paths_of (task.Search a b cycles conflicts) = induct_paths a b
 paths_of (task.SearchUnder a b c cycles conflicts) = under_paths a b c
 paths_of (task.After a b s cycles conflicts) = replay_paths a b s
+paths_of (task.AfterUnder a b c s cycles conflicts) = after_under_paths a b c s
 paths_of (task.Induct a b conflicts) = induct_paths a b
 paths_of (task.InductSignals a b conflicts) = induct_paths a b
 paths_of (task.InductUnder a b c conflicts) = under_paths a b c
@@ -55,6 +57,7 @@ GoesOn (task.Cert a b pair lrat conflicts) = IsLoaded
 GoesOn (task.Search a b cycles conflicts) = IsLoaded
 GoesOn (task.SearchUnder a b c cycles conflicts) = IsLoaded
 GoesOn (task.After a b s cycles conflicts) = IsLoaded
+GoesOn (task.AfterUnder a b c s cycles conflicts) = IsLoaded
 GoesOn (task.Induct a b conflicts) = IsLoaded
 GoesOn (task.InductSignals a b conflicts) = IsLoaded
 GoesOn (task.InductUnder a b c conflicts) = IsLoaded

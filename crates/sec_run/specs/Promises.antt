@@ -24,6 +24,7 @@ use Rattle.job_gen.specs.gen_meaning.Answer.{GenMeans, IsGenAnswer}
 use Rattle.job_cert.specs.job_lrat.Answer.{LratMeans, IsLratComplete}
 use Rattle.job_cert.specs.Answer.{CertMeans, IsCertComplete}
 use Rattle.job_after.specs.Answer.{AfterMeans, IsAfterComplete}
+use Rattle.job_after_under.specs.Answer.{AfterUnderMeans, IsAfterUnderComplete}
 use Rattle.sec_jobs.specs.job_induct.induct_meaning.Answer.{InductMeans, IsInductComplete}
 use Rattle.sec_jobs.specs.job_search.search_meaning.Answer.{SearchMeans, IsSearchComplete}
 
@@ -44,6 +45,7 @@ Means held (Some (task.Cert a b pair lrat conflicts)) before now proofs name = C
 Means held (Some (task.Search a b cycles conflicts)) before now proofs name = SearchMeans cycles conflicts (held a) (held b) before now proofs name
 Means held (Some (task.SearchUnder a b c cycles conflicts)) before now proofs name = UnderMeans cycles conflicts (held a) (held b) (held c) before now proofs name
 Means held (Some (task.After a b s cycles conflicts)) before now proofs name = AfterMeans cycles conflicts (held a) (held b) (held s) before now proofs name
+Means held (Some (task.AfterUnder a b c s cycles conflicts)) before now proofs name = AfterUnderMeans cycles conflicts (held a) (held b) (held c) (held s) before now proofs name
 Means held (Some (task.Induct a b conflicts)) before now proofs name = InductMeans conflicts (held a) (held b) before now proofs name
 Means held (Some (task.InductSignals a b conflicts)) before now proofs name = SignalsMeans (held a) (held b) before now proofs name
 Means held (Some (task.InductUnder a b c conflicts)) before now proofs name = TiesMean conflicts (held a) (held b) (held c) before now proofs name
@@ -66,6 +68,7 @@ IsComplete held (Some (task.Cert a b pair lrat conflicts)) name = IsCertComplete
 IsComplete held (Some (task.Search a b cycles conflicts)) name = IsSearchComplete (held a) (held b) name
 IsComplete held (Some (task.SearchUnder a b c cycles conflicts)) name = IsUnderComplete cycles conflicts (held a) (held b) (held c) name
 IsComplete held (Some (task.After a b s cycles conflicts)) name = IsAfterComplete cycles (held a) (held b) (held s) name
+IsComplete held (Some (task.AfterUnder a b c s cycles conflicts)) name = IsAfterUnderComplete cycles conflicts (held a) (held b) (held c) (held s) name
 IsComplete held (Some (task.Induct a b conflicts)) name = IsInductComplete (held a) (held b) name
 IsComplete held (Some (task.InductSignals a b conflicts)) name = IsInductComplete (held a) (held b) name
 IsComplete held (Some (task.InductUnder a b c conflicts)) name = AreTiesComplete conflicts (held a) (held b) (held c) name

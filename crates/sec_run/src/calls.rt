@@ -15,6 +15,7 @@ ghost use Rattle.sec_run.specs.Promises.{Means, IsComplete};
 use base_shelves::{Shelf, Sink};
 use command_line::{Task, WordsError, job};
 use job_after::{AfterComparison, compare_after};
+use job_after_under::{AfterUnderComparison, compare_after_under};
 use job_base::{Finding, Status, StatusName, Stop, finish};
 use job_cert::job_lrat::{Refutation, check_refutation};
 use job_cert::{Certification, Wanted, certify};
@@ -227,6 +228,24 @@ fn find<S: Shelf>(alloc: Global, task: &Task, shelf: &mut S) -> Result<Finding, 
                 conflicts: *conflicts,
             };
             compare_after(alloc, &comparison, shelf)
+        }
+        Task::AfterUnder {
+            a,
+            b,
+            c,
+            s,
+            cycles,
+            conflicts,
+        } => {
+            let comparison = AfterUnderComparison {
+                left: a.as_str(),
+                right: b.as_str(),
+                assumed: c.as_str(),
+                stimulus: s.as_str(),
+                cycles: *cycles,
+                conflicts: *conflicts,
+            };
+            compare_after_under(alloc, &comparison, shelf)
         }
         Task::Induct { a, b, conflicts } => {
             let comparison = BlockComparison {

@@ -15,7 +15,7 @@ use Rattle.blif_read.specs.declared.design.Statement.TheVariants.{Names, Latch a
 use Rattle.blif_read.specs.Design.{Place, walk, circuit_of_design}
 use Rattle.blif_read.specs.Fault.{fault_of}
 use Rattle.blif_read.specs.Heads.{head_of}
-use Rattle.flat_net.specs.View.{NetView, ports_of}
+use Rattle.flat_net.specs.View.{NetView, circuit_of, ports_of}
 use Rattle.cycle_under.specs.declared.found.UnderError.{UnderError}
 use Rattle.cycle_under.specs.declared.found.UnderError.TheVariants as refused
 use Rattle.cycle_under.specs.Searches.{SearchesUnder}
@@ -40,35 +40,34 @@ use Rattle.premise_rows.proofs.block_premises.ResetPremises.{late_design, early_
 use Rattle.premise_rows.proofs.event_assume_rows.assume_rows.Meeting.{ones_meet}
 use Rattle.premise_rows.proofs.event_assume_rows.assume_rows.Shape.{no_fault}
 use Rattle.premise_rows.proofs.event_assume_rows.assume_rows.Spelled.{same_spells}
-use Rattle.premise_rows.proofs.search_premises.FirstCycle.{text_light, not_too_large}
+use Rattle.premise_rows.proofs.search_premises.FirstCycle.{CycleIsLight, text_light, not_too_large}
+
+-- a search of two light nets whose interfaces match, and that share a and b, refuses nothing
+pub stands : (l r c : NetView) → first_mismatch (ports_of l) (ports_of r) ≡ None → shared_inputs (ports_of l) (ports_of r) ≡ codes "a" ∷ codes "b" ∷ [] → (v w : ℕ) → CycleIsLight (circuit_of l) v → CycleIsLight (circuit_of r) w →
+    v ≤ 2000000 → w ≤ 2000000 → Loads same c → (cycles conflicts : ℕ) (e : UnderError) → e ≢ refused.NoMemory → SearchesUnder l r c cycles conflicts (Err e) → ⊥
+stands l r c matches names_are v w left right few_left few_right lc cycles conflicts (refused.Interface name) other h = let e : Some name ≡ None = sym h ∙ matches in cc
+stands l r c matches names_are v w left right few_left few_right lc cycles conflicts (refused.Assume f) other h =
+    no_fault (shared_inputs (ports_of l) (ports_of r)) (λ name has. subst (λ (ns : List (List ℕ)). Contains ns name) (sym names_are) has) c (net_is_small same same_design small_same same_spells c lc) f h.1
+stands l r c matches names_are v w left right few_left few_right lc cycles conflicts (refused.Vacuous by) other h = h.1.never (λ i. true) (ones_meet c lc (shared_inputs (ports_of l) (ports_of r)) h.1.assumed)
+stands l r c matches names_are v w left right few_left few_right lc cycles conflicts (refused.TooLarge A) other h = not_too_large l v left few_left h.2
+stands l r c matches names_are v w left right few_left few_right lc cycles conflicts (refused.TooLarge B) other h = not_too_large r w right few_right h.2
+stands l r c matches names_are v w left right few_left few_right lc cycles conflicts refused.NoMemory other h = other refl
 
 -- a and b are the inputs that both have
-abbrev ShareInputs : Small → Small → Type 0
+abbrev pub ShareInputs : Small → Small → Type 0
 ShareInputs s t = (own others : List (List ℕ)) → shared_inputs (small_ports s own) (small_ports t others) ≡ codes "a" ∷ codes "b" ∷ []
 
-module _ (x y : List ℕ) (m k : List BlifModel) (s t : Small) (p : Spells x m s) (q : Spells y k t) (ports : PortsMatch s t) (shared : ShareInputs s t) (v w : ℕ)
-    (left_is : circuit_weight (circuit_of_design m None) ≡ v) (right_is : circuit_weight (circuit_of_design k None) ≡ w) (few_left : v ≤ 2000000) (few_right : w ≤ 2000000) where
+module _ (x y : List ℕ) (m k : List BlifModel) (s t : Small) (p : Spells x m s) (q : Spells y k t) (ports : PortsMatch s t) (shared : ShareInputs s t) (v w : ℕ) (left_is : circuit_weight (circuit_of_design m None) ≡ v)
+    (right_is : circuit_weight (circuit_of_design k None) ≡ w) (few_left : v ≤ 2000000) (few_right : w ≤ 2000000) where
   module _ (a b : NetView) (la : Loads x a) (lb : Loads y b) where
-    matches : first_mismatch (ports_of a) (ports_of b) ≡ None
-    matches = match s t a b (net_is_small x m s p a la) (net_is_small y k t q b lb) ports
-
     abbrev names : List (List ℕ)
     names = shared_inputs (ports_of a) (ports_of b)
 
     names_are : names ≡ codes "a" ∷ codes "b" ∷ []
     names_are = ap₂ (λ (l r : Ports). shared_inputs l r) (ports_are s a (net_is_small x m s p a la)) (ports_are t b (net_is_small y k t q b lb)) ∙ shared (ports_of a).read (ports_of b).read
 
-    stands : (c : NetView) → Loads same c → (cycles conflicts : ℕ) (e : UnderError) → e ≢ refused.NoMemory → SearchesUnder a b c cycles conflicts (Err e) → ⊥
-    stands c lc cycles conflicts (refused.Interface name) other h = let e : Some name ≡ None = sym h ∙ matches in cc
-    stands c lc cycles conflicts (refused.Assume f) other h =
-        no_fault names (λ name has. subst (λ (ns : List (List ℕ)). Contains ns name) (sym names_are) has) c (net_is_small same same_design small_same same_spells c lc) f h.1
-    stands c lc cycles conflicts (refused.Vacuous by) other h = h.1.never (λ i. true) (ones_meet c lc names h.1.assumed)
-    stands c lc cycles conflicts (refused.TooLarge A) other h = not_too_large a v (text_light x m s p v left_is a la) few_left h.2
-    stands c lc cycles conflicts (refused.TooLarge B) other h = not_too_large b w (text_light y k t q w right_is b lb) few_right h.2
-    stands c lc cycles conflicts refused.NoMemory other h = other refl
-
     ties_stand : (c : NetView) → Loads same c → (conflicts : ℕ) (e : UnderError) → e ≢ refused.NoMemory → TiesRefuse conflicts a b c e → ⊥
-    ties_stand c lc conflicts (refused.Interface name) other h = let e : Some name ≡ None = sym h ∙ matches in cc
+    ties_stand c lc conflicts (refused.Interface name) other h = let e : Some name ≡ None = sym h ∙ match s t a b (net_is_small x m s p a la) (net_is_small y k t q b lb) ports in cc
     ties_stand c lc conflicts (refused.Assume f) other h =
         no_fault names (λ name has. subst (λ (ns : List (List ℕ)). Contains ns name) (sym names_are) has) c (net_is_small same same_design small_same same_spells c lc) f h.1
     ties_stand c lc conflicts (refused.Vacuous by) other h = h.1.never (λ i. true) (ones_meet c lc names h.1.assumed)
@@ -81,7 +80,11 @@ module _ (x y : List ℕ) (m k : List BlifModel) (s t : Small) (p : Spells x m s
     left = accepted x m s p;
     right = accepted y k t q;
     assumed = accepted same same_design small_same same_spells;
-    stands = λ a b c la lb lc e other h. stands a b la lb c lc cycles conflicts e other h;
+    stands = λ a b c la lb lc e other h.
+        let left = net_is_small x m s p a la in
+        let right = net_is_small y k t q b lb in
+        stands a b c (match s t a b left right ports) (ap₂ (λ (l r : Ports). shared_inputs l r) (ports_are s a left) (ports_are t b right) ∙ shared (ports_of a).read (ports_of b).read) v w
+        (text_light x m s p v left_is a la) (text_light y k t q w right_is b lb) few_left few_right lc cycles conflicts e other h;
   }
 
   tied : (conflicts : ℕ) → CanBeJudgedBy (TiesRefuse conflicts) x y same
@@ -93,18 +96,18 @@ module _ (x y : List ℕ) (m k : List BlifModel) (s t : Small) (p : Spells x m s
   }
 
 -- the latch turns where both fan-ins before it are 1, and where either is
-abbrev both_cover : Cover
+abbrev pub both_cover : Cover
 both_cover = record { width = 3; rows = codes "0-1" ∷ codes "-01" ∷ codes "110" ∷ []; on = true }
 
-abbrev either_cover : Cover
+abbrev pub either_cover : Cover
 either_cover = record { width = 3; rows = codes "001" ∷ codes "1-0" ∷ codes "-10" ∷ []; on = true }
 
-abbrev turns_design : Cover → List BlifModel
+abbrev pub turns_design : Cover → List BlifModel
 turns_design cover = one_model (codes "a" ∷ codes "b" ∷ []) (codes "y" ∷ [])
     (Names 4 (codes "a" ∷ codes "b" ∷ codes "q" ∷ []) (codes "n") cover ∷ LatchLine 8 (codes "n") (codes "q") None None init.Zero ∷ Names 9 (codes "q" ∷ []) (codes "y") same_cover ∷ [])
 
 -- with its latch cut open no cycle is left
-abbrev small_turns : Small
+abbrev pub small_turns : Small
 small_turns = record { inputs = codes "a" ∷ codes "b" ∷ []; outputs = codes "y" ∷ []; latches = codes "q" ∷ []; removed = codes "q" ∷ []; weight = 19 }
 
 abbrev spots : List (Weighed Place)
@@ -129,7 +132,7 @@ either_sound : has_no_fault order (turns_design either_cover) ≡ true
 unfolding walk
 either_sound = refl
 
-both_spells : Spells turns_with_both (turns_design both_cover) small_turns
+pub both_spells : Spells turns_with_both (turns_design both_cover) small_turns
 unfolding fault_of head_of cut_line going_on
 both_spells = record {
   short = omega arith;
@@ -139,7 +142,7 @@ both_spells = record {
   small = (tested_is_sound order (turns_design both_cover) both_sound, tested_is_small (turns_design both_cover) small_turns flat_rank spots both_passes);
 }
 
-either_spells : Spells turns_with_either (turns_design either_cover) small_turns
+pub either_spells : Spells turns_with_either (turns_design either_cover) small_turns
 unfolding fault_of head_of cut_line going_on
 either_spells = record {
   short = omega arith;

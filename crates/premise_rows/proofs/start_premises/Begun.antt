@@ -107,16 +107,16 @@ turned_spells = record {
 }
 
 -- the ports of the net that begins
-begun_ports : (s : Small) (net : NetView) (known : List (Option Bool)) → IsSmall s net → ports_of (begun net known) ≡ small_ports s (ports_of (begun net known)).read
+pub begun_ports : (s : Small) (net : NetView) (known : List (Option Bool)) → IsSmall s net → ports_of (begun net known) ≡ small_ports s (ports_of (begun net known)).read
 begun_ports s net known own =
     ap₂ (λ (is os : List (List ℕ)). record { inputs = is; outputs = os; clock = net.clock; read = (ports_of (begun net known)).read }) own.inputs own.outputs
     ∙ ap (λ (c : Option (List ℕ)). record { inputs = s.inputs; outputs = s.outputs; clock = c; read = (ports_of (begun net known)).read }) own.unclocked
 
 -- the latches that a header opens, by the names of inputs and of latches
-abbrev opened_of : List (List ℕ) → List (List ℕ) → List (List ℕ) → List (List ℕ) → List (List ℕ)
+abbrev pub opened_of : List (List ℕ) → List (List ℕ) → List (List ℕ) → List (List ℕ) → List (List ℕ)
 opened_of left right latches header = filter (λ name. is_among header name && not (is_among left name || is_among right name)) latches
 
-none_opened : (header : List (List ℕ)) (s t : Small) (a b : NetView) → IsSmall s a → IsSmall t b → opened_of s.inputs t.inputs s.latches header ≡ [] → opened a b header ≡ []
+pub none_opened : (header : List (List ℕ)) (s t : Small) (a b : NetView) → IsSmall s a → IsSmall t b → opened_of s.inputs t.inputs s.latches header ≡ [] → opened a b header ≡ []
 none_opened header s t a b left right none =
     ap (λ (names : List (List ℕ)). opened_of names (input_names b) (latch_names a) header) left.inputs
     ∙ (ap (λ (names : List (List ℕ)). opened_of s.inputs names (latch_names a) header) right.inputs ∙ (ap (λ (names : List (List ℕ)). opened_of s.inputs t.inputs names header) left.counted ∙ none))
@@ -176,7 +176,7 @@ reset_form = record {
 reset_stimulus : IsStimulus one_reset (codes "r" ∷ []) ((true ∷ []) ∷ [])
 reset_stimulus = record { short = omega arith; form = reset_form }
 
-both_stimulus : IsStimulus both_and_none (codes "a" ∷ codes "b" ∷ []) ((true ∷ true ∷ []) ∷ (false ∷ false ∷ []) ∷ [])
+pub both_stimulus : IsStimulus both_and_none (codes "a" ∷ codes "b" ∷ []) ((true ∷ true ∷ []) ∷ (false ∷ false ∷ []) ∷ [])
 both_stimulus = record { short = omega arith; form = both_form }
 
 retimed : CanBeBegun IsWide late early both_and_none

@@ -4,8 +4,8 @@ use Rattle.witness_report.specs.declared.witness.PairName.TheVariants as pair
 use Rattle.restart.proofs.Shown.{shows, knows_same, bits_apart}
 use Rattle.restart.proofs.sequence.shown_behind.Goals as goal
 
-pub returns : goal.returns
-returns c =
+pub returns-clause-shown : goal.returns-clause-shown
+returns-clause-shown c =
     let s = c.in_ok-stimulus.stimulus in
     let size = c.in_ok-stimulus.ensures.size in
     let last : c.in-Ok.count - 1 ≡ length s.rows - 1 = omega (arith, c.in-Ok.ensures, c.len-2.ensures) in
@@ -30,3 +30,10 @@ returns c =
         right_shows = r.2;
       };
     }
+
+pub returns-clause-goes_on : goal.returns-clause-goes_on
+returns-clause-goes_on c = record {
+  names_are = c.in_ok-stimulus.ensures.names;
+  rows_are = c.in_ok-stimulus.ensures.behind;
+  cycle_is = omega (arith, c.in_ok-stimulus.ensures.size, c.len.ensures, c.if-len-eq0.false, c.in-Ok.ensures, c.len-2.ensures);
+}

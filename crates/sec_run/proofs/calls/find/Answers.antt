@@ -59,6 +59,12 @@ compare_after-requires g c = (subst IsAllowed c.in-After.is c.requires).0
 pub compare_begun-requires : goal.compare_begun-requires
 compare_begun-requires g c = subst IsAllowed c.in-InductAfter.is c.requires
 
+pub compare_after_under-requires-clause-conflicts : goal.compare_after_under-requires-clause-conflicts
+compare_after_under-requires-clause-conflicts g c = (subst IsAllowed c.in-AfterUnder.is c.requires).0
+
+pub compare_after_under-requires-clause-cycles : goal.compare_after_under-requires-clause-cycles
+compare_after_under-requires-clause-cycles g c = (subst IsAllowed c.in-AfterUnder.is c.requires).1
+
 pub returns-in-Gen-clause-found : goal.returns-in-Gen-clause-found
 returns-in-Gen-clause-found g c =
     let held = g.S.Shelf.held c.args.shelf.now in

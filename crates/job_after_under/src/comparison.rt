@@ -1,0 +1,62 @@
+//! Two files searched for a difference behind the rows of a third, under the assumption of a fourth.
+
+ghost use Rattle.std.specs.Prelude.{◌≡◌, ◌≤◌, ℕ, List, IsErrOf};
+ghost use Rattle.base_shelves.specs.Outside.{SameHeld, NoneFell};
+ghost use Rattle.job_after_under.specs.Ends.{AfterUnderJob, AfterUnderFound};
+
+use crate::judging::{fault_end, judge};
+use base_shelves::Shelf;
+use job_base::sec_files::job_files::stimulus_end;
+use job_base::sec_files::load_stimulus;
+use job_base::{Finding, Stop};
+use job_under::{ReadThree, UnderPaths, read_three};
+use sec_base::MAX_CONFLICTS;
+use std::alloc::Global;
+
+/// The paths of two circuits, of the assumption on their inputs, and of a stimulus, behind whose rows the circuits are searched for a
+/// difference.
+#[derive(Clone, Copy)]
+pub struct AfterUnderComparison<'a> {
+    pub left: &'a str,
+    pub right: &'a str,
+    pub assumed: &'a str,
+    pub stimulus: &'a str,
+    /// The last cycle behind the rows that is to be compared, at most 1,000; the first one is 0.
+    pub cycles: u32,
+    /// The greatest number of conflicts of each query, 0 to 200,000.
+    pub conflicts: u32,
+}
+
+/// Loads both circuits, A first, then the assumption and then the stimulus, and compares the circuits behind its rows, in the runs whose inputs
+/// make the assumption's output 1 in each cycle there.
+pub fn compare_after_under<S: Shelf>(
+    alloc: Global,
+    comparison: &AfterUnderComparison<'_>,
+    shelf: &mut S,
+) -> Result<Finding, Stop>
+    requires conflicts { comparison.now.conflicts ≤ MAX_CONFLICTS }
+    requires cycles { comparison.now.cycles ≤ 1000 }
+    ensures found { let job : AfterUnderJob = record { left = comparison.now.left.now; right = comparison.now.right.now; assumed = comparison.now.assumed.now; stimulus = comparison.now.stimulus.now; cycles = comparison.now.cycles; conflicts = comparison.now.conflicts } in
+        AfterUnderFound (S.held shelf.old) (S.faults shelf.old) (S.faults shelf.new) job result }
+    ensures keeps { SameHeld (S.held shelf.old) (S.held shelf.new) }
+    ensures later { NoneFell (S.faults shelf.old) (S.faults shelf.new) }
+    ensures served { S.serves shelf.old comparison.now.left.now → S.serves shelf.old comparison.now.right.now → S.serves shelf.old comparison.now.assumed.now → S.serves shelf.old comparison.now.stimulus.now → IsErrOf result Stop.ReadFault → ⊥ }
+    ensures serving { (other : List ℕ) → S.serves shelf.old other → S.serves shelf.new other }
+{
+    let paths = UnderPaths {
+        left: comparison.left,
+        right: comparison.right,
+        assumed: comparison.assumed,
+    };
+    match read_three(alloc, &paths, shelf) {
+        ReadThree::Whole(a, b, c) => match load_stimulus(alloc, shelf, comparison.stimulus) {
+            Ok(stimulus) => {
+                let (cycles, conflicts) = (comparison.cycles, comparison.conflicts);
+                let judged = judge(alloc, a, b, &c, &stimulus, cycles, conflicts);
+                fault_end(judged)
+            }
+            Err(error) => stimulus_end(error),
+        },
+        ReadThree::Ended(end) => end,
+    }
+}

@@ -1,0 +1,11 @@
+-- Texts that meet the premise of what is promised of searches behind a reset sequence under an assumption.
+use Rattle.std.specs.Prelude.{ℕ}
+use Rattle.job_after_under.specs.Answer.{CanBeSearchedBehind}
+use Rattle.job_check.specs.check_meaning.design_rows.Texts.{late, early}
+use Rattle.premise_rows.specs.event_assume_rows.assume_rows.SameInputs.{same}
+use Rattle.premise_rows.specs.job_rows.Replays.{both_and_none}
+use Rattle.premise_rows.specs.search_premises.SearchedUnder.{turns_with_both, turns_with_either}
+
+-- a retiming, and two latches on cycles, behind two cycles; there both inputs are equal
+abbrev pub TextsCanBeginUnder : Type 0
+TextsCanBeginUnder = (cycles conflicts : ℕ) → CanBeSearchedBehind cycles conflicts late early same both_and_none × CanBeSearchedBehind cycles conflicts turns_with_both turns_with_either same both_and_none
