@@ -37,7 +37,9 @@ pub(crate) fn judge_behind(
     let rows = stimulus.rows.len() as u64;
     let text = text_behind(alloc, &a, &b, rows, &left, &right, &judged.text)?;
     let Judged {
-        judgement, proofs, ..
+        judgement,
+        proofs,
+        ..
     } = judged;
     Ok(Judged {
         judgement,
@@ -88,7 +90,9 @@ fn by_ties(
 }
 
 /// What is judged by blocks.
-fn by_blocks(judged: Result<job_induct::Judged, job_induct::JudgeError>) -> Result<Judged, AfterFault>
+fn by_blocks(
+    judged: Result<job_induct::Judged, job_induct::JudgeError>,
+) -> Result<Judged, AfterFault>
     ensures { result ≡ by_blocks judged }
 {
     match judged {
