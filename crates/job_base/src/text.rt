@@ -275,6 +275,20 @@ fn pair_kind_text(kind: PairKind) -> &'static str
     }
 }
 
+fn put_numbered(
+    alloc: Global,
+    text: &mut Vec<u8>,
+    front: &[u8],
+    number: u32,
+    word: &[u8],
+) -> Result<(), NoMemory>
+    ensures { OnOk result (text.new.items ≡ text.old.items ++ (front.now ++ decimal number ++ 32 ∷ [] ++ word.now ++ 10 ∷ [])) }
+{
+    put(text, front)?;
+    put_number(alloc, text, u64::from(number))?;
+    put_line(text, b" ", word)
+}
+
 fn put_pairs_line(
     alloc: Global,
     text: &mut Vec<u8>,
@@ -283,9 +297,8 @@ fn put_pairs_line(
 ) -> Result<(), NoMemory>
     ensures { OnOk result (text.new.items ≡ text.old.items ++ (codes "refused P line " ++ decimal line ++ 32 ∷ [] ++ pair_kind_text kind ++ 10 ∷ [])) }
 {
-    put(text, b"refused P line ")?;
-    put_number(alloc, text, u64::from(line))?;
-    put_line(text, b" ", pair_kind_text(kind).as_bytes())
+    let word = pair_kind_text(kind);
+    put_numbered(alloc, text, b"refused P line ", line, word.as_bytes())
 }
 
 fn put_pairs_fault(alloc: Global, text: &mut Vec<u8>, fault: PairsFault) -> Result<(), NoMemory>
