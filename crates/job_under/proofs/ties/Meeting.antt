@@ -22,16 +22,23 @@ use Rattle.signal_refine.specs.declared.nets.SignalNets.{SignalNets}
 use Rattle.signal_refine.specs.Assuming.{IsMet}
 use Rattle.job_under.specs.ties.Judged.{MeetsBeside}
 
+-- a place of A's beside B's
+abbrev own : ℕ → Either ℕ ℕ
+own p = Left p
+
 -- a number of one of A's inputs is one of the same of both circuits side by side
-number_beside : (inputs : List (Named ℕ)) (others : List (Named (Either ℕ ℕ))) (left right : List ℕ) (p i : ℕ) → StandsBeside inputs left p i → StandsBeside (map (moved_name Left) inputs ++ others) (left ++ right) (Left p) i
-number_beside [] others left right p i h = absurd h
-number_beside (n ∷ inputs) others [] right p i h = absurd h
-number_beside (n ∷ inputs) others (j ∷ left) right p i h = go (λ k. number_beside inputs others left right p i k) h
-  where
-    go : (StandsBeside inputs left p i → StandsBeside (map (moved_name Left) inputs ++ others) (left ++ right) (Left p) i) → ((n.place ≡ p) × (j ≡ i)) ⊎ StandsBeside inputs left p i →
-        ((Left n.place ≡ Left p) × (j ≡ i)) ⊎ StandsBeside (map (moved_name Left) inputs ++ others) (left ++ right) (Left p) i
-    go later (inl q) = inl (ap Left q.0, q.1)
-    go later (inr k) = inr (later k)
+module _ (others : List (Named (Either ℕ ℕ))) (right : List ℕ) where
+  abbrev Beside : List (Named ℕ) → List ℕ → ℕ → ℕ → Type 0
+  Beside inputs left p i = StandsBeside (map (moved_name own) inputs ++ others) (left ++ right) (own p) i
+
+  one_beside : (n : Named ℕ) (inputs : List (Named ℕ)) (j : ℕ) (left : List ℕ) (p i : ℕ) → (StandsBeside inputs left p i → Beside inputs left p i) → ((n.place ≡ p) × (j ≡ i)) ⊎ StandsBeside inputs left p i → Beside (n ∷ inputs) (j ∷ left) p i
+  one_beside n inputs j left p i later (inl q) = inl (ap own q.0, q.1)
+  one_beside n inputs j left p i later (inr k) = inr (later k)
+
+  number_beside : (inputs : List (Named ℕ)) (left : List ℕ) (p i : ℕ) → StandsBeside inputs left p i → Beside inputs left p i
+  number_beside [] left p i h = absurd h
+  number_beside (n ∷ inputs) [] p i h = absurd h
+  number_beside (n ∷ inputs) (j ∷ left) p i h = one_beside n inputs j left p i (λ k. number_beside inputs left p i k) h
 
 module _ (a b c : NetView) (premise : Premise) (is : IsPremiseOf (shared_inputs (ports_of a) (ports_of b)) c (length (shared_inputs (ports_of a) (ports_of b))) premise) (trees : HasTreeValues premise.own.aig) (nets : SignalNets) (left_is : nets.left.now ≡ a)
     (orders : AreOrders (ports_of a) (ports_of b) nets.orders.now.left nets.orders.now.right) (w : Assumed) (graph_is : w.graph.now ≡ premise.own.aig) (lit_is : w.lit.0 ≡ premise.own.function.lit.0) (numbers_are : w.numbers.now ≡ map (λ p. p.0) premise.own.places) where
@@ -66,5 +73,8 @@ module _ (a b c : NetView) (premise : Premise) (is : IsPremiseOf (shared_inputs 
       ∙ (ap (value premise.own.aig (renamed numbers k)) lit_is
       ∙ holds_by k (run_holds under (circuit_of a) left reads 1 (λ t p. x (Left p)) (λ t low. meets) 0 (omega arith) k (λ p i number. inputs (Left p) i (beside p i number)))))
     where
-      beside : (p i : ℕ) → IsInputNumber (circuit_of a) left p i → StandsBeside (map (moved_name Left) (circuit_of nets.left.now).inputs ++ map (moved_name Right) (circuit_of nets.right.now).inputs) (left ++ nets.orders.now.right) (Left p) i
-      beside p i h = number_beside (circuit_of nets.left.now).inputs (map (moved_name Right) (circuit_of nets.right.now).inputs) left nets.orders.now.right p i (subst (λ (n : NetView). StandsBeside (circuit_of n).inputs left p i) (sym left_is) h)
+      others : List (Named (Either ℕ ℕ))
+      others = map (moved_name Right) (circuit_of nets.right.now).inputs
+
+      beside : (p i : ℕ) → IsInputNumber (circuit_of a) left p i → StandsBeside (map (moved_name own) (circuit_of nets.left.now).inputs ++ others) (left ++ nets.orders.now.right) (own p) i
+      beside p i h = number_beside others nets.orders.now.right (circuit_of nets.left.now).inputs left p i (subst (λ (n : NetView). StandsBeside (circuit_of n).inputs left p i) (sym left_is) h)

@@ -33,8 +33,8 @@ name_of-requires c =
     let one = ap length taken.assumed.shape.outputs in
     omega (arith, one)
 
-pub returns-in_ok-judged-in-Limit : goal.returns-in_ok-judged-in-Limit
-returns-in_ok-judged-in-Limit c =
+pub returns : goal.returns
+returns c =
     let a = c.args.a.now in
     let b = c.args.b.now in
     let conflicts = c.args.conflicts in
