@@ -278,7 +278,7 @@ induct_is words e help known =
     let a = first_good c (codes "a") _ rows refl read.good (read.required (codes "a") _ refl refl) in
     let b = first_good c (codes "b") _ rows refl read.good (read.required (codes "b") _ refl refl) in
     let n = first_good c (codes "conflicts") _ rows refl read.good (read.defaulted (codes "conflicts") _ (codes "20000") [] refl refl) in
-    induct_job rows a.0 b.0 n.0 a.1 b.1 n.1 n.2
+    induct_job rows a.0 b.0 n.0 a.1 b.1 n.1 n.2 known
 
 help_is : IsJob (built_leaf help_shape)
 help_is words e help known = absurd (true≢false help)
