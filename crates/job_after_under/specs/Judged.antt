@@ -27,6 +27,7 @@ pub record IsShownUnder (a b c : NetView) (names : List (List ℕ)) (rows : List
 pub record IsBehindUnder (a b c : NetView) (names : List (List ℕ)) (rows : List (List Bool)) (cycles conflicts : ℕ) (h : Behind) : Type 0 where
   pub left_begun : IsBegun a names rows h.left_known h.left
   pub right_begun : IsBegun b names rows h.right_known h.right
+  pub last_is : h.cycles ≡ cycles
   pub searched : AreSearchedUnder h.left h.right c cycles conflicts h.made
 
 -- What is judged and written of a search, of runs that begin by the rows and meet the assumption in each cycle behind them. Where no

@@ -93,8 +93,9 @@ returns-in-Searched c =
     let told : IsTold l r k s.names s.rows left right cycles conflicts name made j =
     subst (λ (ls : List (Option Bool)). IsTold l r k s.names s.rows ls right cycles conflicts name made j) c.deref.ensures.value
     (subst (λ (rs : List (Option Bool)). IsTold l r k s.names s.rows c.deref.result.now rs cycles conflicts name made j) c.deref-2.ensures.value c.in_ok-judged-in-Searched.ensures) in
-    let h : Behind = record { left_known = left; right_known = right; left = l; right = r; made = made; shown = told.shown } in
+    let h : Behind = record { left_known = left; right_known = right; left = l; right = r; cycles = cycles; made = made; shown = told.shown } in
     let is : IsBehindUnder a b k s.names s.rows cycles conflicts h = record {
+      last_is = refl;
       left_begun = subst (λ (names : List (List ℕ)). IsBegun a names s.rows left l) c.in_ok-header.ensures c.in_ok-left.ensures;
       right_begun = subst (λ (names : List (List ℕ)). IsBegun b names s.rows right r) c.in_ok-header.ensures c.in_ok-right.ensures;
       searched = found.0;
