@@ -51,6 +51,7 @@ module _ (cycles conflicts : ℕ) (left right assumed stimulus : Option (List �
   not_misread (refusal.Misfit m) h = h
   not_misread refusal.TooManyEvents h = h
   not_misread (refusal.Pair name) h = h
+  not_misread (refusal.Pairs fault) h = h
 
   read : (r : Refusal) → IsUnreadRefusal left right assumed stimulus r → ⊥
   read r (inl h) = not_unread left right assumed x y u is also third can.left can.right can.assumed r h
@@ -90,6 +91,7 @@ module _ (cycles conflicts : ℕ) (left right assumed stimulus : Option (List �
   stands (refusal.Misfit misfit.Power) h = h
   stands refusal.TooManyEvents h = read refusal.TooManyEvents h
   stands (refusal.Pair name) h = read (refusal.Pair name) h
+  stands (refusal.Pairs fault) h = read (refusal.Pairs fault) h
 
   judged : (j : Judgement) → IsAfterUnderAnswer (judgement_status j)
   judged judgement.Equal = tt

@@ -36,6 +36,7 @@ module _ (cycles conflicts : ℕ) (left right assumed stimulus : Option (List �
   refused_so (refusal.Assume fault) h = absurd h
   refused_so refusal.Vacuous h = absurd h
   refused_so (refusal.Pair name) h = absurd h
+  refused_so (refusal.Pairs fault) h = absurd h
 
   found_so : (f : Finding) → IsUnread left right assumed f → IsAfterUnderFound cycles conflicts left right assumed stimulus f
   found_so finding.Words h = absurd h
