@@ -24,7 +24,8 @@ use Rattle.job_base.specs.declared.status.StatusName.TheVariants as status
 use Rattle.job_base.specs.Lines.{finding_text, unsettled_text}
 use Rattle.job_base.specs.Written.{status_of, IsWrittenAs}
 use Rattle.job_cert.specs.Made.{Request, Refutes, IsMadeBy, IsCertificate}
-use Rattle.job_cert.specs.Found.{OfNets, IsCertFound}
+use Rattle.job_base.specs.sec_files.job_files.Texts.{OfNets}
+use Rattle.job_cert.specs.Found.{IsCertFound}
 use Rattle.job_cert.specs.Answer.{TellsText, FitsPrinted, CertMeans}
 use Rattle.job_cert.proofs.pair_clauses.OneText.{text_one_encoding}
 

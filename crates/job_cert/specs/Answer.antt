@@ -22,7 +22,7 @@ use Rattle.job_base.specs.declared.status.StatusName.{StatusName}
 use Rattle.job_base.specs.declared.status.StatusName.TheVariants as status
 use Rattle.job_base.specs.Lines.{satisfiable_text, unsettled_text}
 use Rattle.job_base.specs.Meaning.{EndsWith}
-use Rattle.job_cert.specs.Found.{OfNets}
+use Rattle.job_base.specs.sec_files.job_files.Texts.{OfNets}
 use Rattle.job_cert.specs.Made.{Request, Refutes}
 
 -- the text spells clauses that can be met exactly where the functions of the pair differ

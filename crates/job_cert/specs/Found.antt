@@ -1,39 +1,22 @@
 -- What is true of the files of a certificate where it finds what it does. A text is given where it is told.
-use Rattle.std.specs.Prelude.{ℕ, List, [], ◌∷◌, Option, IfSome, Err}
-use Rattle.flat_net.specs.View.{NetView}
+use Rattle.std.specs.Prelude.{ℕ, List, [], ◌∷◌, Option, Err}
 use Rattle.plain_check.specs.under_base.compare_base.Compared.{Compared}
 use Rattle.plain_check.specs.declared.under_base.compare_base.error.CompareError.TheVariants as compare_error
-use Rattle.job_base.specs.sec_files.Loading.{Loads, IsTooLong, HasFault, HasDesignFault, HasRecordFault}
+use Rattle.job_base.specs.sec_files.Loading.{IsTooLong, HasFault, HasDesignFault, HasRecordFault}
 use Rattle.job_cert.specs.pair_clauses.Clauses.{plainly, PairGives}
 use Rattle.job_cert.specs.declared.pair_clauses.error.CertError.TheVariants.{Pair}
-use Rattle.job_base.specs.declared.finding.File.{File}
 use Rattle.job_base.specs.declared.finding.File.TheVariants as file
 use Rattle.job_base.specs.declared.finding.LineFault.TheVariants as line_fault
 use Rattle.job_base.specs.declared.finding.Refusal.{Refusal}
 use Rattle.job_base.specs.declared.finding.Refusal.TheVariants as refusal
 use Rattle.job_base.specs.declared.finding.Finding.{Finding}
 use Rattle.job_base.specs.declared.finding.Finding.TheVariants as finding
-use Rattle.job_base.specs.sec_files.job_files.Reading.{IsLoaded}
 use Rattle.job_cert.specs.Made.{Request, IsCertificate}
+use Rattle.job_base.specs.sec_files.job_files.Texts.{OfNets, OfCircuit}
 
 -- the paths that a certificate reads, in the order of their fetches
 abbrev pub cert_paths : List ℕ → List ℕ → List (List ℕ)
 cert_paths left right = left ∷ right ∷ []
-
--- what is said of a circuit's text; B is looked at only where A loads, and there is no assumption and no stimulus
-abbrev pub OfCircuit : Option (List ℕ) → Option (List ℕ) → File → (List ℕ → Type 0) → Type 0
-OfCircuit left right file.A P = IfSome left P
-OfCircuit left right file.B P = IsLoaded left × IfSome right P
-OfCircuit left right file.C P = ⊥
-OfCircuit left right file.S P = ⊥
-
--- what is said of the two nets that the texts load as
-pub record OfNets (left right : Option (List ℕ)) (P : NetView → NetView → Type 0) : Type 0 where
-  pub a : NetView
-  pub b : NetView
-  pub left_loads : IfSome left (λ x. Loads x a)
-  pub right_loads : IfSome right (λ y. Loads y b)
-  pub said : P a b
 
 -- why there is no certificate; the first cause in the order of the work
 abbrev pub IsCertRefusal : Request → Option (List ℕ) → Option (List ℕ) → Refusal → Type 0

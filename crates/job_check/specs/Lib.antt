@@ -1,2 +1,3 @@
 pub mod compare_under
+pub mod pair_texts
 pub mod check_meaning

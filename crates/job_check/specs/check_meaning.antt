@@ -1,9 +1,6 @@
 pub mod Answer
-pub mod check_texts
 pub mod event_texts
 pub mod event_meaning
 pub mod event_texts_under
-pub mod assume_texts
 pub mod check_found
-pub mod design_rows
 pub use Rattle.event_setup.specs.event_meaning.event_names.event_fits.Compared

@@ -3,6 +3,7 @@
 
 pub mod check_meaning;
 pub mod compare_under;
+pub mod pair_texts;
 mod comparison;
 pub mod sec_check;
 

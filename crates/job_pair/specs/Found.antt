@@ -15,7 +15,8 @@ use Rattle.job_base.specs.declared.finding.Finding.TheVariants as finding
 use Rattle.job_base.specs.sec_files.Loading.{IsTooLong, HasFault, HasDesignFault, HasRecordFault}
 use Rattle.job_base.specs.sec_files.job_files.Reading.{Held}
 use Rattle.job_check.specs.check_meaning.check_found.Check.{Check}
-use Rattle.job_check.specs.check_meaning.check_found.Found.{OfFile, OfNets}
+use Rattle.job_base.specs.sec_files.job_files.Texts.{OfNets}
+use Rattle.job_check.specs.check_meaning.check_found.Found.{OfFile}
 
 -- the comparison of two files
 abbrev pub check_of : Settings → List ℕ → List ℕ → Check

@@ -12,7 +12,7 @@ use Rattle.job_base.specs.declared.status.StatusName.TheVariants as status
 use Rattle.job_base.specs.sec_files.job_files.Reading.{Held}
 use Rattle.job_check.specs.check_meaning.Answer.{CheckMeans}
 use Rattle.job_check.specs.check_meaning.check_found.Check.{Check}
-use Rattle.job_check.specs.check_meaning.check_found.Found.{OfNets, OfThreeNets}
+use Rattle.job_base.specs.sec_files.job_files.Texts.{OfNets, OfThreeNets}
 use Rattle.job_settles.specs.Found.{IsSettledBy}
 use Rattle.job_settles.specs.Report.{settles_judgement, settles_proofs, settles_text}
 use Rattle.job_settles.specs.Says.{SaysNeverOfAll, SaysNeverOfAllUnder}

@@ -23,7 +23,8 @@ use Rattle.job_base.specs.sec_files.job_files.Ends.{load_end}
 use Rattle.job_base.specs.sec_files.job_files.Reading.{Held, ReadFailed}
 use Rattle.job_check.specs.check_meaning.check_found.Check.{Check, check_paths}
 use Rattle.job_check.specs.check_meaning.check_found.Ends.{compare_end}
-use Rattle.job_check.specs.check_meaning.check_found.Found.{OfNets, OfThreeNets, IsFoundOf}
+use Rattle.job_base.specs.sec_files.job_files.Texts.{OfNets, OfThreeNets}
+use Rattle.job_check.specs.check_meaning.check_found.Found.{IsFoundOf}
 use Rattle.job_settles.specs.Report.{settles_judgement, settles_proofs, settles_text}
 use Rattle.job_settles.specs.Settled.{SettledIn, SettledUnderIn}
 

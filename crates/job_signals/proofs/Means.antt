@@ -15,7 +15,7 @@ use Rattle.job_base.specs.declared.status.StatusName.{StatusName}
 use Rattle.job_base.specs.declared.status.StatusName.TheVariants as status
 use Rattle.job_base.specs.Written.{judgement_status, IsWrittenAs}
 use Rattle.signal_induct.specs.Tied.{first_apart}
-use Rattle.sec_jobs.specs.job_induct.induct_meaning.Found.{OfNets}
+use Rattle.job_base.specs.sec_files.job_files.Texts.{OfNets}
 use Rattle.sec_jobs.proofs.job_induct.induct_meaning.Means.{of_texts}
 use Rattle.job_signals.specs.Judged.{judgement_of, IsJudged}
 use Rattle.job_signals.specs.Found.{IsSignalsFound}

@@ -12,7 +12,7 @@ use Rattle.job_base.specs.declared.status.StatusName.TheVariants as status
 use Rattle.signal_induct.specs.declared.induction.SignalInduction.{SignalInduction}
 use Rattle.signal_induct.specs.Tied.{first_apart, IsSignalInduction}
 use Rattle.signal_induct.specs.signals_report.Report.{signals_text}
-use Rattle.sec_jobs.specs.job_induct.induct_meaning.Answer.{OfTexts}
+use Rattle.job_base.specs.sec_files.job_files.Texts.{OfTexts}
 
 -- The circuits that the two texts spell, and the nets that they load as. Ties of the nets' signals are an inductive invariant of both,
 -- outputs are compared by them, and the report of all this, with the ties of the latches among it, is taken behind what was written before.

@@ -2,7 +2,8 @@
 use Rattle.std.specs.Prelude.{◌≡◌, ℕ, List, [], Option}
 use Rattle.job_base.specs.declared.finding.Finding.{Finding}
 use Rattle.job_base.specs.declared.finding.Finding.TheVariants as finding
-use Rattle.sec_jobs.specs.job_induct.induct_meaning.Found.{OfNets, IsInductRefusal}
+use Rattle.job_base.specs.sec_files.job_files.Texts.{OfNets}
+use Rattle.sec_jobs.specs.job_induct.induct_meaning.Found.{IsInductRefusal}
 use Rattle.job_signals.specs.Judged.{IsJudged}
 
 -- what is found of two files; they are refused where the comparison by blocks refuses them

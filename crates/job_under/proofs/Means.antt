@@ -27,10 +27,10 @@ use Rattle.job_base.specs.declared.finding.Finding.TheVariants as finding
 use Rattle.job_base.specs.declared.status.StatusName.{StatusName}
 use Rattle.job_base.specs.declared.status.StatusName.TheVariants as status
 use Rattle.job_base.specs.Written.{judgement_status, IsWrittenAs}
-use Rattle.job_check.specs.check_meaning.check_found.Found.{OfThreeNets, OfThreeTexts}
-use Rattle.job_check.proofs.check_meaning.assume_texts.Designs.{resets_agree_up, resets_differ_up, sequence_up}
-use Rattle.job_check.proofs.check_meaning.assume_texts.Sequences.{differ_where_met, resets_where_met, sequence_meets}
-use Rattle.job_check.proofs.check_meaning.assume_texts.Texts.{spelled}
+use Rattle.job_base.specs.sec_files.job_files.Texts.{OfThreeNets, OfThreeTexts}
+use Rattle.job_check.proofs.pair_texts.assume_texts.Designs.{resets_agree_up, resets_differ_up, sequence_up}
+use Rattle.job_check.proofs.pair_texts.assume_texts.Sequences.{differ_where_met, resets_where_met, sequence_meets}
+use Rattle.job_check.proofs.pair_texts.assume_texts.Texts.{spelled}
 use Rattle.cycle_search.specs.declared.found.SearchVerdict.{SearchVerdict}
 use Rattle.cycle_search.specs.declared.found.SearchVerdict.TheVariants as verdict
 use Rattle.cycle_under.specs.Cycles.{ResultUnder}

@@ -16,10 +16,10 @@ use Rattle.assume_queries.specs.assume_sequences.assume_taken.Taken.{assumed_by,
 use Rattle.job_base.specs.declared.status.StatusName.{StatusName}
 use Rattle.job_base.specs.declared.status.StatusName.TheVariants as status
 use Rattle.job_base.specs.sec_files.Loading.{IsAccepted, Loads}
-use Rattle.job_check.specs.check_meaning.assume_texts.Agreement.{AgreeFromResetWhereMet, MakesResetsDifferWhereMet}
-use Rattle.job_check.specs.check_meaning.assume_texts.Meets.{RunMeetsCircuit, SequenceMeetsCircuit}
-use Rattle.job_check.specs.check_meaning.assume_texts.Texts.{ThreeCircuits}
-use Rattle.job_check.specs.check_meaning.check_found.Found.{OfThreeTexts}
+use Rattle.job_check.specs.pair_texts.assume_texts.Agreement.{AgreeFromResetWhereMet, MakesResetsDifferWhereMet}
+use Rattle.job_check.specs.pair_texts.assume_texts.Meets.{RunMeetsCircuit, SequenceMeetsCircuit}
+use Rattle.job_check.specs.pair_texts.assume_texts.Texts.{ThreeCircuits}
+use Rattle.job_base.specs.sec_files.job_files.Texts.{OfThreeTexts}
 use Rattle.cycle_search.specs.declared.found.Searched.{Searched}
 use Rattle.cycle_search.specs.declared.found.SearchVerdict.TheVariants as verdict
 use Rattle.cycle_search.specs.Searches.{IsNumbering}

@@ -13,7 +13,7 @@ use Rattle.job_base.specs.declared.finding.Finding.{Finding}
 use Rattle.job_base.specs.declared.finding.Finding.TheVariants as finding
 use Rattle.pair_decide.specs.declared.query.Proof.{Proof}
 use Rattle.pair_decide.specs.declared.query.SameBy.{SameBy}
-use Rattle.job_check.specs.check_meaning.check_found.Found.{OfThreeNets}
+use Rattle.job_base.specs.sec_files.job_files.Texts.{OfThreeNets}
 use Rattle.cycle_under.specs.declared.found.UnderError.{UnderError}
 use Rattle.cycle_under.specs.declared.found.UnderError.TheVariants as under
 use Rattle.cycle_under.specs.Searches.{SearchesUnder}

@@ -22,7 +22,7 @@ use Rattle.job_base.specs.sec_files.Loading.{IsAccepted, Loads, SpellsCircuit}
 use Rattle.job_base.specs.sec_files.job_files.Reading.{Held}
 use Rattle.job_check.specs.check_meaning.Answer.{IsAnswer}
 use Rattle.job_check.specs.check_meaning.check_found.Check.{Check}
-use Rattle.job_check.specs.check_meaning.check_found.Found.{OfTexts}
+use Rattle.job_base.specs.sec_files.job_files.Texts.{OfTexts}
 use Rattle.job_pair.specs.Says.{SaysOf}
 use Rattle.job_pair.specs.job_renamed.Texts.{HasFaultyPair, IsRenamedBy, PairsLatches}
 

@@ -1,7 +1,6 @@
 -- What is true of the files of a comparison where it finds what it does. A text is given where it is told, and each that is told counts,
 -- also where another isn't.
 use Rattle.std.specs.Prelude.{◌≡◌, ℕ, List, Option, Some, None, Result, Ok, Err, IfSome}
-use Rattle.flat_net.specs.View.{NetView}
 use Rattle.pair_decide.specs.declared.query.SameBy.{SameBy}
 use Rattle.obligations.specs.declared.outcome.verdict.Outcome.{Outcome}
 use Rattle.job_base.specs.declared.finding.File.{File}
@@ -15,45 +14,15 @@ use Rattle.event_setup.specs.event_meaning.event_meaning_under.CompareError.{Com
 use Rattle.event_setup.specs.event_meaning.event_meaning_under.CompareError.TheVariants as compare_error
 use Rattle.event_setup.specs.event_meaning.event_names.event_fits.Compared.{ComparedIn}
 use Rattle.event_setup.specs.event_meaning.event_meaning_under.Answered.{ComparedUnderIn}
-use Rattle.job_base.specs.sec_files.Loading.{Loads, IsTooLong, HasFault, HasDesignFault, HasRecordFault}
+use Rattle.job_base.specs.sec_files.Loading.{IsTooLong, HasFault, HasDesignFault, HasRecordFault}
 use Rattle.job_base.specs.sec_files.job_files.Reading.{Held, IsLoaded}
 use Rattle.job_check.specs.check_meaning.check_found.Check.{Check}
-
--- both texts load, and this is said of them
-pub record OfTexts (left right : Option (List ℕ)) (P : List ℕ → List ℕ → Type 0) : Type 0 where
-  pub left_loads : IsLoaded left
-  pub right_loads : IsLoaded right
-  pub said : IfSome left (λ x. IfSome right (λ y. P x y))
-
--- so of three
-pub record OfThreeTexts (left right assumed : Option (List ℕ)) (P : List ℕ → List ℕ → List ℕ → Type 0) : Type 0 where
-  pub left_loads : IsLoaded left
-  pub right_loads : IsLoaded right
-  pub assumed_loads : IsLoaded assumed
-  pub said : IfSome left (λ x. IfSome right (λ y. IfSome assumed (λ z. P x y z)))
+use Rattle.job_base.specs.sec_files.job_files.Texts.{OfNets, OfThreeNets}
 
 -- what is said of two texts without an assumption, and of three with one
 abbrev pub OfGiven : Held → Check → Option (List ℕ) → (List ℕ → List ℕ → Type 0) → (List ℕ → List ℕ → List ℕ → Type 0) → Type 0
 OfGiven held check None P Q = OfTexts (held check.left) (held check.right) P
 OfGiven held check (Some path) P Q = OfThreeTexts (held check.left) (held check.right) (held path) Q
-
--- what is said of the nets that two texts load as
-pub record OfNets (left right : Option (List ℕ)) (P : NetView → NetView → Type 0) : Type 0 where
-  pub a : NetView
-  pub b : NetView
-  pub left_loads : IfSome left (λ x. Loads x a)
-  pub right_loads : IfSome right (λ y. Loads y b)
-  pub said : P a b
-
--- and of those of three
-pub record OfThreeNets (left right assumed : Option (List ℕ)) (P : NetView → NetView → NetView → Type 0) : Type 0 where
-  pub a : NetView
-  pub b : NetView
-  pub c : NetView
-  pub left_loads : IfSome left (λ x. Loads x a)
-  pub right_loads : IfSome right (λ y. Loads y b)
-  pub assumed_loads : IfSome assumed (λ z. Loads z c)
-  pub said : P a b c
 
 -- what is said of the assumption's text, which is looked at only where both circuits load
 abbrev pub OfAssumed : Held → Check → Option (List ℕ) → (List ℕ → Type 0) → Type 0

@@ -1,1 +1,1 @@
-pub use Rattle.job_check.specs.check_meaning.check_texts.Texts
+pub use Rattle.job_check.specs.pair_texts.check_texts.Texts

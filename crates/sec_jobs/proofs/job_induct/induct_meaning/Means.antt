@@ -22,8 +22,9 @@ use Rattle.induct.specs.declared.induction.InductVerdict.{InductVerdict}
 use Rattle.induct.specs.declared.induction.InductVerdict.TheVariants as verdict
 use Rattle.induct.specs.Inductions.{IsOver, IsSplitLimitOf}
 use Rattle.sec_jobs.specs.job_induct.induct_meaning.Judged.{judgement_of, IsJudged}
-use Rattle.sec_jobs.specs.job_induct.induct_meaning.Found.{OfNets, IsInductFound}
-use Rattle.sec_jobs.specs.job_induct.induct_meaning.Answer.{OfTexts, BlocksAgree, IsUnshown, BlocksNotShown, PairUndecided, SplitUndecided, BlocksUndecided, InductMeans}
+use Rattle.job_base.specs.sec_files.job_files.Texts.{OfNets, OfTexts}
+use Rattle.sec_jobs.specs.job_induct.induct_meaning.Found.{IsInductFound}
+use Rattle.sec_jobs.specs.job_induct.induct_meaning.Answer.{BlocksAgree, IsUnshown, BlocksNotShown, PairUndecided, SplitUndecided, BlocksUndecided, InductMeans}
 use Rattle.sec_jobs.proofs.job_induct.induct_meaning.Judging.{tell_apart, pair_undecided, is_no_split, split_undecided}
 
 -- verdicts by their statuses

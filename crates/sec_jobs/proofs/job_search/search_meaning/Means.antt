@@ -27,7 +27,7 @@ use Rattle.cycle_search.specs.declared.found.SearchVerdict.TheVariants as verdic
 use Rattle.cycle_search.specs.Cycles.{ResultIn}
 use Rattle.cycle_search.specs.Searches.{VerdictFits}
 use Rattle.sec_jobs.proofs.job_induct.induct_meaning.Means.{of_texts}
-use Rattle.sec_jobs.specs.job_induct.induct_meaning.Found.{OfNets}
+use Rattle.job_base.specs.sec_files.job_files.Texts.{OfNets}
 use Rattle.sec_jobs.specs.job_search.search_meaning.Judged.{judgement_of, IsJudged}
 use Rattle.sec_jobs.specs.job_search.search_meaning.Found.{IsSearchFound}
 use Rattle.sec_jobs.specs.job_search.search_meaning.Answer.{AreSearchedTexts, CyclesAgree, CyclesAgreeUpTo, CyclesDiffer, CyclesUndecided, SearchMeans}

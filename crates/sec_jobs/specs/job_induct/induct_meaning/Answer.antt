@@ -1,5 +1,5 @@
 -- What the status says of two texts whose circuits are compared by blocks, and when they can be compared so.
-use Rattle.std.specs.Prelude.{◌≡◌, ◌≢◌, ◌⊎◌, ℕ, ◌+◌, ◌-◌, ◌<◌, ◌≤◌, Bool, List, [], ◌∷◌, length, slice_get, Option, Some, None, IfSome, IsSomeAnd, Contains}
+use Rattle.std.specs.Prelude.{◌≡◌, ◌≢◌, ◌⊎◌, ℕ, ◌+◌, ◌-◌, ◌<◌, ◌≤◌, Bool, List, [], ◌∷◌, length, slice_get, Option, Some, None, IsSomeAnd, Contains}
 use Rattle.circuit_theory.specs.Circuit.{Circuit}
 use Rattle.circuit_theory.specs.Agree.{place_named}
 use Rattle.circuit_theory.specs.Interface.{first_mismatch, shared_inputs}
@@ -16,7 +16,6 @@ use Rattle.block_refine.specs.latch_blocks.Blocks.{block_at}
 use Rattle.block_refine.specs.latch_blocks.QueryLaws.{AreBlockValues}
 use Rattle.induct.specs.block_outputs.Answers.{IsLimit}
 use Rattle.job_base.specs.sec_files.Loading.{IsAccepted, Loads, SpellsCircuit}
-use Rattle.job_base.specs.sec_files.job_files.Reading.{IsLoaded}
 use Rattle.job_base.specs.declared.status.StatusName.{StatusName}
 use Rattle.job_base.specs.declared.status.StatusName.TheVariants as status
 use Rattle.induct.specs.declared.induction.InductVerdict.TheVariants as verdict
@@ -24,12 +23,7 @@ use Rattle.induct.specs.declared.induction.Induction.{Induction}
 use Rattle.induct.specs.Inductions.{AreOwnNumbers, IsOver, IsSplitLimitOf, IsInduction}
 use Rattle.induct.specs.induct_report.Report.{induct_text}
 use Rattle.sec_jobs.specs.job_induct.induct_meaning.Judged.{AreLight}
-
--- both texts load, and this is said of them; a text that is told counts also where the other isn't
-pub record OfTexts (left right : Option (List ℕ)) (P : List ℕ → List ℕ → Type 0) : Type 0 where
-  pub left_loads : IsLoaded left
-  pub right_loads : IsLoaded right
-  pub said : IfSome left (λ x. IfSome right (λ y. P x y))
+use Rattle.job_base.specs.sec_files.job_files.Texts.{OfTexts}
 
 -- The report of these nets is taken behind what was written before.
 abbrev pub IsPrinted : NetView → NetView → ℕ → Induction → Option (List ℕ) → Option (List ℕ) → Type 0

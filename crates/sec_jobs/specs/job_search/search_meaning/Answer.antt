@@ -22,7 +22,7 @@ use Rattle.cycle_search.specs.declared.found.SearchVerdict.TheVariants as verdic
 use Rattle.cycle_search.specs.Outputs.{IsOneTooLarge}
 use Rattle.cycle_search.specs.search_report.Report.{search_text}
 use Rattle.cycle_search.specs.Searches.{IsNumbering, AreSearched}
-use Rattle.sec_jobs.specs.job_induct.induct_meaning.Answer.{OfTexts}
+use Rattle.job_base.specs.sec_files.job_files.Texts.{OfTexts}
 
 -- The report of these nets is taken behind what was written before.
 abbrev pub IsPrinted : NetView → NetView → ℕ → ℕ → Searched → Option (List ℕ) → Option (List ℕ) → Type 0

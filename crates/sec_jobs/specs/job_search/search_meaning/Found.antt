@@ -10,7 +10,7 @@ use Rattle.job_base.specs.declared.finding.Refusal.TheVariants as refusal
 use Rattle.job_base.specs.declared.finding.Finding.{Finding}
 use Rattle.job_base.specs.declared.finding.Finding.TheVariants as finding
 use Rattle.cycle_search.specs.Outputs.{IsOneTooLarge}
-use Rattle.sec_jobs.specs.job_induct.induct_meaning.Found.{OfCircuit, OfNets}
+use Rattle.job_base.specs.sec_files.job_files.Texts.{OfCircuit, OfNets}
 use Rattle.sec_jobs.specs.job_search.search_meaning.Judged.{IsJudged}
 
 -- why the circuits aren't compared; the first cause in the order of the work
