@@ -9,7 +9,7 @@ use Rattle.circuit_laws.proofs.start_laws.Knowing.{tail_run}
 use Rattle.flat_net.specs.View.{NetView, circuit_of}
 use Rattle.restart.specs.Behind.{begun, AreKnownBehind}
 use Rattle.restart.proofs.Begun.{begun_starts, begun_circuit, begun_known, begins_with}
-use Rattle.job_check.specs.pair_texts.assume_texts.Meets.{RunMeetsCircuit}
+use Rattle.pair_texts.specs.assume_texts.Meets.{RunMeetsCircuit}
 use Rattle.job_after_under.specs.Runs.{AgreeBehindWhereMet}
 
 -- in runs from initial values that meet the assumption each output is equal in these cycles

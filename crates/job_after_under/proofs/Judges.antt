@@ -10,7 +10,7 @@ use Rattle.flat_net.specs.declared.parts.Port.{Port}
 use Rattle.flat_net.specs.View.{NetView, circuit_of, ports_of}
 use Rattle.witness_report.specs.declared.witness.Witness.{Witness}
 use Rattle.job_base.proofs.sec_files.job_files.Reading.{if_told}
-use Rattle.job_check.proofs.pair_texts.assume_texts.Sequences.{resets_where_met}
+use Rattle.pair_texts.proofs.assume_texts.Sequences.{resets_where_met}
 use Rattle.cycle_search.specs.declared.found.SearchVerdict.TheVariants as verdict
 use Rattle.restart.specs.Behind.{begun}
 use Rattle.restart.specs.Agreement.{Each, UpTo, Before}

@@ -7,7 +7,7 @@ use Rattle.witness_report.specs.declared.stimulus.Stimulus.{Stimulus}
 use Rattle.job_base.proofs.design_laws.FlatParts.{FlatDesign, along, input_up, output_down, run_down}
 use Rattle.job_base.proofs.design_laws.text_circuits.Designs.{alike_down}
 use Rattle.job_base.proofs.design_laws.text_circuits.Resets.{output_value}
-use Rattle.job_check.proofs.pair_texts.assume_texts.Designs.{meets_down}
+use Rattle.pair_texts.proofs.assume_texts.Designs.{meets_down}
 use Rattle.job_after.proofs.Lifted.{begins_down}
 use Rattle.job_after_under.specs.Runs.{RunMeetsFrom, AgreeBehindWhereMet, SequenceMeetsFrom}
 

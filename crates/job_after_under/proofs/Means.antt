@@ -26,7 +26,7 @@ use Rattle.job_base.specs.declared.finding.Finding.TheVariants as finding
 use Rattle.job_base.specs.declared.status.StatusName.{StatusName}
 use Rattle.job_base.specs.declared.status.StatusName.TheVariants as status
 use Rattle.job_base.specs.Written.{judgement_status, IsWrittenAs}
-use Rattle.job_check.proofs.pair_texts.assume_texts.Texts.{spelled}
+use Rattle.pair_texts.proofs.assume_texts.Texts.{spelled}
 use Rattle.cycle_search.specs.declared.found.SearchVerdict.{SearchVerdict}
 use Rattle.cycle_search.specs.declared.found.SearchVerdict.TheVariants as verdict
 use Rattle.cycle_under.specs.Cycles.{ResultUnder}

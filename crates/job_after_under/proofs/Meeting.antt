@@ -14,8 +14,8 @@ use Rattle.obligations.specs.declared.outcome.verdict.ResetWitness.{ResetWitness
 use Rattle.sec_setup.specs.ports.Pairs.{named_pairs}
 use Rattle.witness_report.specs.declared.witness.Witness.{Witness}
 use Rattle.assume_queries.specs.assume_sequences.assume_taken.Taken.{assumed_by}
-use Rattle.job_check.specs.pair_texts.assume_texts.Meets.{SequenceMeetsCircuit}
-use Rattle.job_check.proofs.pair_texts.assume_texts.Sequences.{sequence_meets}
+use Rattle.pair_texts.specs.assume_texts.Meets.{SequenceMeetsCircuit}
+use Rattle.pair_texts.proofs.assume_texts.Sequences.{sequence_meets}
 use Rattle.cycle_search.specs.declared.found.Searched.{Searched}
 use Rattle.cycle_search.specs.declared.found.SearchVerdict.{SearchVerdict}
 use Rattle.cycle_search.specs.declared.found.SearchVerdict.TheVariants as verdict

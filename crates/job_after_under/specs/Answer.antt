@@ -19,7 +19,7 @@ use Rattle.job_base.specs.declared.status.StatusName.TheVariants as status
 use Rattle.job_base.specs.sec_files.job_files.Reading.{IsLoaded}
 use Rattle.job_base.specs.sec_files.Loading.{IsAccepted, Loads}
 use Rattle.job_base.specs.sec_files.Stimuli.{IsStimulus}
-use Rattle.job_check.specs.pair_texts.assume_texts.Texts.{ThreeCircuits}
+use Rattle.pair_texts.specs.assume_texts.Texts.{ThreeCircuits}
 use Rattle.cycle_search.specs.declared.found.SearchVerdict.TheVariants as verdict
 use Rattle.cycle_search.specs.Searches.{IsNumbering}
 use Rattle.cycle_under.specs.declared.found.UnderError.{UnderError}

@@ -5,7 +5,7 @@ use Rattle.circuit_theory.specs.Agree.{AreAlike, IsPair}
 use Rattle.circuit_theory.specs.Circuit.{Circuit}
 use Rattle.witness_report.specs.declared.stimulus.Stimulus.{Stimulus}
 use Rattle.restart.specs.Agreement.{BeginsBy}
-use Rattle.job_check.specs.pair_texts.assume_texts.Meets.{OutputsHold, HasInputsOf, HasInputsIn}
+use Rattle.pair_texts.specs.assume_texts.Meets.{OutputsHold, HasInputsOf, HasInputsIn}
 
 -- the run of the circuit a meets the assumption c in each of its n cycles from this one on
 abbrev pub RunMeetsFrom : {P R : Type 0} → ℕ → Circuit R → Circuit P → ℕ → (ℕ → P → Bool) → Type 0

@@ -1,3 +1,2 @@
 pub mod compare_under
-pub mod pair_texts
 pub mod check_meaning

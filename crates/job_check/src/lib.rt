@@ -3,7 +3,6 @@
 
 pub mod check_meaning;
 pub mod compare_under;
-pub mod pair_texts;
 mod comparison;
 pub mod sec_check;
 

@@ -21,13 +21,13 @@ use Rattle.sec_setup.specs.cut_points.Common.{common_names}
 use Rattle.event_setup.specs.event_meaning.event_meaning_under.CompareError.{CompareError}
 use Rattle.event_setup.specs.event_meaning.event_meaning_under.CompareError.TheVariants as compare_error
 use Rattle.plain_check.specs.under_base.compare_base.Compared.{Compared}
-use Rattle.job_check.specs.pair_texts.design_rows.Small.{IsSmall, Small, small_and, small_early, small_late}
-use Rattle.job_check.specs.pair_texts.design_rows.Designs as design
-use Rattle.job_check.specs.pair_texts.design_rows.Texts.{early, hier, late, off_and, on_and}
-use Rattle.job_check.proofs.pair_texts.check_texts.Comparing.{broken, light}
-use Rattle.job_check.proofs.pair_texts.check_texts.ToldCycles.{is_not_free}
-use Rattle.job_check.proofs.pair_texts.design_rows.Spelling.{PortsMatch, Spells, accepted, match, net_is_small}
-use Rattle.job_check.proofs.pair_texts.design_rows.SpelledTexts.{early_spells, hier_spells, late_spells, off_and_spells, on_and_spells}
+use Rattle.pair_texts.specs.design_rows.Small.{IsSmall, Small, small_and, small_early, small_late}
+use Rattle.pair_texts.specs.design_rows.Designs as design
+use Rattle.pair_texts.specs.design_rows.Texts.{early, hier, late, off_and, on_and}
+use Rattle.pair_texts.proofs.check_texts.Comparing.{broken, light}
+use Rattle.pair_texts.proofs.check_texts.ToldCycles.{is_not_free}
+use Rattle.pair_texts.proofs.design_rows.Spelling.{PortsMatch, Spells, accepted, match, net_is_small}
+use Rattle.pair_texts.proofs.design_rows.SpelledTexts.{early_spells, hier_spells, late_spells, off_and_spells, on_and_spells}
 use Rattle.job_pair.specs.Answer.{ArePairComparable}
 use Rattle.job_pair.specs.Examples.{PairsAreComparable, plainly}
 

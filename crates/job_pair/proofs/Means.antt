@@ -35,8 +35,8 @@ use Rattle.job_base.proofs.design_laws.text_circuits.Resets.{resets_agree_up}
 use Rattle.job_check.specs.check_meaning.Answer.{InForm}
 use Rattle.job_check.specs.check_meaning.check_found.Check.{Check}
 use Rattle.job_base.specs.sec_files.job_files.Texts.{OfTexts}
-use Rattle.job_check.proofs.pair_texts.check_texts.Forms.{by_reset}
-use Rattle.job_check.proofs.pair_texts.check_texts.ResetDesigns.{resets_differ_up}
+use Rattle.pair_texts.proofs.check_texts.Forms.{by_reset}
+use Rattle.pair_texts.proofs.check_texts.ResetDesigns.{resets_differ_up}
 use Rattle.job_pair.specs.Found.{IsAnsweredAlone, IsAnsweredBy, IsPairFound}
 use Rattle.job_pair.specs.Says.{SaysPlainly, SaysFromReset, SaysInEvents, SaysOf}
 use Rattle.job_pair.specs.Answer.{PairAnswers, PairMeans}

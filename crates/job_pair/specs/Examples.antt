@@ -2,7 +2,7 @@
 use Rattle.std.specs.Prelude.{Bool, false, codes}
 use Rattle.circuit_theory.specs.declared.Mode.TheVariants.{Plain}
 use Rattle.sec_base.specs.declared.settings.Settings.{Settings}
-use Rattle.job_check.specs.pair_texts.design_rows.Texts.{early, hier, late, off_and, on_and}
+use Rattle.pair_texts.specs.design_rows.Texts.{early, hier, late, off_and, on_and}
 use Rattle.job_pair.specs.Answer.{ArePairComparable}
 
 abbrev pub plainly : Bool → Settings

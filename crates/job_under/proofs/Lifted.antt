@@ -6,8 +6,8 @@ use Rattle.flat_net.specs.View.{NetView, circuit_of}
 use Rattle.assume_queries.specs.assume_sequences.assume_taken.Taken.{IsAssumed, assumed_by}
 use Rattle.job_base.proofs.design_laws.FlatParts.{FlatDesign, output_down}
 use Rattle.job_base.proofs.design_laws.text_circuits.Resets.{nets_alike, outputs_equal}
-use Rattle.job_check.proofs.pair_texts.assume_texts.Designs.{meets_down}
-use Rattle.job_check.proofs.pair_texts.assume_texts.Sequences.{run_meets}
+use Rattle.pair_texts.proofs.assume_texts.Designs.{meets_down}
+use Rattle.pair_texts.proofs.assume_texts.Sequences.{run_meets}
 use Rattle.cycle_under.specs.First.{AgreeUpToUnder}
 use Rattle.job_under.specs.Answer.{AgreeUpToWhereMet}
 

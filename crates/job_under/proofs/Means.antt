@@ -28,9 +28,9 @@ use Rattle.job_base.specs.declared.status.StatusName.{StatusName}
 use Rattle.job_base.specs.declared.status.StatusName.TheVariants as status
 use Rattle.job_base.specs.Written.{judgement_status, IsWrittenAs}
 use Rattle.job_base.specs.sec_files.job_files.Texts.{OfThreeNets, OfThreeTexts}
-use Rattle.job_check.proofs.pair_texts.assume_texts.Designs.{resets_agree_up, resets_differ_up, sequence_up}
-use Rattle.job_check.proofs.pair_texts.assume_texts.Sequences.{differ_where_met, resets_where_met, sequence_meets}
-use Rattle.job_check.proofs.pair_texts.assume_texts.Texts.{spelled}
+use Rattle.pair_texts.proofs.assume_texts.Designs.{resets_agree_up, resets_differ_up, sequence_up}
+use Rattle.pair_texts.proofs.assume_texts.Sequences.{differ_where_met, resets_where_met, sequence_meets}
+use Rattle.pair_texts.proofs.assume_texts.Texts.{spelled}
 use Rattle.cycle_search.specs.declared.found.SearchVerdict.{SearchVerdict}
 use Rattle.cycle_search.specs.declared.found.SearchVerdict.TheVariants as verdict
 use Rattle.cycle_under.specs.Cycles.{ResultUnder}

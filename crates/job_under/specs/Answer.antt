@@ -16,9 +16,9 @@ use Rattle.assume_queries.specs.assume_sequences.assume_taken.Taken.{assumed_by,
 use Rattle.job_base.specs.declared.status.StatusName.{StatusName}
 use Rattle.job_base.specs.declared.status.StatusName.TheVariants as status
 use Rattle.job_base.specs.sec_files.Loading.{IsAccepted, Loads}
-use Rattle.job_check.specs.pair_texts.assume_texts.Agreement.{AgreeFromResetWhereMet, MakesResetsDifferWhereMet}
-use Rattle.job_check.specs.pair_texts.assume_texts.Meets.{RunMeetsCircuit, SequenceMeetsCircuit}
-use Rattle.job_check.specs.pair_texts.assume_texts.Texts.{ThreeCircuits}
+use Rattle.pair_texts.specs.assume_texts.Agreement.{AgreeFromResetWhereMet, MakesResetsDifferWhereMet}
+use Rattle.pair_texts.specs.assume_texts.Meets.{RunMeetsCircuit, SequenceMeetsCircuit}
+use Rattle.pair_texts.specs.assume_texts.Texts.{ThreeCircuits}
 use Rattle.job_base.specs.sec_files.job_files.Texts.{OfThreeTexts}
 use Rattle.cycle_search.specs.declared.found.Searched.{Searched}
 use Rattle.cycle_search.specs.declared.found.SearchVerdict.TheVariants as verdict

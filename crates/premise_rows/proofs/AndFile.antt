@@ -19,17 +19,17 @@ use Rattle.aiger_read.specs.aiger_file.Reading.{body_of, spelled}
 use Rattle.aiger_read.specs.aiger_file.aiger_graph.Circuit.{circuit_of_file}
 use Rattle.aiger_read.specs.aiger_file.aiger_graph.Loops.{HasLoop}
 use Rattle.aiger_read.specs.Nets.{IsNetOf}
-use Rattle.job_check.specs.pair_texts.design_rows.Small.{small_and, IsSmall}
+use Rattle.pair_texts.specs.design_rows.Small.{small_and, IsSmall}
 use Rattle.job_base.specs.sec_files.Formats.{Aiger}
 use Rattle.job_base.specs.sec_files.Loading.{IsAccepted, Loads}
 use Rattle.job_base.proofs.sec_files.Texts.{text_net}
-use Rattle.job_check.specs.pair_texts.design_rows.Texts.{off_and}
+use Rattle.pair_texts.specs.design_rows.Texts.{off_and}
 use Rattle.premise_rows.specs.AndFile.{and_file, FileIsComparable}
-use Rattle.job_check.proofs.pair_texts.design_rows.Spelling.{accepted, net_is_small}
-use Rattle.job_check.proofs.pair_texts.check_texts.Comparing.{comparable_by}
-use Rattle.job_check.proofs.pair_texts.design_rows.SpelledTexts.{off_and_spells}
+use Rattle.pair_texts.proofs.design_rows.Spelling.{accepted, net_is_small}
+use Rattle.pair_texts.proofs.check_texts.Comparing.{comparable_by}
+use Rattle.pair_texts.proofs.design_rows.SpelledTexts.{off_and_spells}
 use Rattle.premise_rows.proofs.FileNets.{is_above_fanins, climbing_has_no_loop, FilePassesTests, tested_file_is_small}
-use Rattle.job_check.specs.pair_texts.design_rows.Designs as design
+use Rattle.pair_texts.specs.design_rows.Designs as design
 
 -- the file that the text spells
 abbrev and_records : AigerFile

@@ -7,14 +7,14 @@ use Rattle.blif_read.specs.declared.design.BlifModel.{BlifModel}
 use Rattle.flat_net.specs.declared.parts.Port.{Port}
 use Rattle.flat_net.specs.View.{NetView, named, circuit_of}
 use Rattle.job_cert.specs.pair_clauses.Clauses.{IsOutput}
-use Rattle.job_check.specs.pair_texts.check_texts.Texts.{AreComparable}
+use Rattle.pair_texts.specs.check_texts.Texts.{AreComparable}
 use Rattle.job_cert.specs.Answer.{AreCertifiable}
-use Rattle.job_check.specs.pair_texts.design_rows.Designs as design
-use Rattle.job_check.specs.pair_texts.design_rows.Small.{Small, IsSmall, small_and, small_late}
-use Rattle.job_check.specs.pair_texts.design_rows.Texts.{on_and, off_and, late, early}
+use Rattle.pair_texts.specs.design_rows.Designs as design
+use Rattle.pair_texts.specs.design_rows.Small.{Small, IsSmall, small_and, small_late}
+use Rattle.pair_texts.specs.design_rows.Texts.{on_and, off_and, late, early}
 use Rattle.premise_rows.specs.Certificates.{CertificatesMeetPremises}
-use Rattle.job_check.proofs.pair_texts.design_rows.Spelling.{Spells, net_is_small}
-use Rattle.job_check.proofs.pair_texts.design_rows.SpelledTexts.{on_and_spells, late_spells}
+use Rattle.pair_texts.proofs.design_rows.Spelling.{Spells, net_is_small}
+use Rattle.pair_texts.proofs.design_rows.SpelledTexts.{on_and_spells, late_spells}
 use Rattle.premise_rows.proofs.Examples.{ands_are_comparable, retimed_are_comparable}
 
 -- a name of the ports is that of an output

@@ -19,14 +19,14 @@ use Rattle.outcome_fits.specs.Fitting.{IsCutOver}
 use Rattle.job_base.specs.sec_files.Formats.{Blif}
 use Rattle.job_base.specs.sec_files.Loading.{Loads}
 use Rattle.job_base.proofs.sec_files.Texts.{text_net}
-use Rattle.job_check.specs.pair_texts.design_rows.Designs as design
-use Rattle.job_check.specs.pair_texts.design_rows.Small.{small_and, small_late, small_early, small_two, small_toggle, IsSmall}
-use Rattle.job_check.proofs.pair_texts.design_rows.Toggle.{toggle_is_small}
-use Rattle.job_check.specs.pair_texts.design_rows.Texts.{on_and, off_and, late, early, toggle, hier, two}
+use Rattle.pair_texts.specs.design_rows.Designs as design
+use Rattle.pair_texts.specs.design_rows.Small.{small_and, small_late, small_early, small_two, small_toggle, IsSmall}
+use Rattle.pair_texts.proofs.design_rows.Toggle.{toggle_is_small}
+use Rattle.pair_texts.specs.design_rows.Texts.{on_and, off_and, late, early, toggle, hier, two}
 use Rattle.premise_rows.specs.Premises.{AndsAreComparable, RetimedAreComparable, HierarchyIsComparable, CyclicAreComparable, TextsAreAccepted}
-use Rattle.job_check.proofs.pair_texts.design_rows.Spelling.{accepted, net_is_small, match, latch_in}
-use Rattle.job_check.proofs.pair_texts.check_texts.Comparing.{comparable}
-use Rattle.job_check.proofs.pair_texts.design_rows.SpelledTexts.{on_and_spells, off_and_spells, late_spells, early_spells, hier_spells, two_spells, toggle_spells}
+use Rattle.pair_texts.proofs.design_rows.Spelling.{accepted, net_is_small, match, latch_in}
+use Rattle.pair_texts.proofs.check_texts.Comparing.{comparable}
+use Rattle.pair_texts.proofs.design_rows.SpelledTexts.{on_and_spells, off_and_spells, late_spells, early_spells, hier_spells, two_spells, toggle_spells}
 
 pub ands_are_comparable : AndsAreComparable
 ands_are_comparable =

@@ -16,13 +16,13 @@ use Rattle.flat_net.proofs.Nets.{some_at, sound_is_net}
 use Rattle.net_assembly.specs.net_alike.Closed.{is_closed}
 use Rattle.net_assembly.proofs.net_alike.Bounding.{closed_bounds}
 use Rattle.net_assembly.proofs.net_alike.Testing.{all_in, is_closed-sound}
-use Rattle.job_check.specs.pair_texts.design_rows.Ranked.{IsRanked, is_ranked}
+use Rattle.pair_texts.specs.design_rows.Ranked.{IsRanked, is_ranked}
 use Rattle.job_base.proofs.design_laws.CutFlats.{cut_design}
 use Rattle.job_base.proofs.design_laws.FlatCycles.{cycle_up}
 use Rattle.job_base.proofs.design_laws.FlatParts.{FlatDesign}
 use Rattle.job_base.proofs.design_laws.KeptNames.{latch_names_are}
-use Rattle.job_check.proofs.pair_texts.design_rows.Ranking.{is_ranked-sound, no_cycle}
-use Rattle.job_check.specs.pair_texts.design_rows.Small.{Small, IsSmall}
+use Rattle.pair_texts.proofs.design_rows.Ranking.{is_ranked-sound, no_cycle}
+use Rattle.pair_texts.specs.design_rows.Small.{Small, IsSmall}
 use Rattle.net_assembly.proofs.net_alike.Moving.{single_up}
 use Rattle.aiger_read.specs.declared.aiger_file.file.AigerFile.{AigerFile}
 use Rattle.aiger_read.specs.aiger_file.aiger_graph.Circuit.{circuit_of_file}

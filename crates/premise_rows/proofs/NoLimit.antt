@@ -24,14 +24,14 @@ use Rattle.sec_base.specs.declared.settings.Settings.{Settings}
 use Rattle.sec_setup.specs.Cuts.{columns_of}
 use Rattle.sec_setup.proofs.CutNets.{same_as_cut, cut_numbers}
 use Rattle.sec_setup.proofs.SameEquations.{same_tree}
-use Rattle.job_check.specs.pair_texts.check_texts.Texts.{TextsUndecided}
-use Rattle.job_check.specs.pair_texts.design_rows.Designs as design
-use Rattle.job_check.specs.pair_texts.design_rows.Small.{small_and, IsSmall}
+use Rattle.pair_texts.specs.check_texts.Texts.{TextsUndecided}
+use Rattle.pair_texts.specs.design_rows.Designs as design
+use Rattle.pair_texts.specs.design_rows.Small.{small_and, IsSmall}
 use Rattle.premise_rows.specs.RuledOut.{AndsMeetNoLimit}
-use Rattle.job_check.specs.pair_texts.design_rows.Texts.{on_and, off_and}
-use Rattle.job_check.proofs.pair_texts.design_rows.Spelling.{net_is_small, ports_are}
-use Rattle.job_check.proofs.pair_texts.design_rows.SpelledTexts.{on_and_spells, off_and_spells}
-use Rattle.job_check.proofs.pair_texts.check_texts.Latchless.{cut_latchless, visits_now, none_chosen}
+use Rattle.pair_texts.specs.design_rows.Texts.{on_and, off_and}
+use Rattle.pair_texts.proofs.design_rows.Spelling.{net_is_small, ports_are}
+use Rattle.pair_texts.proofs.design_rows.SpelledTexts.{on_and_spells, off_and_spells}
+use Rattle.pair_texts.proofs.check_texts.Latchless.{cut_latchless, visits_now, none_chosen}
 
 none_in : {X : Type 0} (x : X) → Contains [] x → ⊥
 none_in x h = let l = h.1 in omega (arith, l)

@@ -1,7 +1,7 @@
 -- A circuit as an AIGER file beside the same as a BLIF text.
 use Rattle.std.specs.Prelude.{ℕ, Bool, false, List, codes}
-use Rattle.job_check.specs.pair_texts.check_texts.Texts.{AreComparable}
-use Rattle.job_check.specs.pair_texts.design_rows.Texts.{off_and}
+use Rattle.pair_texts.specs.check_texts.Texts.{AreComparable}
+use Rattle.pair_texts.specs.design_rows.Texts.{off_and}
 
 -- an and, with names
 abbrev pub and_file : List ℕ

@@ -1,7 +1,7 @@
 -- Two circuits that have a certificate.
 use Rattle.std.specs.Prelude.{codes}
 use Rattle.job_cert.specs.Answer.{AreCertifiable}
-use Rattle.job_check.specs.pair_texts.design_rows.Texts.{on_and, off_and, late, early}
+use Rattle.pair_texts.specs.design_rows.Texts.{on_and, off_and, late, early}
 
 -- two ands, and a circuit with the same retimed
 abbrev pub CertificatesMeetPremises : Type 0

@@ -1,8 +1,8 @@
 -- Texts that meet the premises of what is promised of comparisons, latch graphs and simulations.
 use Rattle.std.specs.Prelude.{Bool, true, false}
-use Rattle.job_check.specs.pair_texts.check_texts.Texts.{AreComparable}
+use Rattle.pair_texts.specs.check_texts.Texts.{AreComparable}
 use Rattle.job_base.specs.sec_files.Loading.{IsAccepted}
-use Rattle.job_check.specs.pair_texts.design_rows.Texts.{on_and, off_and, late, early, toggle, hier, two}
+use Rattle.pair_texts.specs.design_rows.Texts.{on_and, off_and, late, early, toggle, hier, two}
 
 -- two ands, whether latches may be cut open or not
 abbrev pub AndsAreComparable : Type 0

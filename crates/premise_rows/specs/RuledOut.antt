@@ -8,8 +8,8 @@ use Rattle.job_base.specs.sec_files.Loading.{IsAccepted}
 use Rattle.job_base.specs.sec_files.job_files.Reading.{Held}
 use Rattle.job_check.specs.check_meaning.check_found.Check.{Check}
 use Rattle.job_check.specs.check_meaning.check_found.Found.{IsFoundOf}
-use Rattle.job_check.specs.pair_texts.check_texts.Texts.{TextsUndecided}
-use Rattle.job_check.specs.pair_texts.design_rows.Texts.{on_and, off_and}
+use Rattle.pair_texts.specs.check_texts.Texts.{TextsUndecided}
+use Rattle.pair_texts.specs.design_rows.Texts.{on_and, off_and}
 
 -- No limit is told of two ands, whose functions have two variables, however few conflicts are allowed.
 abbrev pub AndsMeetNoLimit : Type 0

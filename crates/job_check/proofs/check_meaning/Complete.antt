@@ -26,15 +26,15 @@ use Rattle.job_base.proofs.sec_files.job_files.Reading.{some_and, if_told}
 use Rattle.job_check.specs.check_meaning.check_found.Check.{Check}
 use Rattle.job_check.specs.check_meaning.check_found.Found.{OfAssumed, IsAnsweredGiven, IsAnsweredAssuming, IsAnsweredBy, IsAnsweredByTwo, IsAnsweredByThree, IsAnsweredUnder, IsRefusal, IsFoundOf}
 use Rattle.job_check.specs.check_meaning.Answer.{AreComparableIn, AreComparableUnder, CanAnswerWith, IsAnswer, IsCheckComplete}
-use Rattle.job_check.specs.pair_texts.check_texts.Texts.{AreComparable}
+use Rattle.pair_texts.specs.check_texts.Texts.{AreComparable}
 use Rattle.job_check.specs.check_meaning.event_texts.Texts.{AreEventComparable}
 use Rattle.job_check.specs.check_meaning.event_texts.event_setup.Choosing.{HaveNoCycles}
 use Rattle.job_check.specs.check_meaning.check_found.Answered.{ComparedUnderIn}
 use Rattle.job_check.specs.check_meaning.check_found.Compared.{ComparedIn, ComparedInEvents}
-use Rattle.job_check.specs.pair_texts.check_texts.CompareError.{CompareError}
-use Rattle.job_check.specs.pair_texts.check_texts.CompareError.TheVariants as compare_error
-use Rattle.job_check.specs.pair_texts.check_texts.Compared.{Compared}
-use Rattle.job_check.proofs.pair_texts.check_texts.ToldCycles.{is_not_free}
+use Rattle.pair_texts.specs.check_texts.CompareError.{CompareError}
+use Rattle.pair_texts.specs.check_texts.CompareError.TheVariants as compare_error
+use Rattle.pair_texts.specs.check_texts.Compared.{Compared}
+use Rattle.pair_texts.proofs.check_texts.ToldCycles.{is_not_free}
 use Rattle.sec_setup.specs.cut_points.Exposed.{IsFreeWithout, IsToldCycle}
 use Rattle.sec_setup.proofs.cut_points.expose_pick.Cuts.{round_cycle}
 

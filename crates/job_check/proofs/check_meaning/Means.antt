@@ -20,10 +20,10 @@ use Rattle.job_check.specs.check_meaning.check_found.job_base.Finding.TheVariant
 use Rattle.job_check.specs.check_meaning.check_found.job_base.StatusName.{StatusName}
 use Rattle.job_check.specs.check_meaning.check_found.job_base.StatusName.TheVariants as status
 use Rattle.job_check.specs.check_meaning.check_found.job_base.Written.{verdict_status, status_of, IsWrittenAs}
-use Rattle.job_check.specs.pair_texts.check_texts.CompareError.{CompareError}
-use Rattle.job_check.specs.pair_texts.check_texts.Compared.{IsCompared, IsComparedFromReset}
+use Rattle.pair_texts.specs.check_texts.CompareError.{CompareError}
+use Rattle.pair_texts.specs.check_texts.Compared.{IsCompared, IsComparedFromReset}
 use Rattle.job_check.specs.check_meaning.check_found.Compared.{ComparedIn, IsComparedInEvents}
-use Rattle.job_check.proofs.pair_texts.check_texts.Forms.{by_reset}
+use Rattle.pair_texts.proofs.check_texts.Forms.{by_reset}
 use Rattle.job_check.specs.check_meaning.check_found.Answered.{ComparedUnderIn}
 use Rattle.job_base.specs.sec_files.Loading.{Loads}
 use Rattle.job_check.specs.check_meaning.event_texts_under.Answers.{EqualUnderIn, DifferentUnderIn, NotShownUnderIn, LimitUnderIn}
@@ -34,11 +34,11 @@ use Rattle.job_check.specs.check_meaning.check_found.Check.{Check}
 use Rattle.job_check.specs.check_meaning.Answer.{CheckMeans, InForm}
 use Rattle.job_check.specs.check_meaning.event_texts.Texts.{EventTextsAgree, EventTextsDiffer, EventTextsNotShown, EventTextsUndecided}
 use Rattle.job_check.proofs.check_meaning.event_texts.EventTexts.{events_agree, events_always, events_differ, events_not_shown, events_undecided}
-use Rattle.job_check.specs.pair_texts.check_texts.Texts.{TextsAgree, TextsDiffer, TextsNotShown, TextsUndecided}
-use Rattle.job_check.specs.pair_texts.check_texts.Resets.{ResetsAgree, ResetsDiffer, ResetsUndecided}
+use Rattle.pair_texts.specs.check_texts.Texts.{TextsAgree, TextsDiffer, TextsNotShown, TextsUndecided}
+use Rattle.pair_texts.specs.check_texts.Resets.{ResetsAgree, ResetsDiffer, ResetsUndecided}
 use Rattle.job_check.specs.check_meaning.check_found.Found.{OfGiven, IsAnsweredGiven, IsAnsweredBy, IsFoundOf}
-use Rattle.job_check.proofs.pair_texts.check_texts.ResetTexts.{resets_agree, resets_differ, resets_not_always, resets_are_shown, resets_undecided}
-use Rattle.job_check.proofs.pair_texts.check_texts.Texts.{texts_agree, texts_always, texts_differ, texts_not_shown, texts_undecided}
+use Rattle.pair_texts.proofs.check_texts.ResetTexts.{resets_agree, resets_differ, resets_not_always, resets_are_shown, resets_undecided}
+use Rattle.pair_texts.proofs.check_texts.Texts.{texts_agree, texts_always, texts_differ, texts_not_shown, texts_undecided}
 
 if_some : {X : Type 0} {F G : X → Type 0} (o : Option X) → ((x : X) → F x → G x) → IfSome o F → IfSome o G
 if_some None f h = tt

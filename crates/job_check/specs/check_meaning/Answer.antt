@@ -9,13 +9,13 @@ use Rattle.pair_decide.specs.declared.query.SameBy.{SameBy}
 use Rattle.assume_laws.specs.declared.assume_shape.shape.ShapeFault.{ShapeFault}
 use Rattle.job_check.specs.check_meaning.check_found.job_base.StatusName.{StatusName}
 use Rattle.job_check.specs.check_meaning.check_found.job_base.StatusName.TheVariants as status
-use Rattle.job_check.specs.pair_texts.check_texts.CompareError.TheVariants as compare_error
-use Rattle.job_check.specs.pair_texts.check_texts.Compared.{ByReset}
+use Rattle.pair_texts.specs.check_texts.CompareError.TheVariants as compare_error
+use Rattle.pair_texts.specs.check_texts.Compared.{ByReset}
 use Rattle.job_check.specs.check_meaning.event_texts_under.Answered.{ComparedUnderIn}
 use Rattle.job_base.specs.sec_files.Loading.{IsAccepted, Loads}
 use Rattle.job_base.specs.sec_files.job_files.Reading.{Held}
-use Rattle.job_check.specs.pair_texts.check_texts.Resets.{ResetsAgree, ResetsDiffer, ResetsUndecided}
-use Rattle.job_check.specs.pair_texts.check_texts.Texts.{AreComparable, TextsAgree, TextsDiffer, TextsNotShown, TextsUndecided}
+use Rattle.pair_texts.specs.check_texts.Resets.{ResetsAgree, ResetsDiffer, ResetsUndecided}
+use Rattle.pair_texts.specs.check_texts.Texts.{AreComparable, TextsAgree, TextsDiffer, TextsNotShown, TextsUndecided}
 use Rattle.job_check.specs.check_meaning.event_texts.Texts.{AreEventComparable, EventTextsAgree, EventTextsDiffer, EventTextsNotShown, EventTextsUndecided}
 use Rattle.job_check.specs.check_meaning.event_texts_under.Answers.{EqualUnderIn, DifferentUnderIn, NotShownUnderIn, LimitUnderIn}
 use Rattle.job_check.specs.check_meaning.check_found.Check.{Check}

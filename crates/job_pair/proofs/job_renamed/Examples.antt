@@ -17,11 +17,11 @@ use Rattle.net_names.specs.Renamed.{IsRenamed, renamed, renamed_equation, rename
 use Rattle.net_names.specs.declared.latch_pairs.LatchPair.{LatchPair}
 use Rattle.job_base.specs.declared.finding.PairKind.{PairKind}
 use Rattle.job_base.specs.declared.finding.PairKind.TheVariants as pair_kind
-use Rattle.job_check.specs.pair_texts.design_rows.Small.{IsSmall, Small, small_and, small_early, small_late}
-use Rattle.job_check.specs.pair_texts.design_rows.Designs as design
-use Rattle.job_check.specs.pair_texts.design_rows.Texts.{early, hier, late, off_and, on_and}
-use Rattle.job_check.proofs.pair_texts.design_rows.Spelling.{PortsMatch, Spells, accepted, net_is_small}
-use Rattle.job_check.proofs.pair_texts.design_rows.SpelledTexts.{early_spells, hier_spells, late_spells, off_and_spells, on_and_spells}
+use Rattle.pair_texts.specs.design_rows.Small.{IsSmall, Small, small_and, small_early, small_late}
+use Rattle.pair_texts.specs.design_rows.Designs as design
+use Rattle.pair_texts.specs.design_rows.Texts.{early, hier, late, off_and, on_and}
+use Rattle.pair_texts.proofs.design_rows.Spelling.{PortsMatch, Spells, accepted, net_is_small}
+use Rattle.pair_texts.proofs.design_rows.SpelledTexts.{early_spells, hier_spells, late_spells, off_and_spells, on_and_spells}
 use Rattle.job_pair.specs.Examples.{plainly}
 use Rattle.job_pair.proofs.Examples.{unrefused}
 use Rattle.job_pair.specs.job_renamed.Answer.{AreRenamedComparable}

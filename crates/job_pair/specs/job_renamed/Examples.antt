@@ -1,6 +1,6 @@
 -- Texts that meet the premise of completeness.
 use Rattle.std.specs.Prelude.{ℕ, Bool, List, codes}
-use Rattle.job_check.specs.pair_texts.design_rows.Texts.{early, hier, late, off_and, on_and}
+use Rattle.pair_texts.specs.design_rows.Texts.{early, hier, late, off_and, on_and}
 use Rattle.job_pair.specs.Examples.{plainly}
 use Rattle.job_pair.specs.job_renamed.Answer.{AreRenamedComparable}
 

@@ -15,9 +15,9 @@ use Rattle.job_base.specs.declared.status.StatusName.{StatusName}
 use Rattle.job_base.specs.declared.status.StatusName.TheVariants as status
 use Rattle.job_base.specs.Written.{judgement_status, IsWrittenAs}
 use Rattle.job_base.specs.sec_files.job_files.Texts.{OfThreeNets}
-use Rattle.job_check.proofs.pair_texts.assume_texts.Designs.{resets_agree_up}
-use Rattle.job_check.proofs.pair_texts.assume_texts.Sequences.{resets_where_met}
-use Rattle.job_check.proofs.pair_texts.assume_texts.Texts.{spelled}
+use Rattle.pair_texts.proofs.assume_texts.Designs.{resets_agree_up}
+use Rattle.pair_texts.proofs.assume_texts.Sequences.{resets_where_met}
+use Rattle.pair_texts.proofs.assume_texts.Texts.{spelled}
 use Rattle.signal_induct.specs.Tied.{first_apart}
 use Rattle.job_signals.specs.Judged.{judgement_of}
 use Rattle.job_signals.proofs.Means.{not_different, not_limit, not_done}

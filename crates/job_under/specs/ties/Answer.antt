@@ -7,8 +7,8 @@ use Rattle.pair_decide.specs.declared.query.Proof.{Proof}
 use Rattle.assume_queries.specs.assume_sequences.assume_taken.Taken.{IsAssumed, assumed_by}
 use Rattle.job_base.specs.declared.status.StatusName.{StatusName}
 use Rattle.job_base.specs.declared.status.StatusName.TheVariants as status
-use Rattle.job_check.specs.pair_texts.assume_texts.Agreement.{AgreeFromResetWhereMet}
-use Rattle.job_check.specs.pair_texts.assume_texts.Texts.{ThreeCircuits}
+use Rattle.pair_texts.specs.assume_texts.Agreement.{AgreeFromResetWhereMet}
+use Rattle.pair_texts.specs.assume_texts.Texts.{ThreeCircuits}
 use Rattle.job_base.specs.sec_files.job_files.Texts.{OfThreeTexts}
 use Rattle.signal_induct.specs.declared.induction.SignalInduction.{SignalInduction}
 use Rattle.signal_induct.specs.Tied.{first_apart, IsInductionWhere}

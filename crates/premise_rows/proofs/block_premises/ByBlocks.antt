@@ -9,11 +9,11 @@ use Rattle.job_base.specs.sec_files.Loading.{Loads}
 use Rattle.job_base.proofs.sec_files.Texts.{text_net}
 use Rattle.block_refine.specs.latch_blocks.Signals.{net_weight}
 use Rattle.sec_jobs.specs.job_induct.induct_meaning.Answer.{CanBeJudged}
-use Rattle.job_check.specs.pair_texts.design_rows.Designs as design
-use Rattle.job_check.specs.pair_texts.design_rows.Small.{Small, small_and, small_toggle, small_late, small_early}
-use Rattle.job_check.specs.pair_texts.design_rows.Texts.{on_and, off_and, toggle}
-use Rattle.job_check.proofs.pair_texts.design_rows.Spelling.{Spells, PortsMatch, accepted, net_is_small, match}
-use Rattle.job_check.proofs.pair_texts.design_rows.SpelledTexts.{on_and_spells, off_and_spells, toggle_spells}
+use Rattle.pair_texts.specs.design_rows.Designs as design
+use Rattle.pair_texts.specs.design_rows.Small.{Small, small_and, small_toggle, small_late, small_early}
+use Rattle.pair_texts.specs.design_rows.Texts.{on_and, off_and, toggle}
+use Rattle.pair_texts.proofs.design_rows.Spelling.{Spells, PortsMatch, accepted, net_is_small, match}
+use Rattle.pair_texts.proofs.design_rows.SpelledTexts.{on_and_spells, off_and_spells, toggle_spells}
 use Rattle.premise_rows.specs.block_premises.ByBlocks.{TextsCanBeJudged}
 use Rattle.premise_rows.specs.block_premises.ResetPremises.{late_from_zero, early_from_zero}
 use Rattle.premise_rows.proofs.block_premises.NetWeights.{circuit_weight, net_weighs}

@@ -19,7 +19,7 @@ use Rattle.block_refine.specs.Refining.{AreCoarsest}
 use Rattle.block_refine.proofs.Agreeing.{outputs_agree}
 use Rattle.induct.specs.declared.block_outputs.answer.OutputAnswer.TheVariants as answer
 use Rattle.induct.specs.declared.block_outputs.outputs.OutputPair.{OutputPair}
-use Rattle.job_check.specs.pair_texts.design_rows.Designs.{xor_cover}
+use Rattle.pair_texts.specs.design_rows.Designs.{xor_cover}
 use Rattle.premise_rows.proofs.block_premises.TurningNets.{one_is_sound, two_is_sound}
 use Rattle.premise_rows.specs.block_premises.EqualByBlocks.{one_turning, two_turning, a_numbers, one_block, AreEqualByBlocks}
 

@@ -17,26 +17,26 @@ use Rattle.blif_read.specs.Design.{Place, walk, circuit_of_design}
 use Rattle.blif_read.specs.Fault.{fault_of}
 use Rattle.blif_read.specs.Heads.{head_of}
 use Rattle.sec_base.specs.declared.basics.Init.TheVariants as init
-use Rattle.job_check.specs.pair_texts.design_rows.NoFault.{has_no_fault}
-use Rattle.job_check.proofs.pair_texts.design_rows.NoFaults.{tested_is_sound}
-use Rattle.job_check.specs.pair_texts.design_rows.Designs.{one_model, and_cover}
-use Rattle.job_check.specs.pair_texts.design_rows.Designs as design
-use Rattle.job_check.specs.pair_texts.design_rows.Small.{Small, IsSmall, small_late, small_early}
-use Rattle.job_check.proofs.pair_texts.design_rows.Examples.{at_top, rank_of}
-use Rattle.job_check.proofs.pair_texts.design_rows.Tested.{PassesTests, tested_is_small}
+use Rattle.pair_texts.specs.design_rows.NoFault.{has_no_fault}
+use Rattle.pair_texts.proofs.design_rows.NoFaults.{tested_is_sound}
+use Rattle.pair_texts.specs.design_rows.Designs.{one_model, and_cover}
+use Rattle.pair_texts.specs.design_rows.Designs as design
+use Rattle.pair_texts.specs.design_rows.Small.{Small, IsSmall, small_late, small_early}
+use Rattle.pair_texts.proofs.design_rows.Examples.{at_top, rank_of}
+use Rattle.pair_texts.proofs.design_rows.Tested.{PassesTests, tested_is_small}
 use Rattle.flat_net.specs.View.{NetView, circuit_of}
 use Rattle.circuit_laws.specs.reset_laws.Weight.{PlaceInCycle, ResetVisits, WeighedInCycle, IsResetOver}
 use Rattle.reset_form.specs.reset_unfold.Places.{in_cycle, starts_of}
 use Rattle.sec_setup.specs.ports.Pairs.{NamedPair, named_pairs}
 use Rattle.plain_check.specs.under_base.compare_base.FromReset.{IsLeftStart, IsRightStart, AreTooLargeFromReset}
 use Rattle.outcome_fits.proofs.plain_meaning.CutPairs.{IsOutputPair, IsNextPair, listed_is}
-use Rattle.job_check.specs.pair_texts.check_texts.Texts.{AreComparable}
+use Rattle.pair_texts.specs.check_texts.Texts.{AreComparable}
 use Rattle.premise_rows.specs.block_premises.ResetPremises.{late_from_zero, early_from_zero, ResetsAreComparable}
-use Rattle.job_check.specs.pair_texts.design_rows.Texts.{late, early}
-use Rattle.job_check.proofs.pair_texts.design_rows.Spelling.{Spells, PortsMatch, accepted, net_is_small, match}
-use Rattle.job_check.proofs.pair_texts.check_texts.Comparing.{broken}
-use Rattle.job_check.proofs.pair_texts.check_texts.Uncut.{uncut_is}
-use Rattle.job_check.proofs.pair_texts.design_rows.SpelledTexts.{late_spells, early_spells}
+use Rattle.pair_texts.specs.design_rows.Texts.{late, early}
+use Rattle.pair_texts.proofs.design_rows.Spelling.{Spells, PortsMatch, accepted, net_is_small, match}
+use Rattle.pair_texts.proofs.check_texts.Comparing.{broken}
+use Rattle.pair_texts.proofs.check_texts.Uncut.{uncut_is}
+use Rattle.pair_texts.proofs.design_rows.SpelledTexts.{late_spells, early_spells}
 use Rattle.premise_rows.proofs.block_premises.ResetBounds.{times, SeenBelow, cycles_weigh, depth_low}
 
 abbrev pub outputs_in : Circuit ℕ → List ℕ

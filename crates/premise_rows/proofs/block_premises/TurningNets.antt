@@ -11,7 +11,7 @@ use Rattle.flat_net.specs.declared.parts.Gate.{Gate}
 use Rattle.flat_net.specs.declared.parts.Port.{Port}
 use Rattle.flat_net.specs.declared.signals.Signal.{Signal}
 use Rattle.flat_net.specs.Sound.{Drives, IsInputOf, IsGateOf, IsLatchOf, IsSound}
-use Rattle.job_check.specs.pair_texts.design_rows.Designs.{xor_cover}
+use Rattle.pair_texts.specs.design_rows.Designs.{xor_cover}
 use Rattle.premise_rows.specs.block_premises.EqualByBlocks.{one_turning, two_turning}
 
 -- F holds of each element at its place, counted from k on

@@ -23,7 +23,7 @@ use Rattle.flat_net.specs.Sound.{Drives, IsInputOf, IsGateOf, IsLatchOf, IsSound
 use Rattle.flat_net.specs.View.{NetView, circuit_of}
 use Rattle.net_assembly.specs.net_alike.FlatCircuit.{IsFlatCircuit, HasSignal}
 use Rattle.flatten.specs.DesignFaults.{IsClocked, IsDrivenOnce, IsFlatOf}
-use Rattle.job_check.specs.pair_texts.design_rows.Designs.{one_model}
+use Rattle.pair_texts.specs.design_rows.Designs.{one_model}
 use Rattle.call_rows.proofs.circuit_samples.Each.{each_at, each_pair}
 use Rattle.premise_rows.specs.certificate_premises.OneGraph.{and_by}
 use Rattle.premise_rows.proofs.block_premises.TurningNets.{each, one_name, reads}

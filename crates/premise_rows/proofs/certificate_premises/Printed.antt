@@ -36,12 +36,12 @@ use Rattle.job_cert.specs.pair_clauses.Clauses.{ArePairClauses, CanBeUnfolded, T
 use Rattle.job_cert.specs.Made.{Refutes, IsMadeBy}
 use Rattle.job_cert.proofs.Means.{cert_means}
 use Rattle.job_cert.proofs.pair_clauses.OneText.{have_one_text_encoding}
-use Rattle.job_check.specs.pair_texts.check_texts.Texts.{AreComparable}
-use Rattle.job_check.specs.pair_texts.design_rows.Designs as design
-use Rattle.job_check.specs.pair_texts.design_rows.Small.{Small, small_and}
-use Rattle.job_check.specs.pair_texts.design_rows.Texts.{on_and, off_and}
-use Rattle.job_check.proofs.pair_texts.design_rows.Spelling.{Spells, accepted}
-use Rattle.job_check.proofs.pair_texts.design_rows.SpelledTexts.{on_and_spells, off_and_spells}
+use Rattle.pair_texts.specs.check_texts.Texts.{AreComparable}
+use Rattle.pair_texts.specs.design_rows.Designs as design
+use Rattle.pair_texts.specs.design_rows.Small.{Small, small_and}
+use Rattle.pair_texts.specs.design_rows.Texts.{on_and, off_and}
+use Rattle.pair_texts.proofs.design_rows.Spelling.{Spells, accepted}
+use Rattle.pair_texts.proofs.design_rows.SpelledTexts.{on_and_spells, off_and_spells}
 use Rattle.call_rows.proofs.circuit_samples.NetTest.{numbers_distinct-sound}
 use Rattle.premise_rows.specs.event_limit_premises.AtLimit.{is, isnt}
 use Rattle.premise_rows.specs.certificate_premises.OneGraph.{on_cover, off_cover, and_by, and_tree, and_clauses}

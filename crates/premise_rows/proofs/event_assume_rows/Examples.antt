@@ -8,8 +8,8 @@ use Rattle.premise_rows.specs.event_assume_rows.assume_rows.SameInputs.{same, sa
 use Rattle.premise_rows.proofs.event_assume_rows.assume_rows.Meeting.{ones_meet}
 use Rattle.premise_rows.proofs.event_assume_rows.assume_rows.Shape.{no_fault, weighs_few}
 use Rattle.premise_rows.proofs.event_assume_rows.assume_rows.Spelled.{same_spells}
-use Rattle.job_check.specs.pair_texts.design_rows.Small.{IsSmall}
-use Rattle.job_check.proofs.pair_texts.design_rows.Spelling.{accepted, net_is_small}
+use Rattle.pair_texts.specs.design_rows.Small.{IsSmall}
+use Rattle.pair_texts.proofs.design_rows.Spelling.{accepted, net_is_small}
 use Rattle.job_check.specs.check_meaning.event_meaning.Heavy.{IsTooLargeForEvents}
 use Rattle.plain_check.specs.under_base.Met.{shared_by}
 use Rattle.assume_queries.specs.assume_sequences.assume_taken.Taken.{IsFirstFault}

@@ -18,9 +18,9 @@ use Rattle.flatten.specs.DesignFaults.{IsClocked, IsFlatOf}
 use Rattle.job_base.proofs.design_laws.FlatParts.{FlatDesign, latch_up}
 use Rattle.job_base.proofs.design_laws.Kept.{flat_design}
 use Rattle.job_base.proofs.design_laws.KeptNames.{names_are_kept}
-use Rattle.job_check.proofs.pair_texts.design_rows.Places.{is_one_place, is_one_place-itself}
-use Rattle.job_check.specs.pair_texts.design_rows.NoFault.{has_no_fault}
-use Rattle.job_check.proofs.pair_texts.design_rows.NoFaults.{tested_is_sound}
+use Rattle.pair_texts.proofs.design_rows.Places.{is_one_place, is_one_place-itself}
+use Rattle.pair_texts.specs.design_rows.NoFault.{has_no_fault}
+use Rattle.pair_texts.proofs.design_rows.NoFaults.{tested_is_sound}
 use Rattle.job_base.proofs.design_laws.event_designs.FlatEnabled.{enabled_down}
 use Rattle.premise_rows.proofs.event_premises.Flat.{PassesShallow}
 use Rattle.premise_rows.proofs.event_premises.Nets.{HasPorts, PassesCounts, SpellsDesign, ports_kept, shallow_net}

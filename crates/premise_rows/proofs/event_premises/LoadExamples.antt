@@ -15,15 +15,15 @@ use Rattle.flatten.specs.DesignFaults.{IsClocked, IsFlatOf}
 use Rattle.job_base.proofs.design_laws.FlatParts.{FlatDesign, latch_up}
 use Rattle.job_base.proofs.design_laws.Kept.{flat_design}
 use Rattle.job_base.proofs.design_laws.KeptNames.{names_are_kept}
-use Rattle.job_check.proofs.pair_texts.design_rows.Places.{is_one_place, is_one_place-itself}
+use Rattle.pair_texts.proofs.design_rows.Places.{is_one_place, is_one_place-itself}
 use Rattle.job_base.proofs.design_laws.event_designs.FlatEnabled.{enabled_down}
 use Rattle.blif_read.specs.blif_lines.Lines.{cut_line, going_on}
 use Rattle.blif_read.specs.Fault.{fault_of}
 use Rattle.blif_read.specs.Heads.{head_of}
 use Rattle.sec_setup.specs.cut_points.Common.{common_names}
-use Rattle.job_check.specs.pair_texts.design_rows.Designs.{and_cover}
-use Rattle.job_check.specs.pair_texts.design_rows.NoFault.{has_no_fault}
-use Rattle.job_check.proofs.pair_texts.design_rows.NoFaults.{tested_is_sound}
+use Rattle.pair_texts.specs.design_rows.Designs.{and_cover}
+use Rattle.pair_texts.specs.design_rows.NoFault.{has_no_fault}
+use Rattle.pair_texts.proofs.design_rows.NoFaults.{tested_is_sound}
 use Rattle.job_base.specs.sec_files.Loading.{Loads}
 use Rattle.event_setup.specs.Choosing.{HaveNoCycles}
 use Rattle.premise_rows.specs.event_premises.Loads.{loading, on_load, off_load, off_and_cover, on_loads, off_loads}

@@ -9,7 +9,7 @@ use Rattle.flat_net.specs.View.{NetView, ports_of}
 use Rattle.flatten.specs.DesignFaults.{IsSoundDesign, IsFlatOf}
 use Rattle.job_base.proofs.design_laws.Kept.{flat_design}
 use Rattle.job_base.proofs.design_laws.KeptNames.{names_are_kept}
-use Rattle.job_check.proofs.pair_texts.design_rows.Places.{is_one_place, is_one_place-sound}
+use Rattle.pair_texts.proofs.design_rows.Places.{is_one_place, is_one_place-sound}
 use Rattle.sec_setup.specs.Matching.{InterfacesMatch}
 use Rattle.job_base.specs.sec_files.Formats.{Format, Blif, format_of, IsReadIn, IsSoundIn}
 use Rattle.job_base.specs.sec_files.Loading.{IsAccepted, Loads}

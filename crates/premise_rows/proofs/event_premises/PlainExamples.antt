@@ -10,12 +10,12 @@ use Rattle.sec_setup.specs.cut_points.Common.{common_names}
 use Rattle.sec_setup.specs.Cycles.{AreBroken}
 use Rattle.event_setup.specs.Choosing.{HaveNoCycles}
 use Rattle.job_base.specs.sec_files.Loading.{Loads}
-use Rattle.job_check.specs.pair_texts.design_rows.Designs as design
-use Rattle.job_check.specs.pair_texts.design_rows.Small.{small_late, small_early, small_toggle, IsSmall}
-use Rattle.job_check.specs.pair_texts.design_rows.Texts.{late, early, toggle}
-use Rattle.job_check.proofs.pair_texts.design_rows.Places.{is_one_place}
-use Rattle.job_check.proofs.pair_texts.design_rows.Spelling.{accepted, match, net_is_small}
-use Rattle.job_check.proofs.pair_texts.design_rows.SpelledTexts.{late_spells, early_spells, toggle_spells}
+use Rattle.pair_texts.specs.design_rows.Designs as design
+use Rattle.pair_texts.specs.design_rows.Small.{small_late, small_early, small_toggle, IsSmall}
+use Rattle.pair_texts.specs.design_rows.Texts.{late, early, toggle}
+use Rattle.pair_texts.proofs.design_rows.Places.{is_one_place}
+use Rattle.pair_texts.proofs.design_rows.Spelling.{accepted, match, net_is_small}
+use Rattle.pair_texts.proofs.design_rows.SpelledTexts.{late_spells, early_spells, toggle_spells}
 use Rattle.premise_rows.specs.event_premises.Premises.{RetimedAreComparable, TogglesAreComparable}
 use Rattle.premise_rows.proofs.event_premises.Comparing.{broken_events, comparable_events}
 use Rattle.premise_rows.proofs.event_premises.Flat.{PassesShallow}

@@ -25,8 +25,8 @@ use Rattle.net_assembly.proofs.net_alike.Carrying.{forth, turned, run_back}
 use Rattle.net_assembly.proofs.net_alike.Testing.{all_in}
 use Rattle.flatten.specs.DesignFaults.{IsFlatOf}
 use Rattle.net_assembly.proofs.DistinctLists.{distinct_nil, distinct_cons}
-use Rattle.job_check.specs.pair_texts.design_rows.NoFault.{has_no_fault}
-use Rattle.job_check.proofs.pair_texts.design_rows.NoFaults.{tested_is_sound}
+use Rattle.pair_texts.specs.design_rows.NoFault.{has_no_fault}
+use Rattle.pair_texts.proofs.design_rows.NoFaults.{tested_is_sound}
 use Rattle.signal_graph.specs.declared.inner_cone.latch_cone.kinds.LatchKind.{LatchKind}
 use Rattle.signal_graph.specs.declared.inner_cone.latch_cone.kinds.LatchKind.TheVariants as kind
 use Rattle.signal_graph.specs.inner_cone.latch_cone.Kinds.{IsKindIn}
@@ -40,16 +40,16 @@ use Rattle.job_base.specs.sec_files.Formats.{Blif}
 use Rattle.job_base.specs.sec_files.Loading.{Loads}
 use Rattle.job_base.proofs.sec_files.Texts.{text_net}
 use Rattle.job_base.specs.sec_files.Stimuli.{IsStimulus}
-use Rattle.job_check.specs.pair_texts.design_rows.Designs as design
-use Rattle.job_check.specs.pair_texts.design_rows.Designs.{same_cover, not_cover}
-use Rattle.job_check.specs.pair_texts.design_rows.Small.{Small, IsSmall, small_toggle}
-use Rattle.job_check.proofs.pair_texts.design_rows.Examples.{at_top, flat_rank}
-use Rattle.job_check.proofs.pair_texts.design_rows.Places.{is_one_place}
-use Rattle.job_check.proofs.pair_texts.design_rows.Tested.{PassesTests, tested_is_small}
-use Rattle.job_check.proofs.pair_texts.design_rows.Toggle.{toggle_is_small}
-use Rattle.job_check.specs.pair_texts.design_rows.Texts.{toggle}
+use Rattle.pair_texts.specs.design_rows.Designs as design
+use Rattle.pair_texts.specs.design_rows.Designs.{same_cover, not_cover}
+use Rattle.pair_texts.specs.design_rows.Small.{Small, IsSmall, small_toggle}
+use Rattle.pair_texts.proofs.design_rows.Examples.{at_top, flat_rank}
+use Rattle.pair_texts.proofs.design_rows.Places.{is_one_place}
+use Rattle.pair_texts.proofs.design_rows.Tested.{PassesTests, tested_is_small}
+use Rattle.pair_texts.proofs.design_rows.Toggle.{toggle_is_small}
+use Rattle.pair_texts.specs.design_rows.Texts.{toggle}
 use Rattle.premise_rows.specs.job_rows.Enables.{held, mux_cover, held_design, two_cycles, HasKinds, EnablesMeetPremises}
-use Rattle.job_check.proofs.pair_texts.design_rows.Spelling.{Spells, accepted, net_is_small}
+use Rattle.pair_texts.proofs.design_rows.Spelling.{Spells, accepted, net_is_small}
 use Rattle.premise_rows.proofs.job_rows.OneLatch.{apart, are_apart-sound, reader, IsOneLatch, renumbered, latch_of, latch_there, gate_there, is_light, own_cone, kinds_are}
 use Rattle.premise_rows.proofs.job_rows.Unate.{mux_is_enabled, HasBoth, inverter_is_not_enabled}
 

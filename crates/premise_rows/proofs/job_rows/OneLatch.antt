@@ -26,7 +26,7 @@ use Rattle.job_base.proofs.design_laws.KeptNames.{names_are_kept}
 use Rattle.signal_graph.specs.declared.inner_cone.latch_cone.kinds.LatchKind.{LatchKind}
 use Rattle.signal_graph.specs.inner_cone.latch_cone.Kinds.{IsInOwnCone, IsKindIn, AreKindsIn}
 use Rattle.latch_kinds.specs.Found.{AreLight}
-use Rattle.job_check.proofs.pair_texts.design_rows.Places.{is_one_place, is_one_place-itself}
+use Rattle.pair_texts.proofs.design_rows.Places.{is_one_place, is_one_place-itself}
 use Rattle.premise_rows.proofs.job_rows.ConeWeights.{IsOneGate, one_gate_weight, cone_weight_there}
 
 pub apart : (p q : Place) → is_one_place p q ≡ false → p ≢ q

@@ -19,14 +19,14 @@ use Rattle.job_base.specs.sec_files.Loading.{Loads}
 use Rattle.job_base.specs.sec_files.Stimuli.{IsStimulus}
 use Rattle.job_circuit.specs.replay.replay_header.Header.{FitsBoth}
 use Rattle.job_circuit.specs.job_replay.Replays.{CanBeReplayed}
-use Rattle.job_check.specs.pair_texts.design_rows.Designs as design
-use Rattle.job_check.specs.pair_texts.design_rows.Small.{Small, IsSmall, small_late, small_early, small_two, small_toggle}
-use Rattle.job_check.specs.pair_texts.design_rows.Texts.{late, early, toggle, two, three_cycles}
+use Rattle.pair_texts.specs.design_rows.Designs as design
+use Rattle.pair_texts.specs.design_rows.Small.{Small, IsSmall, small_late, small_early, small_two, small_toggle}
+use Rattle.pair_texts.specs.design_rows.Texts.{late, early, toggle, two, three_cycles}
 use Rattle.premise_rows.specs.job_rows.Enables.{held, held_design, two_cycles}
 use Rattle.premise_rows.specs.job_rows.Replays.{both_and_none, opened_once, ReplaysMeetPremises}
-use Rattle.job_check.proofs.pair_texts.design_rows.Spelling.{Spells, PortsMatch, accepted, net_is_small, match, small_ports, ports_are}
+use Rattle.pair_texts.proofs.design_rows.Spelling.{Spells, PortsMatch, accepted, net_is_small, match, small_ports, ports_are}
 use Rattle.premise_rows.proofs.job_rows.Enables.{small_held, held_spells, held_is_light, toggle_is_light, stimulus as held_stimulus}
-use Rattle.job_check.proofs.pair_texts.design_rows.SpelledTexts.{late_spells, early_spells, two_spells, toggle_spells}
+use Rattle.pair_texts.proofs.design_rows.SpelledTexts.{late_spells, early_spells, two_spells, toggle_spells}
 use Rattle.premise_rows.proofs.job_rows.Stimuli.{stimulus as two_stimulus}
 
 -- the first unknown name, by the names of inputs and of latches

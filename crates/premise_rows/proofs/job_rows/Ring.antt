@@ -10,12 +10,12 @@ use Rattle.blif_read.specs.Fault.{fault_of}
 use Rattle.blif_read.specs.Heads.{head_of}
 use Rattle.flat_net.specs.View.{NetView, circuit_of}
 use Rattle.job_base.specs.sec_files.Loading.{Loads}
-use Rattle.job_check.specs.pair_texts.design_rows.Designs as design
-use Rattle.job_check.specs.pair_texts.design_rows.Small.{small_ring, IsSmall}
-use Rattle.job_check.proofs.pair_texts.design_rows.Examples.{ring_is_small}
-use Rattle.job_check.specs.pair_texts.design_rows.Texts.{ring}
+use Rattle.pair_texts.specs.design_rows.Designs as design
+use Rattle.pair_texts.specs.design_rows.Small.{small_ring, IsSmall}
+use Rattle.pair_texts.proofs.design_rows.Examples.{ring_is_small}
+use Rattle.pair_texts.specs.design_rows.Texts.{ring}
 use Rattle.premise_rows.specs.job_rows.Ring.{RingIsCutOnce}
-use Rattle.job_check.proofs.pair_texts.design_rows.Spelling.{Spells, net_is_small, latch_in}
+use Rattle.pair_texts.proofs.design_rows.Spelling.{Spells, net_is_small, latch_in}
 
 first_spells : Spells ring design.ring (small_ring (codes "p") 6)
 unfolding fault_of head_of cut_line going_on

@@ -14,16 +14,16 @@ use Rattle.blif_read.specs.declared.design.Statement.TheVariants.{Latch}
 use Rattle.flat_net.specs.declared.parts.LatchAt.{LatchAt}
 use Rattle.flat_net.specs.View.{NetView}
 use Rattle.flatten.specs.DesignFaults.{IsSoundDesign, inits_of}
-use Rattle.job_check.specs.pair_texts.design_rows.NoFault.{has_no_fault}
-use Rattle.job_check.proofs.pair_texts.design_rows.NoFaults.{tested_is_sound}
-use Rattle.job_check.specs.pair_texts.design_rows.Designs.{one_model}
+use Rattle.pair_texts.specs.design_rows.NoFault.{has_no_fault}
+use Rattle.pair_texts.proofs.design_rows.NoFaults.{tested_is_sound}
+use Rattle.pair_texts.specs.design_rows.Designs.{one_model}
 use Rattle.cycle_sim.specs.Runs.{initial_or, reset_bits}
 use Rattle.circuit_report.specs.sim_report.Checks.{power_of}
 use Rattle.job_base.specs.sec_files.Formats.{Blif}
 use Rattle.job_base.specs.sec_files.Loading.{Loads}
 use Rattle.job_base.proofs.sec_files.Texts.{text_net}
 use Rattle.premise_rows.specs.job_rows.Started.{StartedPowersUp}
-use Rattle.job_check.specs.pair_texts.design_rows.Texts.{started}
+use Rattle.pair_texts.specs.design_rows.Texts.{started}
 
 abbrev started_design : List BlifModel
 started_design =

@@ -15,12 +15,12 @@ use Rattle.circuit_report.specs.declared.sim_report.refusal.Misfit.{Misfit}
 use Rattle.circuit_report.specs.declared.sim_report.refusal.Misfit.TheVariants as misfit
 use Rattle.circuit_report.specs.sim_report.Checks.{is_power, named_misfit, first_misfit}
 use Rattle.job_base.specs.sec_files.Stimuli.{IsStimulus}
-use Rattle.job_check.specs.pair_texts.design_rows.Designs as design
-use Rattle.job_check.specs.pair_texts.design_rows.Small.{small_two, IsSmall}
+use Rattle.pair_texts.specs.design_rows.Designs as design
+use Rattle.pair_texts.specs.design_rows.Small.{small_two, IsSmall}
 use Rattle.premise_rows.specs.job_rows.Stimuli.{TwoCanBeRun}
-use Rattle.job_check.specs.pair_texts.design_rows.Texts.{two, three_cycles}
-use Rattle.job_check.proofs.pair_texts.design_rows.Spelling.{accepted, net_is_small}
-use Rattle.job_check.proofs.pair_texts.design_rows.SpelledTexts.{two_spells}
+use Rattle.pair_texts.specs.design_rows.Texts.{two, three_cycles}
+use Rattle.pair_texts.proofs.design_rows.Spelling.{accepted, net_is_small}
+use Rattle.pair_texts.proofs.design_rows.SpelledTexts.{two_spells}
 
 abbrev pub names : List (List ℕ)
 names = codes "a" ∷ []

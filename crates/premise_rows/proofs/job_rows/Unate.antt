@@ -6,7 +6,7 @@ use Rattle.circuit_theory.specs.Cover.{cover_value}
 use Rattle.circuit_theory.specs.Circuit.{Circuit, Gate, IsLatch, IsSource, Reads, Reaches, Holds, Meets}
 use Rattle.circuit_theory.specs.Run.{ExtendsWith, IsEnabled}
 use Rattle.circuit_theory.proofs.Lists.{Contains-head}
-use Rattle.job_check.specs.pair_texts.design_rows.Designs.{not_cover}
+use Rattle.pair_texts.specs.design_rows.Designs.{not_cover}
 use Rattle.premise_rows.specs.job_rows.Enables.{mux_cover}
 
 mux_rises : (d en : Bool) → cover_value mux_cover (false ∷ d ∷ en ∷ []) ≡ true → cover_value mux_cover (true ∷ d ∷ en ∷ []) ≡ true

@@ -18,8 +18,8 @@ use Rattle.restart.proofs.Begun.{begun_starts, begun_circuit}
 use Rattle.job_base.specs.sec_files.Formats.{Blif}
 use Rattle.job_base.specs.sec_files.Loading.{Loads}
 use Rattle.job_base.proofs.sec_files.Texts.{text_net}
-use Rattle.job_check.specs.pair_texts.design_rows.Small.{Small}
-use Rattle.job_check.proofs.pair_texts.design_rows.Spelling.{Spells, net_is_small}
+use Rattle.pair_texts.specs.design_rows.Small.{Small}
+use Rattle.pair_texts.proofs.design_rows.Spelling.{Spells, net_is_small}
 use Rattle.premise_rows.proofs.block_premises.NetWeights.{circuit_weight, cycle_weighs}
 use Rattle.premise_rows.proofs.block_premises.ResetBounds.{shifted}
 

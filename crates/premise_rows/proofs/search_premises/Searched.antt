@@ -8,11 +8,11 @@ use Rattle.flat_net.specs.View.{NetView}
 use Rattle.cycle_search.specs.Outputs.{IsOneTooLarge}
 use Rattle.job_base.specs.sec_files.Loading.{Loads}
 use Rattle.sec_jobs.specs.job_search.search_meaning.Answer.{CanBeSearched}
-use Rattle.job_check.specs.pair_texts.design_rows.Designs as design
-use Rattle.job_check.specs.pair_texts.design_rows.Small.{Small, small_late, small_early, small_toggle}
-use Rattle.job_check.specs.pair_texts.design_rows.Texts.{late, toggle}
-use Rattle.job_check.proofs.pair_texts.design_rows.Spelling.{Spells, PortsMatch, accepted, net_is_small, match}
-use Rattle.job_check.proofs.pair_texts.design_rows.SpelledTexts.{late_spells, toggle_spells}
+use Rattle.pair_texts.specs.design_rows.Designs as design
+use Rattle.pair_texts.specs.design_rows.Small.{Small, small_late, small_early, small_toggle}
+use Rattle.pair_texts.specs.design_rows.Texts.{late, toggle}
+use Rattle.pair_texts.proofs.design_rows.Spelling.{Spells, PortsMatch, accepted, net_is_small, match}
+use Rattle.pair_texts.proofs.design_rows.SpelledTexts.{late_spells, toggle_spells}
 use Rattle.premise_rows.specs.block_premises.ResetPremises.{late_from_zero, early_from_zero}
 use Rattle.premise_rows.specs.search_premises.Searched.{TextsCanBeSearched}
 use Rattle.premise_rows.proofs.block_premises.NetWeights.{circuit_weight}

@@ -24,13 +24,13 @@ use Rattle.induct.specs.declared.induction.InductError.TheVariants as heavy
 use Rattle.job_under.specs.Answer.{CanBeJudgedBy}
 use Rattle.job_under.specs.Found.{SearchRefuses}
 use Rattle.job_under.specs.ties.Found.{TiesRefuse}
-use Rattle.job_check.specs.pair_texts.design_rows.NoFault.{has_no_fault}
-use Rattle.job_check.specs.pair_texts.design_rows.Designs.{one_model, same_cover}
-use Rattle.job_check.specs.pair_texts.design_rows.Small.{Small, small_late, small_early}
-use Rattle.job_check.proofs.pair_texts.design_rows.NoFaults.{tested_is_sound}
-use Rattle.job_check.proofs.pair_texts.design_rows.Examples.{at_top, flat_rank}
-use Rattle.job_check.proofs.pair_texts.design_rows.Tested.{PassesTests, tested_is_small}
-use Rattle.job_check.proofs.pair_texts.design_rows.Spelling.{Spells, PortsMatch, accepted, net_is_small, small_ports, ports_are, match}
+use Rattle.pair_texts.specs.design_rows.NoFault.{has_no_fault}
+use Rattle.pair_texts.specs.design_rows.Designs.{one_model, same_cover}
+use Rattle.pair_texts.specs.design_rows.Small.{Small, small_late, small_early}
+use Rattle.pair_texts.proofs.design_rows.NoFaults.{tested_is_sound}
+use Rattle.pair_texts.proofs.design_rows.Examples.{at_top, flat_rank}
+use Rattle.pair_texts.proofs.design_rows.Tested.{PassesTests, tested_is_small}
+use Rattle.pair_texts.proofs.design_rows.Spelling.{Spells, PortsMatch, accepted, net_is_small, small_ports, ports_are, match}
 use Rattle.premise_rows.specs.block_premises.ResetPremises.{late_from_zero, early_from_zero}
 use Rattle.premise_rows.specs.event_assume_rows.assume_rows.SameInputs.{same, same_design, small_same}
 use Rattle.premise_rows.specs.search_premises.SearchedUnder.{turns_with_both, turns_with_either, TextsCanBeSearchedUnder, TextsCanBeTied}

@@ -19,7 +19,7 @@ use Rattle.assume_laws.specs.Assume.{RowMeets, PlaceUnfolds, PlaceUnfoldsAll}
 use Rattle.assume_laws.proofs.Meeting.{leaf_input, leaf_at}
 use Rattle.cycle_under.specs.First.{MeetsFirst, IsWantedFirst, IsDifferenceOf, IsWitnessFirst, reset_pair_under}
 use Rattle.cycle_under.proofs.Runs.{equal_up_to_agree_under, equal_to_depths_agree_under, witness_differs_under}
-use Rattle.job_check.specs.pair_texts.design_rows.Designs.{xor_cover}
+use Rattle.pair_texts.specs.design_rows.Designs.{xor_cover}
 use Rattle.call_rows.specs.circuit_samples.Circuits.{buffer, constant_one, inverter, only_a, one_from, constant_from_zero}
 use Rattle.call_rows.proofs.circuit_samples.AssumeExamples.{row_meets, meets_row, reads_a, numbered_a}
 use Rattle.call_rows.proofs.circuit_samples.Each.{each_at, each_pair}

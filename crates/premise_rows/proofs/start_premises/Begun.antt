@@ -29,17 +29,17 @@ use Rattle.job_base.specs.sec_files.Stimuli.{IsStimulus}
 use Rattle.job_circuit.specs.replay.replay_header.Header.{opened}
 use Rattle.job_after.specs.Answer.{IsWide, CanBeBegun}
 use Rattle.job_signals.specs.job_begun.Found.{IsHeavy}
-use Rattle.job_check.specs.pair_texts.design_rows.NoFault.{has_no_fault}
-use Rattle.job_check.specs.pair_texts.design_rows.Designs.{one_model, same_cover, not_cover}
-use Rattle.job_check.specs.pair_texts.design_rows.Designs as design
-use Rattle.job_check.specs.pair_texts.design_rows.Small.{Small, IsSmall, small_late, small_early}
-use Rattle.job_check.specs.pair_texts.design_rows.Texts.{late, early}
-use Rattle.job_check.proofs.pair_texts.design_rows.NoFaults.{tested_is_sound}
-use Rattle.job_check.proofs.pair_texts.design_rows.Examples.{at_top, flat_rank}
-use Rattle.job_check.proofs.pair_texts.design_rows.Tested.{PassesTests, tested_is_small}
-use Rattle.job_check.proofs.pair_texts.design_rows.Spelling.{Spells, PortsMatch, accepted, net_is_small, small_ports}
-use Rattle.job_check.proofs.pair_texts.check_texts.Comparing.{broken}
-use Rattle.job_check.proofs.pair_texts.design_rows.SpelledTexts.{late_spells, early_spells}
+use Rattle.pair_texts.specs.design_rows.NoFault.{has_no_fault}
+use Rattle.pair_texts.specs.design_rows.Designs.{one_model, same_cover, not_cover}
+use Rattle.pair_texts.specs.design_rows.Designs as design
+use Rattle.pair_texts.specs.design_rows.Small.{Small, IsSmall, small_late, small_early}
+use Rattle.pair_texts.specs.design_rows.Texts.{late, early}
+use Rattle.pair_texts.proofs.design_rows.NoFaults.{tested_is_sound}
+use Rattle.pair_texts.proofs.design_rows.Examples.{at_top, flat_rank}
+use Rattle.pair_texts.proofs.design_rows.Tested.{PassesTests, tested_is_small}
+use Rattle.pair_texts.proofs.design_rows.Spelling.{Spells, PortsMatch, accepted, net_is_small, small_ports}
+use Rattle.pair_texts.proofs.check_texts.Comparing.{broken}
+use Rattle.pair_texts.proofs.design_rows.SpelledTexts.{late_spells, early_spells}
 use Rattle.premise_rows.specs.job_rows.Replays.{both_and_none}
 use Rattle.premise_rows.specs.start_premises.Begun.{toggles, toggles_turned, one_reset, TextsCanBegin}
 use Rattle.premise_rows.proofs.block_premises.ByBlocks.{light}

@@ -8,11 +8,11 @@ use Rattle.flat_net.specs.View.{NetView, ports_of}
 use Rattle.cycle_under.specs.Searches.{SearchesUnder}
 use Rattle.restart.specs.Behind.{begun}
 use Rattle.job_after_under.specs.Answer.{CanBeSearchedBehind}
-use Rattle.job_check.specs.pair_texts.design_rows.Designs as design
-use Rattle.job_check.specs.pair_texts.design_rows.Small.{Small, small_late, small_early}
-use Rattle.job_check.specs.pair_texts.design_rows.Texts.{late, early}
-use Rattle.job_check.proofs.pair_texts.design_rows.Spelling.{Spells, PortsMatch, accepted, net_is_small}
-use Rattle.job_check.proofs.pair_texts.design_rows.SpelledTexts.{late_spells, early_spells}
+use Rattle.pair_texts.specs.design_rows.Designs as design
+use Rattle.pair_texts.specs.design_rows.Small.{Small, small_late, small_early}
+use Rattle.pair_texts.specs.design_rows.Texts.{late, early}
+use Rattle.pair_texts.proofs.design_rows.Spelling.{Spells, PortsMatch, accepted, net_is_small}
+use Rattle.pair_texts.proofs.design_rows.SpelledTexts.{late_spells, early_spells}
 use Rattle.premise_rows.specs.event_assume_rows.assume_rows.SameInputs.{same, same_design, small_same}
 use Rattle.premise_rows.specs.job_rows.Replays.{both_and_none}
 use Rattle.premise_rows.specs.search_premises.SearchedUnder.{turns_with_both, turns_with_either}

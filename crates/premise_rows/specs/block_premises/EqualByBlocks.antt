@@ -18,7 +18,7 @@ use Rattle.block_refine.specs.Refining.{AreCoarsest}
 use Rattle.induct.specs.declared.block_outputs.answer.OutputAnswer.TheVariants as answer
 use Rattle.induct.specs.declared.block_outputs.outputs.OutputPair.{OutputPair}
 use Rattle.induct.specs.block_outputs.Answers.{IsOutputAnswer}
-use Rattle.job_check.specs.pair_texts.design_rows.Designs.{xor_cover}
+use Rattle.pair_texts.specs.design_rows.Designs.{xor_cover}
 
 -- 0 a; 1 q, which starts with 0 and takes over 2, one of a and q but not both
 abbrev pub one_turning : NetView

@@ -1,7 +1,7 @@
 -- Texts that meet the premise of what is promised of comparisons from the latches' initial values.
 use Rattle.std.specs.Prelude.{ℕ, false, true, List, codes}
-use Rattle.job_check.specs.pair_texts.check_texts.Texts.{AreComparable}
-use Rattle.job_check.specs.pair_texts.design_rows.Texts.{late, early}
+use Rattle.pair_texts.specs.check_texts.Texts.{AreComparable}
+use Rattle.pair_texts.specs.design_rows.Texts.{late, early}
 
 -- an and, and a latch behind it that starts with 0
 abbrev pub late_from_zero : List ℕ

@@ -7,7 +7,7 @@ use Rattle.job_base.specs.declared.status.StatusName.TheVariants.{Done}
 use Rattle.job_cert.specs.pair_clauses.Clauses.{ArePairClauses}
 use Rattle.job_cert.specs.Made.{Request}
 use Rattle.job_cert.specs.Answer.{CertMeans}
-use Rattle.job_check.specs.pair_texts.design_rows.Texts.{on_and, off_and}
+use Rattle.pair_texts.specs.design_rows.Texts.{on_and, off_and}
 use Rattle.premise_rows.specs.certificate_premises.Fitting.{Fit}
 use Rattle.premise_rows.specs.certificate_premises.OneGraph.{on_cover, off_cover, and_by, and_clauses}
 

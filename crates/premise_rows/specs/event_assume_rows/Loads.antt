@@ -7,7 +7,7 @@ use Rattle.sec_base.specs.declared.settings.Settings.{Settings}
 use Rattle.blif_read.specs.declared.design.BlifModel.{BlifModel}
 use Rattle.blif_read.specs.declared.design.Statement.TheVariants.{Names, Latch}
 use Rattle.job_check.specs.check_meaning.Answer.{AreComparableUnder}
-use Rattle.job_check.specs.pair_texts.design_rows.Designs.{one_model}
+use Rattle.pair_texts.specs.design_rows.Designs.{one_model}
 use Rattle.premise_rows.specs.event_assume_rows.assume_rows.SameInputs.{same}
 
 -- the second input where the first is 1, and else the fourth

@@ -4,7 +4,7 @@ use Rattle.circuit_theory.specs.Cover.{Cover}
 use Rattle.sec_base.specs.declared.basics.Init.TheVariants as init
 use Rattle.blif_read.specs.declared.design.BlifModel.{BlifModel}
 use Rattle.blif_read.specs.declared.design.Statement.TheVariants.{Names, Latch}
-use Rattle.job_check.specs.pair_texts.design_rows.Designs.{one_model}
+use Rattle.pair_texts.specs.design_rows.Designs.{one_model}
 
 -- the second input where the first is 1, and else the third: by the rows where that is 1, and by those where it is 0
 abbrev pub on_load : Cover

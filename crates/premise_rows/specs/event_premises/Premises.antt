@@ -1,7 +1,7 @@
 -- Texts that meet the premise of what is promised of comparisons in the event mode.
 use Rattle.std.specs.Prelude.{◌≡◌, true}
 use Rattle.sec_base.specs.declared.settings.Settings.{Settings}
-use Rattle.job_check.specs.pair_texts.design_rows.Texts.{late, early, toggle}
+use Rattle.pair_texts.specs.design_rows.Texts.{late, early, toggle}
 use Rattle.job_check.specs.check_meaning.event_texts.Texts.{AreEventComparable}
 use Rattle.premise_rows.specs.event_premises.Loads.{on_loads, off_loads}
 

@@ -11,8 +11,8 @@ use Rattle.signal_graph.specs.declared.inner_cone.latch_cone.kinds.LatchKind.The
 use Rattle.signal_graph.specs.inner_cone.latch_cone.Kinds.{AreKindsIn}
 use Rattle.job_base.specs.sec_files.Loading.{Loads}
 use Rattle.job_circuit.specs.Reports.{CanBeTold, CanBeRun}
-use Rattle.job_check.specs.pair_texts.design_rows.Designs.{one_model}
-use Rattle.job_check.specs.pair_texts.design_rows.Texts.{toggle}
+use Rattle.pair_texts.specs.design_rows.Designs.{one_model}
+use Rattle.pair_texts.specs.design_rows.Texts.{toggle}
 
 -- `if (en) q <= d;` as Yosys writes it: a latch behind a multiplexer of itself and the data
 abbrev pub held : List ℕ

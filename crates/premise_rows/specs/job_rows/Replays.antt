@@ -3,7 +3,7 @@ use Rattle.std.specs.Prelude.{ℕ, List, codes}
 use Rattle.circuit_theory.specs.declared.Mode.TheVariants.{Plain, Event}
 use Rattle.job_circuit.specs.job_replay.Replays.{CanBeReplayed}
 use Rattle.premise_rows.specs.job_rows.Enables.{held, two_cycles}
-use Rattle.job_check.specs.pair_texts.design_rows.Texts.{late, early, toggle, two, three_cycles}
+use Rattle.pair_texts.specs.design_rows.Texts.{late, early, toggle, two, three_cycles}
 
 -- two inputs in two cycles
 abbrev pub both_and_none : List ℕ

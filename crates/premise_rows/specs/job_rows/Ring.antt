@@ -3,7 +3,7 @@ use Rattle.std.specs.Prelude.{ℕ, ◌≤◌, true, List, length}
 use Rattle.flat_net.specs.View.{NetView}
 use Rattle.sec_setup.specs.Cuts.{IsChoice}
 use Rattle.job_base.specs.sec_files.Loading.{Loads}
-use Rattle.job_check.specs.pair_texts.design_rows.Texts.{ring}
+use Rattle.pair_texts.specs.design_rows.Texts.{ring}
 
 -- of two latches that take over each other at most one is cut open
 abbrev pub RingIsCutOnce : Type 0

@@ -3,7 +3,7 @@ use Rattle.std.specs.Prelude.{◌≡◌, true, false, [], ◌∷◌, None, Some,
 use Rattle.flat_net.specs.View.{NetView}
 use Rattle.circuit_report.specs.sim_report.Checks.{power_of}
 use Rattle.job_base.specs.sec_files.Loading.{IsAccepted, Loads}
-use Rattle.job_check.specs.pair_texts.design_rows.Texts.{started}
+use Rattle.pair_texts.specs.design_rows.Texts.{started}
 
 -- Of three latches two have an initial value 0 or 1: with `reset` they have it, whatever the power word says, and the third has its
 -- digit, or 0.

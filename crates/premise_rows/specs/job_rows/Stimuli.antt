@@ -2,7 +2,7 @@
 use Rattle.std.specs.Prelude.{Some, None, codes}
 use Rattle.circuit_theory.specs.declared.Mode.TheVariants.{Plain}
 use Rattle.job_circuit.specs.Reports.{CanBeRun}
-use Rattle.job_check.specs.pair_texts.design_rows.Texts.{two, three_cycles}
+use Rattle.pair_texts.specs.design_rows.Texts.{two, three_cycles}
 
 -- two latches in a row, without a power word and with one
 abbrev pub TwoCanBeRun : Type 0

@@ -11,7 +11,7 @@ use Rattle.circuit_laws.specs.cycle_laws.Bounded.{AgreeUpTo}
 use Rattle.assume_laws.specs.Assume.{ReadsInputs, AgreeFromResetUnder}
 use Rattle.assume_laws.specs.Sequences.{RowsMeet}
 use Rattle.cycle_under.specs.First.{reset_pair_under, IsWitnessFirst, AgreeUpToUnder}
-use Rattle.job_check.specs.pair_texts.design_rows.Designs.{xor_cover}
+use Rattle.pair_texts.specs.design_rows.Designs.{xor_cover}
 use Rattle.call_rows.specs.circuit_samples.Circuits.{input_a, buffer, inverter, only_a, one_from, constant_from_zero}
 use Rattle.call_rows.specs.circuit_samples.Assumed.{AreResetSidesUnder}
 

@@ -2,7 +2,7 @@
 use Rattle.std.specs.Prelude.{ℕ, List, Some, None, codes}
 use Rattle.job_after.specs.Answer.{IsWide, CanBeBegun, CanBeSearchedBehind}
 use Rattle.job_signals.specs.job_begun.Found.{IsHeavy}
-use Rattle.job_check.specs.pair_texts.design_rows.Texts.{late, early}
+use Rattle.pair_texts.specs.design_rows.Texts.{late, early}
 use Rattle.premise_rows.specs.job_rows.Replays.{both_and_none}
 
 -- a latch that toggles where r is 0 and else takes 0

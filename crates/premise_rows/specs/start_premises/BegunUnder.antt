@@ -1,7 +1,7 @@
 -- Texts that meet the premise of what is promised of searches behind a reset sequence under an assumption.
 use Rattle.std.specs.Prelude.{ℕ}
 use Rattle.job_after_under.specs.Answer.{CanBeSearchedBehind}
-use Rattle.job_check.specs.pair_texts.design_rows.Texts.{late, early}
+use Rattle.pair_texts.specs.design_rows.Texts.{late, early}
 use Rattle.premise_rows.specs.event_assume_rows.assume_rows.SameInputs.{same}
 use Rattle.premise_rows.specs.job_rows.Replays.{both_and_none}
 use Rattle.premise_rows.specs.search_premises.SearchedUnder.{turns_with_both, turns_with_either}

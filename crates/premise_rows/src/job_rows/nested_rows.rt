@@ -1,7 +1,7 @@
 //! What meets the premises of agreement onward and of what a sequence shows of circuits with latches cut out: a design whose latch on a
 //! cycle lies inside of an instance, and the text that spells it. The functions do nothing: each contract is an example.
 
-ghost use Rattle.job_check.specs.pair_texts.design_rows.Small.{NestedIsSmall};
+ghost use Rattle.pair_texts.specs.design_rows.Small.{NestedIsSmall};
 ghost use Rattle.premise_rows.specs.job_rows.nested_rows.Cutting.{NestedIsCut, NestedMeetsOnward, NestedIsObeyed};
 ghost use Rattle.premise_rows.specs.job_rows.nested_rows.CutOpen.{NestedIsCutOpen};
 

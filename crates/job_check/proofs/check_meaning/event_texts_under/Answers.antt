@@ -14,10 +14,10 @@ use Rattle.obligations.specs.declared.outcome.verdict.ResetWitness.{ResetWitness
 use Rattle.obligations.specs.declared.outcome.verdict.Verdict.TheVariants as verdict
 use Rattle.obligations.specs.declared.outcome.verdict.Why.{Why}
 use Rattle.obligations.specs.outcome.Report.{report_text}
-use Rattle.job_check.specs.pair_texts.assume_texts.job_base.Written.{outcome_proofs}
+use Rattle.pair_texts.specs.assume_texts.job_base.Written.{outcome_proofs}
 use Rattle.event_setup.specs.event_meaning.event_meaning_under.Answered.{ComparedUnderIn}
-use Rattle.job_check.specs.pair_texts.assume_texts.sec_files.Loading.{Loads}
-use Rattle.job_check.proofs.pair_texts.assume_texts.Answers.{at_limit, equal_under, different_under, not_shown_under, limit_under}
+use Rattle.pair_texts.specs.assume_texts.sec_files.Loading.{Loads}
+use Rattle.pair_texts.proofs.assume_texts.Answers.{at_limit, equal_under, different_under, not_shown_under, limit_under}
 use Rattle.job_check.specs.check_meaning.event_texts_under.Answers.{EqualUnderIn, DifferentUnderIn, NotShownUnderIn, LimitUnderIn}
 use Rattle.job_check.proofs.check_meaning.event_texts_under.Texts.{events_agree, events_always, events_differ, events_not_shown, events_undecided}
 

@@ -8,8 +8,8 @@ use Rattle.job_base.proofs.design_laws.CutFlats.{cut_design}
 use Rattle.job_base.proofs.design_laws.FlatOnward.{nets_alike, nets_start, runs_up}
 use Rattle.job_base.proofs.design_laws.FlatParts.{FlatDesign, along, latch_up, output_down, output_up}
 use Rattle.job_base.proofs.design_laws.event_designs.FlatEventMarks.{mark_down}
-use Rattle.job_check.proofs.pair_texts.assume_texts.Designs.{meets_down}
-use Rattle.job_check.specs.pair_texts.assume_texts.Agreement.{AgreeWhereMet, AgreeOnwardWhereMet}
+use Rattle.pair_texts.proofs.assume_texts.Designs.{meets_down}
+use Rattle.pair_texts.specs.assume_texts.Agreement.{AgreeWhereMet, AgreeOnwardWhereMet}
 use Rattle.job_check.specs.check_meaning.event_texts_under.Texts.{AgreeInEvents}
 
 module _ {P Q R : Type 0} {a : Circuit P} {b : Circuit Q} {c : Circuit R} {na nb nc : Circuit ℕ} {clocked_a : P → Type 0} {clocked_b : Q → Type 0} {clocked_c : R → Type 0} (f : FlatDesign a na clocked_a)

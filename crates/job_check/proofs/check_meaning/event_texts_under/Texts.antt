@@ -22,12 +22,12 @@ use Rattle.obligations.specs.declared.outcome.verdict.Why.{Why}
 use Rattle.obligations.specs.declared.outcome.verdict.Why.TheVariants as why
 use Rattle.obligations.specs.outcome.Report.{report_text}
 use Rattle.obligations.specs.outcome.Proofs.{verdict_proofs}
-use Rattle.job_check.specs.pair_texts.assume_texts.job_base.Written.{outcome_proofs}
-use Rattle.job_check.proofs.pair_texts.assume_texts.job_base.Limits.{pair_proofs}
+use Rattle.pair_texts.specs.assume_texts.job_base.Written.{outcome_proofs}
+use Rattle.pair_texts.proofs.assume_texts.job_base.Limits.{pair_proofs}
 use Rattle.sec_setup.specs.Cuts.{columns_of}
 use Rattle.swept_queries.proofs.Listed.{zip_left}
 use Rattle.edbf_unfold.specs.class_queries.Enables.{both_of}
-use Rattle.job_check.proofs.pair_texts.assume_texts.outcome_fits.Fitted.{kept_proof, no_names, some_names, were_exposed}
+use Rattle.pair_texts.proofs.assume_texts.outcome_fits.Fitted.{kept_proof, no_names, some_names, were_exposed}
 use Rattle.assume_laws.specs.Assume.{Assumption}
 use Rattle.assume_laws.specs.Sequences.{RowsMeet}
 use Rattle.event_under.specs.Answers.{PairFitsUnder}
@@ -41,14 +41,14 @@ use Rattle.event_setup.specs.event_meaning.event_names.event_fits.Fitting.{IsUnc
 use Rattle.event_setup.specs.event_meaning.event_meaning_under.Met.{shared_by}
 use Rattle.event_setup.specs.event_meaning.event_names.event_fits.Named.{latch_names, NamesVerdict}
 use Rattle.event_setup.specs.event_meaning.event_meaning_under.Taken.{assumed_by}
-use Rattle.job_check.specs.pair_texts.assume_texts.sec_files.Loading.{Loads}
-use Rattle.job_check.proofs.pair_texts.assume_texts.text_circuits.Circuits.{text_design, texts_cuts_differ, texts_differ_by}
+use Rattle.pair_texts.specs.assume_texts.sec_files.Loading.{Loads}
+use Rattle.pair_texts.proofs.assume_texts.text_circuits.Circuits.{text_design, texts_cuts_differ, texts_differ_by}
 use Rattle.job_base.proofs.design_laws.event_designs.FlatEventAgree.{minimal_up}
-use Rattle.job_check.specs.pair_texts.assume_texts.Meets.{SequenceMeetsCircuit}
-use Rattle.job_check.specs.pair_texts.assume_texts.Texts.{ThreeCircuits}
-use Rattle.job_check.proofs.pair_texts.assume_texts.Designs.{sequence_up}
-use Rattle.job_check.proofs.pair_texts.assume_texts.Sequences.{run_meets, sequence_meets}
-use Rattle.job_check.proofs.pair_texts.assume_texts.Texts.{spelled}
+use Rattle.pair_texts.specs.assume_texts.Meets.{SequenceMeetsCircuit}
+use Rattle.pair_texts.specs.assume_texts.Texts.{ThreeCircuits}
+use Rattle.pair_texts.proofs.assume_texts.Designs.{sequence_up}
+use Rattle.pair_texts.proofs.assume_texts.Sequences.{run_meets, sequence_meets}
+use Rattle.pair_texts.proofs.assume_texts.Texts.{spelled}
 use Rattle.job_check.specs.check_meaning.event_texts_under.Texts.{AgreeInEvents, EventCutsDifferUnder, EventTextsAgreeUnder, EventTextsDifferUnder, EventTextsNotShownUnder, EventTextsUndecidedUnder, EventTextsUnshownUnder, IsPrintedUnder, IsUndecidedIn}
 use Rattle.obligations.proofs.Fits.{limit_fits}
 use Rattle.job_check.proofs.check_meaning.event_texts_under.Cases.{compared, uncut}

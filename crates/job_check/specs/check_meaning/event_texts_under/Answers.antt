@@ -4,8 +4,8 @@ use Rattle.circuit_theory.specs.declared.Mode.{Mode}
 use Rattle.circuit_theory.specs.declared.Mode.TheVariants.{Plain, Event}
 use Rattle.sec_base.specs.declared.settings.Settings.{Settings}
 use Rattle.pair_decide.specs.declared.query.Proof.{Proof}
-use Rattle.job_check.specs.pair_texts.assume_texts.Answers.{EqualUnder, DifferentUnder, NotShownUnder, LimitUnder}
-use Rattle.job_check.specs.pair_texts.assume_texts.Texts.{AssumptionUndecided}
+use Rattle.pair_texts.specs.assume_texts.Answers.{EqualUnder, DifferentUnder, NotShownUnder, LimitUnder}
+use Rattle.pair_texts.specs.assume_texts.Texts.{AssumptionUndecided}
 use Rattle.job_check.specs.check_meaning.event_texts_under.Texts.{EventTextsAgreeUnder, EventTextsDifferUnder, EventTextsNotShownUnder, EventTextsUndecidedUnder}
 
 abbrev pub EqualUnderIn : Mode → List ℕ → List ℕ → List ℕ → Settings → Option (List ℕ) → Option (List ℕ) → Type 0

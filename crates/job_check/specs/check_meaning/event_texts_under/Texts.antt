@@ -31,9 +31,9 @@ use Rattle.event_setup.specs.event_meaning.event_meaning_under.Fitted.{EventOutc
 use Rattle.event_setup.specs.event_meaning.event_meaning_under.Framed.{IsFramedUnder}
 use Rattle.event_setup.specs.event_meaning.event_meaning_under.Met.{IsMet}
 use Rattle.event_setup.specs.event_meaning.event_meaning_under.Taken.{assumed_by}
-use Rattle.job_check.specs.pair_texts.assume_texts.Agreement.{AgreeWhereMet, AgreeOnwardWhereMet}
-use Rattle.job_check.specs.pair_texts.assume_texts.Meets.{SequenceMeetsCircuit}
-use Rattle.job_check.specs.pair_texts.assume_texts.Texts.{ThreeCircuits}
+use Rattle.pair_texts.specs.assume_texts.Agreement.{AgreeWhereMet, AgreeOnwardWhereMet}
+use Rattle.pair_texts.specs.assume_texts.Meets.{SequenceMeetsCircuit}
+use Rattle.pair_texts.specs.assume_texts.Texts.{ThreeCircuits}
 
 -- The third net is taken as an assumption on the inputs of the other two, the outcome has the name of its output and fits the two under it, and it is
 -- printed behind what was written before.

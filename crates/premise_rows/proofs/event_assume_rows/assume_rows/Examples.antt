@@ -4,18 +4,18 @@ use Rattle.std.specs.Prelude.{◌⊎◌}
 use Rattle.std.specs.List.{Contains}
 use Rattle.assume_laws.specs.declared.assume_shape.shape.ShapeFault.{ShapeFault}
 use Rattle.assume_queries.specs.assume_sequences.assume_taken.Taken.{IsFirstFault}
-use Rattle.job_check.specs.pair_texts.check_texts.Texts.{AreComparable}
+use Rattle.pair_texts.specs.check_texts.Texts.{AreComparable}
 use Rattle.sec_base.specs.declared.settings.Settings.{Settings}
 use Rattle.plain_check.specs.under_base.Met.{shared_by}
 use Rattle.plain_check.specs.under_base.Sizes.{IsTooLargeUnder}
 use Rattle.flat_net.specs.View.{NetView}
 use Rattle.job_base.specs.sec_files.Loading.{Loads}
-use Rattle.job_check.specs.pair_texts.design_rows.Designs as design
-use Rattle.job_check.specs.pair_texts.design_rows.Small.{IsSmall, small_and}
-use Rattle.job_check.specs.pair_texts.design_rows.Texts.{on_and}
-use Rattle.job_check.proofs.pair_texts.design_rows.Spelling.{accepted, net_is_small}
-use Rattle.job_check.proofs.pair_texts.design_rows.SpelledTexts.{on_and_spells}
-use Rattle.job_check.proofs.pair_texts.check_texts.Comparing.{comparable}
+use Rattle.pair_texts.specs.design_rows.Designs as design
+use Rattle.pair_texts.specs.design_rows.Small.{IsSmall, small_and}
+use Rattle.pair_texts.specs.design_rows.Texts.{on_and}
+use Rattle.pair_texts.proofs.design_rows.Spelling.{accepted, net_is_small}
+use Rattle.pair_texts.proofs.design_rows.SpelledTexts.{on_and_spells}
+use Rattle.pair_texts.proofs.check_texts.Comparing.{comparable}
 use Rattle.premise_rows.specs.event_assume_rows.assume_rows.SameInputs.{on_or, same, or_design, same_design, small_or, small_same, AndMeetsOr}
 use Rattle.premise_rows.proofs.event_assume_rows.assume_rows.Meeting.{ones_meet}
 use Rattle.premise_rows.proofs.event_assume_rows.assume_rows.Shape.{no_fault, shared_are}

@@ -25,9 +25,9 @@ use Rattle.assume_laws.specs.declared.assume_shape.shape.ShapeFault.{ShapeFault}
 use Rattle.assume_laws.specs.declared.assume_shape.shape.ShapeFault.TheVariants as fault
 use Rattle.assume_queries.specs.assume_sequences.assume_taken.Taken.{IsFirstFault}
 use Rattle.job_base.specs.sec_files.Loading.{Loads}
-use Rattle.job_check.specs.pair_texts.check_texts.Texts.{AreComparable}
-use Rattle.job_check.specs.pair_texts.design_rows.Small.{IsSmall, small_late, small_early}
-use Rattle.job_check.proofs.pair_texts.design_rows.Spelling.{accepted, net_is_small, ports_are}
+use Rattle.pair_texts.specs.check_texts.Texts.{AreComparable}
+use Rattle.pair_texts.specs.design_rows.Small.{IsSmall, small_late, small_early}
+use Rattle.pair_texts.proofs.design_rows.Spelling.{accepted, net_is_small, ports_are}
 use Rattle.premise_rows.specs.block_premises.ResetPremises.{late_from_zero, early_from_zero}
 use Rattle.premise_rows.specs.event_assume_rows.assume_rows.SameInputs.{same, same_design, small_same, RetimedMeetFromReset}
 use Rattle.premise_rows.proofs.block_premises.ResetBounds.{times, shifted}

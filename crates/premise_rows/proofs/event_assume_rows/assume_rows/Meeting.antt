@@ -18,7 +18,7 @@ use Rattle.job_base.specs.sec_files.Loading.{Loads}
 use Rattle.job_base.proofs.sec_files.Texts.{text_net}
 use Rattle.assume_laws.specs.Assume.{RowMeets}
 use Rattle.assume_queries.specs.assume_sequences.assume_taken.Taken.{IsAssumed, assumed_by}
-use Rattle.job_check.proofs.pair_texts.design_rows.Spelling.{net_is_small}
+use Rattle.pair_texts.proofs.design_rows.Spelling.{net_is_small}
 use Rattle.premise_rows.specs.event_assume_rows.assume_rows.SameInputs.{same, same_cover, same_design, small_same}
 use Rattle.premise_rows.proofs.event_assume_rows.assume_rows.Spelled.{same_spells}
 

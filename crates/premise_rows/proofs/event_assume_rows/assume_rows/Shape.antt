@@ -14,9 +14,9 @@ use Rattle.assume_laws.specs.declared.assume_shape.shape.ShapeFault.{ShapeFault}
 use Rattle.assume_laws.specs.declared.assume_shape.shape.ShapeFault.TheVariants as fault
 use Rattle.assume_queries.specs.assume_sequences.assume_taken.Taken.{IsFirstFault}
 use Rattle.plain_check.specs.under_base.Met.{shared_by}
-use Rattle.job_check.specs.pair_texts.design_rows.Small.{IsSmall, small_and}
-use Rattle.job_check.proofs.pair_texts.design_rows.Spelling.{ports_are}
-use Rattle.job_check.proofs.pair_texts.check_texts.Uncut.{uncut_is}
+use Rattle.pair_texts.specs.design_rows.Small.{IsSmall, small_and}
+use Rattle.pair_texts.proofs.design_rows.Spelling.{ports_are}
+use Rattle.pair_texts.proofs.check_texts.Uncut.{uncut_is}
 use Rattle.premise_rows.specs.event_assume_rows.assume_rows.SameInputs.{small_or, small_same}
 
 -- the places of the outputs

@@ -7,11 +7,11 @@ use Rattle.blif_read.specs.blif_lines.Lines.{cut_line, going_on}
 use Rattle.blif_read.specs.Design.{Place, walk, circuit_of_design}
 use Rattle.blif_read.specs.Fault.{fault_of}
 use Rattle.blif_read.specs.Heads.{head_of}
-use Rattle.job_check.specs.pair_texts.design_rows.NoFault.{has_no_fault}
-use Rattle.job_check.proofs.pair_texts.design_rows.NoFaults.{tested_is_sound}
-use Rattle.job_check.proofs.pair_texts.design_rows.Examples.{at_top, flat_rank, and_spots}
-use Rattle.job_check.proofs.pair_texts.design_rows.Spelling.{Spells}
-use Rattle.job_check.proofs.pair_texts.design_rows.Tested.{PassesTests, tested_is_small}
+use Rattle.pair_texts.specs.design_rows.NoFault.{has_no_fault}
+use Rattle.pair_texts.proofs.design_rows.NoFaults.{tested_is_sound}
+use Rattle.pair_texts.proofs.design_rows.Examples.{at_top, flat_rank, and_spots}
+use Rattle.pair_texts.proofs.design_rows.Spelling.{Spells}
+use Rattle.pair_texts.proofs.design_rows.Tested.{PassesTests, tested_is_small}
 use Rattle.premise_rows.specs.event_assume_rows.assume_rows.SameInputs.{on_or, same, or_design, same_design, small_or, small_same}
 
 or_passes : PassesTests or_design small_or flat_rank (and_spots 7)

@@ -20,8 +20,8 @@ use Rattle.assume_laws.specs.declared.assume_shape.shape.ShapeFault.{ShapeFault}
 use Rattle.assume_laws.specs.declared.assume_shape.shape.ShapeFault.TheVariants as fault
 use Rattle.plain_check.specs.under_base.under_fits.Places.{IsReadAt, ArePairPlaces, IsOverAtPairs}
 use Rattle.plain_check.specs.under_base.Sizes.{IsOverCut, IsOverFromReset, IsTooLargeUnder}
-use Rattle.job_check.specs.pair_texts.design_rows.Small.{IsSmall, small_and}
-use Rattle.job_check.proofs.pair_texts.check_texts.Latchless.{cut_latchless, visits_now, none_chosen}
+use Rattle.pair_texts.specs.design_rows.Small.{IsSmall, small_and}
+use Rattle.pair_texts.proofs.check_texts.Latchless.{cut_latchless, visits_now, none_chosen}
 use Rattle.premise_rows.specs.event_assume_rows.assume_rows.SameInputs.{small_or, small_same}
 use Rattle.premise_rows.proofs.event_assume_rows.assume_rows.Shape.{weighs_few}
 

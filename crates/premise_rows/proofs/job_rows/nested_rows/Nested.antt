@@ -15,15 +15,15 @@ use Rattle.circuit_theory.proofs.Lists.{Contains-cases, All-from_each, of_at}
 use Rattle.blif_read.specs.Design.{Inside, Place, place_at, top, walk, circuit_of_design}
 use Rattle.witness_report.specs.declared.stimulus.Stimulus.{Stimulus}
 use Rattle.witness_report.specs.Shown.{Obeys}
-use Rattle.job_check.specs.pair_texts.design_rows.NoFault.{has_no_fault}
-use Rattle.job_check.specs.pair_texts.design_rows.Ranked.{is_ranked}
-use Rattle.job_check.proofs.pair_texts.design_rows.NoFaults.{tested_is_sound}
-use Rattle.job_check.proofs.pair_texts.design_rows.Ranking.{is_ranked-sound, no_cycle}
+use Rattle.pair_texts.specs.design_rows.NoFault.{has_no_fault}
+use Rattle.pair_texts.specs.design_rows.Ranked.{is_ranked}
+use Rattle.pair_texts.proofs.design_rows.NoFaults.{tested_is_sound}
+use Rattle.pair_texts.proofs.design_rows.Ranking.{is_ranked-sound, no_cycle}
 use Rattle.premise_rows.specs.job_rows.nested_rows.Cutting.{MeetsOnward, IsObeyed, turning, NestedIsCut, NestedMeetsOnward, NestedIsObeyed}
-use Rattle.job_check.specs.pair_texts.design_rows.Designs.{same_cover, xor_cover, nested}
-use Rattle.job_check.specs.pair_texts.design_rows.Small.{small_nested, NestedIsSmall}
-use Rattle.job_check.proofs.pair_texts.design_rows.Examples.{at_top, rank_of}
-use Rattle.job_check.proofs.pair_texts.design_rows.Tested.{PassesTests, tested_is_small}
+use Rattle.pair_texts.specs.design_rows.Designs.{same_cover, xor_cover, nested}
+use Rattle.pair_texts.specs.design_rows.Small.{small_nested, NestedIsSmall}
+use Rattle.pair_texts.proofs.design_rows.Examples.{at_top, rank_of}
+use Rattle.pair_texts.proofs.design_rows.Tested.{PassesTests, tested_is_small}
 
 abbrev inner : List Inside
 inner = record { model = codes "cell"; instance = 0 } ∷ []

@@ -11,12 +11,12 @@ use Rattle.blif_read.specs.Fault.{fault_of}
 use Rattle.blif_read.specs.Heads.{head_of}
 use Rattle.job_base.specs.sec_files.Loading.{SpellsCircuit}
 use Rattle.premise_rows.specs.job_rows.nested_rows.Cutting.{MeetsOnward, IsObeyed, turning, nested_circuit}
-use Rattle.job_check.specs.pair_texts.design_rows.Designs as design
-use Rattle.job_check.specs.pair_texts.design_rows.Small.{small_nested}
+use Rattle.pair_texts.specs.design_rows.Designs as design
+use Rattle.pair_texts.specs.design_rows.Small.{small_nested}
 use Rattle.premise_rows.proofs.job_rows.nested_rows.Nested.{nested_is_small, nested_is_cut, nested_meets_onward, nested_is_obeyed}
 use Rattle.premise_rows.specs.job_rows.nested_rows.CutOpen.{NestedIsCutOpen}
-use Rattle.job_check.specs.pair_texts.design_rows.Texts.{nested}
-use Rattle.job_check.proofs.pair_texts.design_rows.Spelling.{Spells, accepted}
+use Rattle.pair_texts.specs.design_rows.Texts.{nested}
+use Rattle.pair_texts.proofs.design_rows.Spelling.{Spells, accepted}
 
 spells : Spells nested design.nested small_nested
 unfolding fault_of head_of cut_line going_on

@@ -15,7 +15,7 @@ use Rattle.job_base.specs.declared.status.StatusName.{StatusName}
 use Rattle.job_base.specs.sec_files.Loading.{Loads}
 use Rattle.job_base.specs.sec_files.job_files.Reading.{Held}
 use Rattle.job_check.specs.check_meaning.Answer.{CanAnswer, CanAnswerWith, IsAnswer}
-use Rattle.job_check.specs.pair_texts.check_texts.Texts.{AreComparable}
+use Rattle.pair_texts.specs.check_texts.Texts.{AreComparable}
 use Rattle.job_check.specs.check_meaning.check_found.Found.{IsAnsweredBy, IsFoundOf}
 use Rattle.job_base.specs.Written.{status_of, verdict_status}
 use Rattle.job_check.specs.check_meaning.check_found.Check.{Check}

@@ -5,11 +5,11 @@ use Rattle.circuit_theory.specs.Run.{NoneEnabled}
 use Rattle.blif_read.specs.declared.design.BlifModel.{BlifModel}
 use Rattle.flat_net.specs.View.{circuit_of}
 use Rattle.outcome_fits.specs.Fitting.{IsCutOver}
-use Rattle.job_check.specs.pair_texts.design_rows.Designs as design
-use Rattle.job_check.specs.pair_texts.design_rows.Small.{Small, small_and, small_late, small_early, small_two, small_idle}
-use Rattle.job_check.specs.pair_texts.design_rows.Texts.{on_and, late, early, hier, two, idle}
-use Rattle.job_check.proofs.pair_texts.design_rows.Spelling.{Spells, accepted, net_is_small}
-use Rattle.job_check.proofs.pair_texts.design_rows.SpelledTexts.{on_and_spells, late_spells, early_spells, hier_spells, two_spells, idle_spells}
+use Rattle.pair_texts.specs.design_rows.Designs as design
+use Rattle.pair_texts.specs.design_rows.Small.{Small, small_and, small_late, small_early, small_two, small_idle}
+use Rattle.pair_texts.specs.design_rows.Texts.{on_and, late, early, hier, two, idle}
+use Rattle.pair_texts.proofs.design_rows.Spelling.{Spells, accepted, net_is_small}
+use Rattle.pair_texts.proofs.design_rows.SpelledTexts.{on_and_spells, late_spells, early_spells, hier_spells, two_spells, idle_spells}
 use Rattle.premise_rows.specs.one_text_runs.one_text.OneText.{CanBeUnfolded, TextsCanBeUnfolded}
 
 -- such a text can be unfolded

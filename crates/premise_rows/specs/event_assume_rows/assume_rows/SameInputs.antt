@@ -6,9 +6,9 @@ use Rattle.sec_base.specs.declared.settings.Settings.{Settings}
 use Rattle.blif_read.specs.declared.design.BlifModel.{BlifModel}
 use Rattle.blif_read.specs.declared.design.Statement.TheVariants.{Names}
 use Rattle.job_check.specs.check_meaning.Answer.{AreComparableUnder}
-use Rattle.job_check.specs.pair_texts.design_rows.Designs.{one_model}
-use Rattle.job_check.specs.pair_texts.design_rows.Small.{Small, small_and}
-use Rattle.job_check.specs.pair_texts.design_rows.Texts.{on_and}
+use Rattle.pair_texts.specs.design_rows.Designs.{one_model}
+use Rattle.pair_texts.specs.design_rows.Small.{Small, small_and}
+use Rattle.pair_texts.specs.design_rows.Texts.{on_and}
 use Rattle.premise_rows.specs.block_premises.ResetPremises.{late_from_zero, early_from_zero}
 
 -- an or by its two rows

@@ -6,7 +6,7 @@ use Rattle.circuit_theory.specs.Circuit.{Circuit}
 use Rattle.blif_read.specs.Design.{Place}
 use Rattle.job_base.specs.sec_files.Loading.{IsAccepted, SpellsCircuit}
 use Rattle.premise_rows.specs.job_rows.nested_rows.Cutting.{MeetsOnward, IsObeyed, turning}
-use Rattle.job_check.specs.pair_texts.design_rows.Texts.{nested}
+use Rattle.pair_texts.specs.design_rows.Texts.{nested}
 
 -- The text is accepted, and the latch inside of the instance is a minimal cut of what it spells and itself. Two runs of that meet what
 -- agreement onward over this latch asks for. With it cut out each sequence over it and the input is obeyed.

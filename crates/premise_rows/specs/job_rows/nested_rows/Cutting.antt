@@ -7,7 +7,7 @@ use Rattle.circuit_theory.specs.Run.{IsRun}
 use Rattle.blif_read.specs.Design.{Place, circuit_of_design}
 use Rattle.witness_report.specs.declared.stimulus.Stimulus.{Stimulus}
 use Rattle.witness_report.specs.Shown.{Obeys}
-use Rattle.job_check.specs.pair_texts.design_rows.Designs.{nested}
+use Rattle.pair_texts.specs.design_rows.Designs.{nested}
 
 -- Two runs with equal inputs and a cycle of theirs in which all pairs are settled where the latches of these names are cut out, and up to
 -- which these are equal. In an earlier cycle an output differs.

@@ -11,8 +11,8 @@ use Rattle.plain_check.specs.plain_form.Laws.{HaveOneTree}
 use Rattle.plain_check.specs.under_base.compare_base.Compared.{IsCompared}
 use Rattle.outcome_fits.specs.Fitting.{IsCutOver}
 use Rattle.job_base.specs.sec_files.Loading.{IsAccepted, Loads}
-use Rattle.job_check.specs.pair_texts.check_texts.Texts.{AreComparable}
-use Rattle.job_check.specs.pair_texts.design_rows.Texts.{on_and, late, early, hier, two, idle}
+use Rattle.pair_texts.specs.check_texts.Texts.{AreComparable}
+use Rattle.pair_texts.specs.design_rows.Texts.{on_and, late, early, hier, two, idle}
 
 -- Where both sides of each pair unfold to one tree, as after a retiming that keeps every gate, the verdict is equal, however few conflicts
 -- are allowed.

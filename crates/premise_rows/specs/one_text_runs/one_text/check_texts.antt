@@ -1,1 +1,1 @@
-pub use Rattle.job_check.specs.pair_texts.check_texts.Texts
+pub use Rattle.pair_texts.specs.check_texts.Texts

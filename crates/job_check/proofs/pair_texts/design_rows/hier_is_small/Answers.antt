@@ -1,5 +1,0 @@
-use Rattle.job_check.proofs.pair_texts.design_rows.Examples.{hier_is_small}
-use Rattle.job_check.proofs.pair_texts.design_rows.hier_is_small.Goals as goal
-
-pub returns : goal.returns
-returns c = hier_is_small

@@ -1,5 +1,0 @@
-use Rattle.job_check.proofs.pair_texts.design_rows.NoFaults.{tested_is_sound}
-use Rattle.job_check.proofs.pair_texts.design_rows.tested_is_sound.Goals as goal
-
-pub returns : goal.returns
-returns c = tested_is_sound
