@@ -3,7 +3,9 @@
 ghost use Rattle.std.specs.Prelude.{◌≡◌, false, IfOk};
 ghost use Rattle.clap.specs.Words.{rule_of, app_of, new_app, with_rule, with_subcommand};
 ghost use Rattle.clap.specs.declared.builder.command.Command.TheViews.{out-Command};
-ghost use Rattle.command_line.specs.command_words.Command.{top_app, sec_app};
+ghost use Rattle.std.specs.Prelude.{Some};
+ghost use Rattle.clap.specs.declared.builder.value_parser.ValueParser.TheVariants as parser;
+ghost use Rattle.command_line.specs.command_words.Command.{top_app, sec_app, place, option, option_with, flag};
 ghost use Rattle.command_line.specs.command_words.Words.{word_rule, with_words, app_of_subcommand};
 
 use clap::builder::ValueParser;
@@ -59,80 +61,116 @@ const SUBCOMMANDS: [Subcommand; 9] = [
 
 const MODE: Word<'static> = Word::OptionWith("mode", "plain");
 
+const CHECK: [Word<'static>; 12] = [
+    Word::Place("a"),
+    Word::Place("b"),
+    MODE,
+    Word::Flag("expose"),
+    Word::Conflicts,
+    Word::Flag("reset"),
+    Word::Option("assume"),
+    Word::Flag("settles"),
+    Word::Cycles,
+    Word::Option("after"),
+    Word::Option("pair"),
+    Word::Option("pairs"),
+];
+
+const GRAPH: [Word<'static>; 2] = [Word::Place("a"), MODE];
+
+const SIM: [Word<'static>; 5] = [
+    Word::Place("a"),
+    Word::Place("s"),
+    MODE,
+    Word::Option("power"),
+    Word::Flag("reset"),
+];
+
+const REPLAY: [Word<'static>; 5] = [
+    Word::Place("a"),
+    Word::Place("b"),
+    Word::Place("s"),
+    MODE,
+    Word::Flag("settles"),
+];
+
+const SETTLE: [Word<'static>; 4] = [Word::Place("a"), Word::Place("b"), Word::Place("s"), MODE];
+
+const GEN: [Word<'static>; 3] = [Word::Number, Word::Flag("regroup"), Word::Conflicts];
+
+const LRAT: [Word<'static>; 2] = [Word::Place("f"), Word::Place("l")];
+
+const CERT: [Word<'static>; 5] = [
+    Word::Place("a"),
+    Word::Place("b"),
+    Word::Place("pair"),
+    Word::Place("form"),
+    Word::Conflicts,
+];
+
+const INDUCT: [Word<'static>; 6] = [
+    Word::Place("a"),
+    Word::Place("b"),
+    Word::Conflicts,
+    Word::Flag("signals"),
+    Word::Option("after"),
+    Word::Option("assume"),
+];
+
 /// The name of a subcommand, and its words.
 fn words_of<'a>(which: Subcommand) -> (&'a str, &'a [Word<'a>])
     ensures { with_words (new_app result.0.now) result.1.now ≡ app_of_subcommand which }
 {
     match which {
-        Subcommand::Check => (
-            "check",
-            &[
-                Word::Place("a"),
-                Word::Place("b"),
-                MODE,
-                Word::Flag("expose"),
-                Word::Conflicts,
-                Word::Flag("reset"),
-                Word::Option("assume"),
-                Word::Flag("settles"),
-                Word::Cycles,
-                Word::Option("after"),
-                Word::Option("pair"),
-                Word::Option("pairs"),
-            ],
-        ),
-        Subcommand::Graph => ("graph", &[Word::Place("a"), MODE]),
-        Subcommand::Sim => (
-            "sim",
-            &[
-                Word::Place("a"),
-                Word::Place("s"),
-                MODE,
-                Word::Option("power"),
-                Word::Flag("reset"),
-            ],
-        ),
-        Subcommand::Replay => (
-            "replay",
-            &[
-                Word::Place("a"),
-                Word::Place("b"),
-                Word::Place("s"),
-                MODE,
-                Word::Flag("settles"),
-            ],
-        ),
-        Subcommand::Settle => (
-            "settle",
-            &[Word::Place("a"), Word::Place("b"), Word::Place("s"), MODE],
-        ),
-        Subcommand::Gen => (
-            "gen",
-            &[Word::Number, Word::Flag("regroup"), Word::Conflicts],
-        ),
-        Subcommand::Lrat => ("lrat", &[Word::Place("f"), Word::Place("l")]),
-        Subcommand::Cert => (
-            "cert",
-            &[
-                Word::Place("a"),
-                Word::Place("b"),
-                Word::Place("pair"),
-                Word::Place("form"),
-                Word::Conflicts,
-            ],
-        ),
-        Subcommand::Induct => (
-            "induct",
-            &[
-                Word::Place("a"),
-                Word::Place("b"),
-                Word::Conflicts,
-                Word::Flag("signals"),
-                Word::Option("after"),
-                Word::Option("assume"),
-            ],
-        ),
+        Subcommand::Check => ("check", &CHECK),
+        Subcommand::Graph => ("graph", &GRAPH),
+        Subcommand::Sim => ("sim", &SIM),
+        Subcommand::Replay => ("replay", &REPLAY),
+        Subcommand::Settle => ("settle", &SETTLE),
+        Subcommand::Gen => ("gen", &GEN),
+        Subcommand::Lrat => ("lrat", &LRAT),
+        Subcommand::Cert => ("cert", &CERT),
+        Subcommand::Induct => ("induct", &INDUCT),
     }
+}
+
+/// A word that must stand.
+fn place<'a>(alloc: Global, id: &'a str) -> Arg<'a>
+    ensures rule { rule_of result ≡ place id.now }
+    ensures local { result.global ≡ false }
+{
+    Arg::new(alloc, id).required(true)
+}
+
+/// An option with a value.
+fn option<'a>(alloc: Global, id: &'a str) -> Arg<'a>
+    ensures rule { rule_of result ≡ option id.now }
+    ensures local { result.global ≡ false }
+{
+    Arg::new(alloc, id).long(id)
+}
+
+/// An option with a value where it isn't given.
+fn option_with<'a>(alloc: Global, id: &'a str, value: &'a str) -> Arg<'a>
+    ensures rule { rule_of result ≡ option_with id.now value.now }
+    ensures local { result.global ≡ false }
+{
+    option(alloc, id).default_value(value)
+}
+
+fn flag<'a>(alloc: Global, id: &'a str) -> Arg<'a>
+    ensures rule { rule_of result ≡ flag id.now }
+    ensures local { result.global ≡ false }
+{
+    option(alloc, id).action(ArgAction::SetTrue)
+}
+
+/// The argument, whose value is a number of 0 to `most`.
+fn counted<'a>(argument: Arg<'a>, most: u64) -> Arg<'a>
+    ensures rule { rule_of result ≡ record (rule_of argument.entry) { parser = Some (parser.Unsigned 0 most) } }
+    ensures local { result.global ≡ argument.entry.global }
+{
+    argument.value_parser(ValueParser::Unsigned(0, most))
 }
 
 /// What the word is to the parser.
@@ -141,20 +179,13 @@ fn argument<'a>(alloc: Global, word: Word<'a>) -> Arg<'a>
     ensures local { result.global ≡ false }
 {
     match word {
-        Word::Place(id) => Arg::new(alloc, id).required(true),
-        Word::Option(id) => Arg::new(alloc, id).long(id),
-        Word::OptionWith(id, value) => Arg::new(alloc, id).long(id).default_value(value),
-        Word::Flag(id) => Arg::new(alloc, id).long(id).action(ArgAction::SetTrue),
-        Word::Conflicts => Arg::new(alloc, "conflicts")
-            .long("conflicts")
-            .default_value("20000")
-            .value_parser(ValueParser::Unsigned(0, 200_000)),
-        Word::Cycles => Arg::new(alloc, "cycles")
-            .long("cycles")
-            .value_parser(ValueParser::Unsigned(0, 1_000)),
-        Word::Number => Arg::new(alloc, "n")
-            .required(true)
-            .value_parser(ValueParser::Unsigned(0, u64::MAX)),
+        Word::Place(id) => place(alloc, id),
+        Word::Option(id) => option(alloc, id),
+        Word::OptionWith(id, value) => option_with(alloc, id, value),
+        Word::Flag(id) => flag(alloc, id),
+        Word::Conflicts => counted(option_with(alloc, "conflicts", "20000"), 200_000),
+        Word::Cycles => counted(option(alloc, "cycles"), 1_000),
+        Word::Number => counted(place(alloc, "n"), u64::MAX),
     }
 }
 
