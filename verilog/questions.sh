@@ -270,10 +270,9 @@ known_difference() {
 # else a difference in the first cycles there. Sets `behind` to what was found. What is known behind the rows of a reset is so whatever the
 # flip-flops held before.
 behind_a_reset() {
-  local found told before held=8 it unknown=''
-  case "$is_given,$status, ${check[*]} " in
-    yes,* | *' --assume'*) return 0 ;;
-    ,[239],*) ;;
+  local found told before held=8 it unknown='' assumed=''
+  case "$is_given,$status" in
+    ,[239]) ;;
     *) return 0 ;;
   esac
   inputs > "$scratch/columns"
@@ -281,18 +280,20 @@ behind_a_reset() {
   [ -s "$scratch/resets" ] || return 0
   held_rows "$held" > "$scratch/reset.$number"
   it="behind $held cycles with $(resets_told)"
+  [ -z "$(valued --assume)" ] || assumed=', where the assumption holds from there on'
   tied signals "$a" "$b" --after "$scratch/reset.$number"
   if [ "$told" -eq 0 ]; then
     report=$found status=0 exposed=''
-    behind="; equal $it, by induct --signals --after"
+    behind="; equal $it$assumed, by induct --signals --after"
     return
   fi
   search behind "$a" "$b" --after "$scratch/reset.$number"
   if [ "$told" -eq 2 ] && [ -z "$(searched)" ]; then
     unknown=$(awk '$1 == "unknown" { count += $3 } END { print count + 0 }' "$found")
   fi
-  case $told,$unknown in
-    2,?* | 3,* | 124,*)
+  # The rows that lead to a known difference are rows of the reset, which an assumption doesn't speak of.
+  case $assumed,$told,$unknown in
+    ,2,?* | ,3,* | ,124,*)
       before=$told
       known_difference "$scratch/reset.$number" "$held"
       [ "$told" -eq 1 ] || told=$before
@@ -301,13 +302,13 @@ behind_a_reset() {
   case $told in
     1)
       report=$found status=1 exposed=''
-      behind="; different $it, by check --reset --cycles $cycles --after"
+      behind="; different $it$assumed, by check --reset --cycles $cycles --after"
       ;;
     0 | 2)
       if [ -n "$unknown" ]; then
         behind="; $it not shown either, since $unknown flip-flops stay unknown"
       else
-        behind="; no difference within $(searched) cycles $it"
+        behind="; no difference within $(searched) cycles $it$assumed"
       fi
       ;;
     3 | 124) behind="; nothing decided $it" ;;
