@@ -1,6 +1,7 @@
 pub mod Growing
 pub mod Rising
 mod Kept
+mod Covers
 pub mod Paths
 pub mod ReadPlaces
 pub mod Visits

@@ -4,6 +4,7 @@ pub mod Levels
 pub mod Reach
 pub mod Visited
 pub mod Laws
+pub mod Covers
 pub mod aig
 pub mod flat_net
 pub mod event_variables

@@ -11,7 +11,8 @@ ghost use Rattle.event_nodes.specs.Nodes.{IsEventGraph, IsChild, GrowsEvents};
 
 mod parts;
 
-use aig::{Aig, Lit};
+use crate::cover_graph::CoverGraph;
+use aig::Lit;
 use flat_net::{Cover, NoMemory, PlaceTable};
 use std::alloc::Global;
 use std::marker::Model;
@@ -19,7 +20,7 @@ use std::marker::Model;
 /// An and-inverter graph whose variables are inputs at event nodes. Event nodes are numbered as they come, the root
 /// first; a node is known by its parent and the class that leads to it.
 pub struct EventGraph {
-    aig: Aig,
+    aig: CoverGraph,
     children: PlaceTable,
     places: PlaceTable,
 }
@@ -51,7 +52,7 @@ impl EventGraph {
     pub fn new(alloc: Global) -> Result<EventGraph, NoMemory>
         ensures { IfOk result (λ w. w ≡ record { graph = Constant ∷ []; children = []; places = [] }) }
     {
-        let aig = Aig::new(alloc)?;
+        let aig = CoverGraph::new(alloc)?;
         aig.keeps();
         Ok(EventGraph {
             aig,

@@ -4,6 +4,7 @@
 
 mod circuit;
 mod counter;
+mod cover_graph;
 mod error;
 pub mod event_variables;
 mod events;

@@ -11,7 +11,7 @@ use Rattle.edbf_unfold.specs.event_literals.Known.{EventUnfolderView, HasRoomFor
 
 -- there is room for so many places more, and the numbers are within their limits
 pub record IsReadyFor (u : EventUnfolderView) (w : EventGraphView) (c : CounterView) (cap room : ℕ) : Type 0 where
-  pub small : cap ≤ 67108864
+  pub small : cap ≤ 119304646
   pub has : HasRoomFor u w room
   pub weighed : IsWeighed u.circuit.net c
   pub few : length w.children < 10000

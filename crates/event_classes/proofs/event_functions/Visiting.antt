@@ -19,7 +19,7 @@ module _ (u : EventUnfolderView) (e : EventCircuitView) (begins : u ≡ record {
   pub fresh_known : (w : EventGraphView) → AreKnown e w [] [] → AreKnown u.circuit w u.frames u.memo
   fresh_known w known = subst (λ (v : EventUnfolderView). AreKnown v.circuit w v.frames v.memo) (sym begins) known
 
-  pub fresh_ready : (w : EventGraphView) (c : CounterView) (room : ℕ) → c ≡ nothing → room ≤ 67108864 → length w.graph + (9 * room + 4) < 2 ^ 30 → length w.places + (9 * room + 4) < 2 ^ 31 → length w.children < 10000 → IsReadyFor u w c room (9 * room + 4)
+  pub fresh_ready : (w : EventGraphView) (c : CounterView) (room : ℕ) → c ≡ nothing → room ≤ 119304646 → length w.graph + (9 * room + 4) < 2 ^ 30 → length w.places + (9 * room + 4) < 2 ^ 31 → length w.children < 10000 → IsReadyFor u w c room (9 * room + 4)
   fresh_ready w c room none small nodes places few =
       subst (λ (v : EventUnfolderView). IsReadyFor v w c room (9 * room + 4)) (sym begins)
       (subst (λ (d : CounterView). IsReadyFor (record { circuit = e; frames = []; memo = [] }) w d room (9 * room + 4)) (sym none)

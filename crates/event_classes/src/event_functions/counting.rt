@@ -10,15 +10,12 @@ use event_nodes::event_variables::{
     Counter, EventGraph, EventUnfoldError, Net, NoMemory, Place, Signal,
 };
 
-/// The most places of one unfolding.
-const PLACES: u32 = 67_108_864;
-
 /// The most nodes and variables of the event graph.
 const NODES: u32 = 1_073_741_800;
 
-/// For how many places there is room.
+/// For how many places there is room: a place of weight one makes nine nodes at most.
 pub fn room_in(events: &EventGraph) -> Result<u32, NoMemory>
-    ensures small { IfOk result (λ room. room ≤ 67108864) }
+    ensures small { IfOk result (λ room. room ≤ 119304646) }
     ensures nodes { IfOk result (λ room. length events.now.graph + (9 * room + 4) < 2 ^ 30) }
     ensures places { IfOk result (λ room. length events.now.places + (9 * room + 4) < 2 ^ 31) }
 {
@@ -26,7 +23,7 @@ pub fn room_in(events: &EventGraph) -> Result<u32, NoMemory>
     if used >= NODES {
         return Err(NoMemory);
     }
-    Ok(((NODES - used) / 9).min(PLACES))
+    Ok((NODES - used) / 9)
 }
 
 /// Counts all these places too. `TooLarge` comes where all then weigh more than 2,000,000.

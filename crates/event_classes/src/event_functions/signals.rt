@@ -36,7 +36,7 @@ pub struct SignalFunction {
 
 /// The signal as an event function, where what it visits is counted too. `TooManyEvents` comes where more than 10,000 event nodes are
 /// reached, those of earlier calls among them, and `TooLarge` where all that is counted weighs more than 2,000,000 and no more nodes are
-/// reached. `NoMemory` comes also where the event graph would get 2^30 nodes or one call would visit 67,108,864 places.
+/// reached. `NoMemory` comes also where the event graph might get 2^30 nodes.
 pub fn unfold_signal(
     alloc: Global,
     circuit: &EventCircuit,

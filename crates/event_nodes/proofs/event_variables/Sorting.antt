@@ -1,5 +1,5 @@
 -- Sorted keys stand for variables in their order.
-use Rattle.std.proofs.Common.{◌≡◌, ◌≢◌, ◌∙◌, ◌-◌, ◌<◌, ℕ, true, false, true≢false, List, [], ◌∷◌, length, map, reverse, get_or, slice_get, Some, refl, sym, ap, subst, arith, eqb, inl, inr, ◌+◌, ◌^◌, ◌++◌, take}
+use Rattle.std.proofs.Common.{◌≡◌, ◌≢◌, ◌∙◌, ◌-◌, ◌<◌, ℕ, false, true≢false, List, [], ◌∷◌, length, map, reverse, get_or, slice_get, Some, refl, sym, ap, subst, arith, eqb, inl, inr, ◌+◌, ◌^◌, ◌++◌, take}
 use Rattle.std.specs.Prelude.{IsSorted, IsPermutation, slice_index_or}
 use Rattle.std.specs.List.{All, AllPairs, AllZip, Contains, dedup}
 use Rattle.std.specs.Cmp.{IsStrictWeakOrder}

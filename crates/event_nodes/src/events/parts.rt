@@ -12,7 +12,7 @@ impl EventGraph {
     pub fn aig(&self) -> &Aig
         ensures { result.now ≡ self.now.graph }
     {
-        &self.aig
+        self.aig.aig()
     }
 
     /// The input and the event node of a variable.

@@ -116,7 +116,7 @@ impl<'a> EventWalker<'a> {
         cap: u32,
     ) -> Result<(PlaceTable, Vec<Ways>), EventUnfoldError>
         requires seen { IsSeen self.old.circuit self.old.frames events.old.children root }
-        requires cap { cap ≤ 67108864 }
+        requires cap { cap ≤ 119304646 }
         requires weighed { IsWeighed self.old.circuit.net counter.old }
         requires frames { length self.old.frames + 2 * cap + 3 < 2 ^ 32 }
         requires few { length events.old.children < 10000 }

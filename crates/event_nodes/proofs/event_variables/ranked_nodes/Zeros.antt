@@ -1,8 +1,7 @@
 -- Entries that are put one after the other, and nodes in their order.
-use Rattle.std.proofs.Common.{◌≡◌, ◌∙◌, ℕ, ◌+◌, ◌<◌, ◌≤◌, List, [], ◌∷◌, ◌++◌, length, reverse, take, get_or, slice_get, Some, refl, sym, ap, subst, arith, length-append, append-nil, inl, inr, set, length-set, get_or-set_same, get_or-set_other, ◌≢◌}
+use Rattle.std.proofs.Common.{◌≡◌, ◌∙◌, ℕ, ◌+◌, ◌<◌, ◌≤◌, List, [], ◌∷◌, ◌++◌, length, reverse, take, slice_get, Some, refl, sym, ap, subst, arith, length-append, append-nil, inl, inr, set, length-set, get_or-set_same, get_or-set_other, ◌≢◌}
 use Rattle.std.specs.Prelude.{◌⊎◌, ◌↔◌}
-use Rattle.std.specs.List.{All, AllPairs, Contains}
-use Rattle.std.proofs.lemmas.List.{take_more}
+use Rattle.std.specs.List.{All, Contains}
 use Rattle.std.proofs.lemmas.List.Elements.{Contains-append_left, Contains-push, Contains-push_cases}
 use Rattle.std.proofs.lemmas.Option.{same_Some, slice_get_within, slice_get-get_or, get_or_from_slice_get}
 use Rattle.circuit_theory.specs.Names.{ListBefore}

@@ -1,5 +1,5 @@
 -- Event nodes by their places in the order of variables.
-use Rattle.std.specs.Prelude.{◌≡◌, ℕ, ◌+◌, ◌<◌, ◌≤◌, List, length, slice_get, Some}
+use Rattle.std.specs.Prelude.{◌≡◌, ℕ, ◌<◌, ◌≤◌, List, length, slice_get, Some}
 use Rattle.event_nodes.specs.Nodes.{path_of}
 use Rattle.event_nodes.specs.event_variables.Variables.{PathBefore}
 use Rattle.event_nodes.specs.declared.event_variables.ranked_nodes.ranks.RankedNodes.{RankedNodes}

@@ -16,7 +16,7 @@ impl Events {
     /// A signal of one circuit as an event function at the root. `TooManyEvents` comes exactly where the unfoldings of both circuits, those
     /// of the enables and of earlier calls among them, reach more than 10,000 event nodes with this one; `TooLarge` where they don't, and
     /// those of this circuit weigh more than 2,000,000 with it. After a refusal the circuits and their classes are as they were, and
-    /// nothing more can be unfolded. `NoMemory` comes also where the event graph would get 2^30 nodes or one call would visit 67,108,864 places.
+    /// nothing more can be unfolded. `NoMemory` comes also where the event graph might get 2^30 nodes.
     pub fn unfold(
         &mut self,
         alloc: Global,

@@ -1,5 +1,5 @@
 -- A signal of a lower level doesn't read the latch.
-use Rattle.std.proofs.Common.{◌≡◌, ◌<◌, ℕ, List, true, sym, subst, arith}
+use Rattle.std.proofs.Common.{◌<◌, ℕ, List, subst, arith}
 use Rattle.std.specs.Prelude.{slice_index_or}
 use Rattle.std.proofs.lemmas.Bool.Decides.{nat_tests}
 use Rattle.circuit_theory.specs.Circuit.{Reaches}

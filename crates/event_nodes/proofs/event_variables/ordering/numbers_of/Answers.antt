@@ -1,5 +1,5 @@
 -- One number more.
-use Rattle.std.proofs.Common.{◌≡◌, ◌∙◌, ◌++◌, ◌∷◌, [], ℕ, List, ap, map, subst}
+use Rattle.std.proofs.Common.{◌≡◌, ◌∙◌, ◌++◌, ◌∷◌, [], ap, map, subst}
 use Rattle.std.proofs.lemmas.List.{take_all}
 use Rattle.event_nodes.specs.declared.event_variables.ordering.Key.{Key}
 use Rattle.event_nodes.proofs.event_variables.Sorting.{map_next}

@@ -1,5 +1,5 @@
 -- One step towards the root more.
-use Rattle.std.proofs.Common.{◌∙◌, ◌+◌, ◌-◌, ◌++◌, ◌∷◌, [], ℕ, List, reverse, sym, ap, arith, append_assoc, append-nil}
+use Rattle.std.proofs.Common.{◌∙◌, ◌++◌, ◌∷◌, [], ℕ, List, reverse, sym, ap, arith, append_assoc, append-nil}
 use Rattle.event_nodes.specs.Nodes.{path_of}
 use Rattle.event_nodes.proofs.event_variables.Climbing.{parent_child, parent_lower, root_path}
 use Rattle.event_nodes.proofs.event_variables.paths.node_path.Goals as goal

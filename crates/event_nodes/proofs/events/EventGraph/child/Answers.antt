@@ -1,5 +1,5 @@
 -- The child is the next one or one that was there.
-use Rattle.std.proofs.Common.{◌≡◌, ◌∙◌, ◌+◌, ◌^◌, ◌<◌, ◌≤◌, ℕ, List, length, refl, sym, ap, subst, arith}
+use Rattle.std.proofs.Common.{◌≡◌, ◌∙◌, ◌+◌, ◌^◌, ◌<◌, ◌≤◌, ℕ, length, refl, sym, ap, subst, arith}
 use Rattle.aig.specs.Adds.{Adds}
 use Rattle.event_nodes.specs.Nodes.{EventGraphView, GrowsEvents, IsEventGraph}
 use Rattle.event_nodes.proofs.Growing.{child_grows, grows_refl}

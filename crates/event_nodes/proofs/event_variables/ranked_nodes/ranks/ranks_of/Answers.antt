@@ -1,5 +1,5 @@
 -- The nodes in the order of the input 0 at each.
-use Rattle.std.proofs.Common.{◌≡◌, ℕ, ◌+◌, ◌<◌, ◌↔◌, List, length, slice_get, Some, sym, ◌∙◌, ap, subst, arith}
+use Rattle.std.proofs.Common.{◌≡◌, ℕ, ◌+◌, ◌<◌, ◌↔◌, List, length, slice_get, Some, sym, ap, subst, arith}
 use Rattle.std.specs.List.{Contains, All}
 use Rattle.circuit_theory.proofs.Lists.{All-from_each}
 use Rattle.event_nodes.specs.event_variables.ranked_nodes.Ranks.{HasZeros}
