@@ -4,6 +4,7 @@ pub mod Copying
 pub mod Equals
 pub mod Framing
 pub mod Halves
+pub mod Knowing
 pub mod Parts
 pub mod Results
 pub mod Settling

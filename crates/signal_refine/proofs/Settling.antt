@@ -11,7 +11,9 @@ use Rattle.circuit_laws.specs.declared.signal_laws.anchor.Anchor.TheVariants as 
 use Rattle.circuit_laws.specs.signal_laws.Ties.{anchor_value}
 use Rattle.std.specs.List.{All}
 use Rattle.signal_refine.specs.Copies.{HaveAt, node_at}
-use Rattle.signal_refine.specs.Asking.{AnchorHas, IsTiedAt, IsShown, IsSwept}
+use Rattle.signal_refine.specs.declared.copies.NodeLits.{NodeLits}
+use Rattle.signal_refine.specs.Asking.{AnchorHas, IsTiedAt, IsHeld, AreHeldWithin, IsShown, IsSwept}
+use Rattle.signal_refine.proofs.Caring.{held_grows}
 use Rattle.signal_refine.proofs.Framing.{values_grow}
 
 -- what an anchor has by literals it has by the values of their places
@@ -31,10 +33,10 @@ tied_more anchors w n before now p less = go (which p n less)
     go (inr e) = subst (IsTiedAt anchors w) (sym e) now
 
 -- a node whose own literal is made of those before it, as `h` has it after its query in `g`
-module _ (base : List Node) (leaves : List Lit) (care : Lit) (anchors : List Anchor) (from g h : List Node) (made : Grows from g) (grows : Grows g h) (old : List Lit) (n : ℕ) (each : length old ≡ n) (within : All (λ (x : Lit). x.0 < 2 * length from) old)
-    (care_within : care.0 < 2 * length from) (own : Lit) (new : List Lit)
+module _ (base : List Node) (leaves : List Lit) (care : Lit) (before : NodeLits) (anchors : List Anchor) (from g h : List Node) (made : Grows from g) (grows : Grows g h) (old : List Lit) (n : ℕ) (each : length old ≡ n)
+    (within : All (λ (x : Lit). x.0 < 2 * length from) old) (held : AreHeldWithin care before from) (own : Lit) (new : List Lit)
     (own_value : (a c : ℕ → Bool) → HaveAt c from a leaves → HaveAt (node_at base c) from a old → value g a own.0 ≡ node_at base c n) where
-  pub swept_shown : (lit : Lit) → new ≡ old ++ lit ∷ [] → lit.0 < 2 * length h → IsShown base old care anchors g own h lit → IsSwept base leaves care anchors from old n true h new
+  pub swept_shown : (lit : Lit) → new ≡ old ++ lit ∷ [] → lit.0 < 2 * length h → IsShown base old care before anchors g own h lit → IsSwept base leaves care before anchors from old n true h new
   swept_shown lit new_is lit_within shown = record {
     grows = Grows-trans from g h made grows;
     lit = lit;
@@ -44,10 +46,10 @@ module _ (base : List Node) (leaves : List Lit) (care : Lit) (anchors : List Anc
     shown = λ yes a c on at read. subst (IsTiedAt anchors (node_at base c)) each (tells a c on at read).1;
   }
     where
-      tells : (a c : ℕ → Bool) → value from a care.0 ≡ true → HaveAt c from a leaves → HaveAt (node_at base c) from a old → (value h a lit.0 ≡ node_at base c (length old)) × IsTiedAt anchors (node_at base c) (length old)
-      tells a c on at read = shown a c (value-grows from g made a care.0 care_within ∙ on) (values_grow (node_at base c) from g made a old within read) (own_value a c at read ∙ ap (node_at base c) (sym each))
+      tells : (a c : ℕ → Bool) → IsHeld care before from a → HaveAt c from a leaves → HaveAt (node_at base c) from a old → (value h a lit.0 ≡ node_at base c (length old)) × IsTiedAt anchors (node_at base c) (length old)
+      tells a c on at read = shown a c (held_grows care before from g made held a on) (values_grow (node_at base c) from g made a old within read) (own_value a c at read ∙ ap (node_at base c) (sym each))
 
-  pub swept_kept : new ≡ old ++ own ∷ [] → own.0 < 2 * length g → IsSwept base leaves care anchors from old n false h new
+  pub swept_kept : new ≡ old ++ own ∷ [] → own.0 < 2 * length g → IsSwept base leaves care before anchors from old n false h new
   swept_kept new_is own_within = record {
     grows = Grows-trans from g h made grows;
     lit = own;

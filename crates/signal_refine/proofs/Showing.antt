@@ -60,9 +60,9 @@ module _ (n : SignalNets) (first : ℕ) (below : AreBelow n first) (base : List 
     met_bits x cycle met = met (bits n first below x) (λ p i number. bits_inputs n first below x cycle p i number)
 
     pub begins_where_shown : (g h k : List Node) (count : ℕ) (leaves : List Lit) → AreLeaves (record { nets = n; inputs = 0; first = first; latches = latches.Started }) g h count leaves → Grows h k →
-        (care : Lit) → ((a c : ℕ → Bool) → HaveAt c h a leaves → Holds w c → value k a care.0 ≡ true) → AreShown base leaves care nodes k → Begins (IsMet w n) n first base nodes
-    begins_where_shown g h k count leaves are grows care holds shown x start met =
-        (a, cycle_reading x start.cycle, shown a a (holds a a have (met_bits x start.cycle met)) (values_grow a h k grows a leaves are.within have))
+        (care : Lit) → ((a c : ℕ → Bool) → HaveAt c h a leaves → Holds w c → value k a care.0 ≡ true) → (none : NodeLits) → none.own.items ≡ [] → AreShown base leaves care none nodes k → Begins (IsMet w n) n first base nodes
+    begins_where_shown g h k count leaves are grows care holds none is_none shown x start met =
+        (a, cycle_reading x start.cycle, shown a a (holds a a have (met_bits x start.cycle met), one) (values_grow a h k grows a leaves are.within have))
       where
         a : ℕ → Bool
         a = bits n first below x
@@ -76,12 +76,15 @@ module _ (n : SignalNets) (first : ℕ) (below : AreBelow n first) (base : List 
         have : HaveAt a h a leaves
         have = are.values a a x reading named
 
+        one : AreOne none.own.items none.read.items k a
+        one i l r at at' = absurd (let inside = slice_get_within none.own.items i l at in omega (arith, inside, ap length is_none))
+
     pub steps_where_shown : (limit : ℕ) → limit ≡ first + places_of n → (lits : List Lit) → AreLits n first base lits → (g0 g1 g2 g3 g4 : List Node) (c1 c2 c3 : ℕ) (leaves next : List Lit) (before : Bor (List Lit)) (now : NodeLits) →
         AreLeaves (free_cycle n first) g0 g1 c1 leaves → IsCopy base leaves nodes g1 g2 c2 now → (kept : List Lit) → AreCarried now.read.items lits kept →
         ((w : ℕ → Bool) (g : List Node) (a : ℕ → Bool) → HaveAt w g a kept → HaveAt w g a before.now) →
-        AreLeaves (record { nets = n; inputs = limit; first = first; latches = latches.Carried before }) g2 g3 c3 next → Grows g3 g4 → (care : Lit) → IsStepCare w now leaves next g3 g4 care → AreShown base next care nodes g4 → Steps (IsMet w n) n first base nodes
+        AreLeaves (record { nets = n; inputs = limit; first = first; latches = latches.Carried before }) g2 g3 c3 next → Grows g3 g4 → (care : Lit) → IsStepCare w leaves next g3 g4 care → AreShown base next care now nodes g4 → Steps (IsMet w n) n first base nodes
     steps_where_shown limit limit_is lits are_lits g0 g1 g2 g3 g4 c1 c2 c3 leaves next before now are_leaves is_copy kept carried are_before are_next grows care caring shown x y successive here onward tied =
-        (bits n first below y, cycle_reading y successive.next, shown a (bits n first below y) cared (values_grow (bits n first below y) g3 g4 grows a next are_next.within next_values))
+        (bits n first below y, cycle_reading y successive.next, shown a (bits n first below y) (cared, one) (values_grow (bits n first below y) g3 g4 grows a next are_next.within next_values))
       where
         old : ℕ → Bool
         old = tied.0
@@ -137,4 +140,4 @@ module _ (n : SignalNets) (first : ℕ) (below : AreBelow n first) (base : List 
         cared : value g4 a care.0 ≡ true
         cared =
             caring a old (bits n first below y) (values_grow old g1 g3 (Grows-trans g1 g2 g3 is_copy.grows are_next.grows) a leaves are_leaves.within leaf_values) next_values
-            (here old (λ p i number. sym (ap old (zero_more i)) ∙ tied.1.inputs p i number)) (met_bits y successive.next onward) one
+            (here old (λ p i number. sym (ap old (zero_more i)) ∙ tied.1.inputs p i number)) (met_bits y successive.next onward)

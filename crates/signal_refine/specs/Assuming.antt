@@ -11,10 +11,8 @@ use Rattle.aig.specs.graph_copy.Copy.{renamed}
 use Rattle.circuit_laws.specs.signal_laws.Invariants.{IsFirstCycle, AreSuccessive}
 use Rattle.signal_refine.specs.declared.nets.SignalNets.{SignalNets}
 use Rattle.signal_refine.specs.declared.assumed.Assumed.{Assumed}
-use Rattle.signal_refine.specs.declared.copies.NodeLits.{NodeLits}
 use Rattle.signal_refine.specs.Places.{whole, order_of}
 use Rattle.signal_refine.specs.Copies.{HaveAt}
-use Rattle.signal_refine.specs.Asking.{AreOne}
 
 -- the literal is 1 where each variable has the bit of its number
 abbrev pub Holds : Assumed → (ℕ → Bool) → Type 0
@@ -34,11 +32,9 @@ pub record IsInductiveUnder {P : Type 0} (c : Circuit P) (order : List ℕ) (met
   pub begins : (x : P → Bool) → IsFirstCycle c order x → met x → good x
   pub steps : (x y : P → Bool) → AreSuccessive c order x y → met x → met y → good x → good y
 
--- The literal is 1 wherever the assumption is met by the bits of the variables in this cycle and by those in the next one, and what nodes are
--- read as in this one has their values.
-abbrev pub IsStepCare : Assumed → NodeLits → List Lit → List Lit → List Node → List Node → Lit → Type 0
-IsStepCare w now leaves next from g x =
-    (a c d : ℕ → Bool) → HaveAt c from a leaves → HaveAt d from a next → Holds w c → Holds w d → AreOne now.own.items now.read.items g a → value g a x.0 ≡ true
+-- The literal is 1 wherever the assumption is met by the bits of the variables in this cycle and by those in the next one.
+abbrev pub IsStepCare : Assumed → List Lit → List Lit → List Node → List Node → Lit → Type 0
+IsStepCare w leaves next from g x = (a c d : ℕ → Bool) → HaveAt c from a leaves → HaveAt d from a next → Holds w c → Holds w d → value g a x.0 ≡ true
 
 -- the literals of the variables with these numbers
 pub record ArePicked (leaves : List Lit) (numbers : List ℕ) (count : ℕ) (made : List Lit) : Type 0 where

@@ -1,32 +1,56 @@
-//! Whether the ties hold, by queries over a graph.
+//! Whether two literals are one, by queries over a graph.
 
-ghost use Rattle.std.specs.Prelude.{◌≡◌, ℕ, Bool, true, false, ◌*◌, ◌<◌, List, length, All, IfOk, IfSome, OnOk, IsTrue};
-ghost use Rattle.aig.specs.declared.node.Node.{Node};
+ghost use Rattle.std.specs.Prelude.{◌≡◌, ℕ, Bool, true, false, ◌*◌, ◌<◌, length, All, IfOk, OnOk};
 ghost use Rattle.aig.specs.Graph.{Grows};
 ghost use Rattle.aig.specs.Values.{value};
-ghost use Rattle.aig.specs.lane_eval.root_classes.Agreeing.{Agree};
 ghost use Rattle.swept_queries.specs.declared.node_agreement.proof.Proved.TheVariants as proved;
-ghost use Rattle.circuit_laws.specs.declared.signal_laws.anchor.Anchor.TheVariants.{Place};
-ghost use Rattle.signal_refine.specs.Asking.{same_bit, IsCare, IsShown, IsSwept, AreShown};
+ghost use Rattle.signal_refine.specs.declared.ask.Answer.TheVariants as answer;
+ghost use Rattle.signal_refine.specs.Asking.{same_bit, IsCare, AreKnown, AreHeldWithin, IsOneWhere};
 
-use crate::anchors::anchor_literal;
-use crate::classes::Classes;
-use crate::copies::node_literal;
+use crate::assumed::and_both;
+use crate::copies::NodeLits;
+use crate::facts::Facts;
 use crate::leaves::is_full;
 use aig::{Aig, Lit};
 use circuit_laws::signal_laws::Anchor;
 use sec_base::NoMemory;
 use std::alloc::Global;
-use swept_queries::node_agreement::{Budget, Effort, Proved, prove, zero};
+use sweep_candidates::Model;
+use swept_queries::node_agreement::Proved;
+use tie_candidates::{Classes, Frame, learn, pick_all};
 
-/// What is asked: of the nodes of `base`, whose variables have these literals, wherever the care holds, with at most so many conflicts
-/// for each query.
+/// What is asked: of the nodes of `base`, whose variables have these literals, wherever the care is 1 and what nodes are read as in the cycle
+/// before has their values, with at most so many conflicts for each query.
 #[derive(Clone, Copy)]
 pub(crate) struct Asked<'a> {
     pub base: &'a Aig,
     pub leaves: &'a [Lit],
     pub care: Lit,
+    pub before: &'a NodeLits,
+    /// By what nodes are read so in the cycle before. No contract knows it.
+    pub ties: &'a [Anchor],
     pub conflicts: u32,
+}
+
+impl<'a> Asked<'a> {
+    /// As guesses see it.
+    pub(crate) fn frame(&self) -> Frame<'a> {
+        Frame {
+            base: self.base,
+            ties: self.ties,
+            leaves: self.leaves,
+            care: self.care,
+        }
+    }
+}
+
+/// What came of a query.
+#[derive(Clone, Copy)]
+pub(crate) enum Answer {
+    Same,
+    /// The classes were split by what tells them apart.
+    Apart,
+    Open,
 }
 
 /// The literal that is 1 where the two are one.
@@ -45,8 +69,8 @@ fn equal(aig: &mut Aig, l: Lit, r: Lit) -> Result<Lit, NoMemory>
     aig.and(Aig::not(one), Aig::not(other))
 }
 
-/// The and of the equalities of the literals at each place of both lists.
-pub(crate) fn care_of(aig: &mut Aig, own: &[Lit], read: &[Lit]) -> Result<Lit, NoMemory>
+/// The and of the equalities of the literals at each place of both lists that is picked.
+fn care_of(aig: &mut Aig, own: &[Lit], read: &[Lit], picked: &[bool]) -> Result<Lit, NoMemory>
     requires own { All (λ x. x.0 < 2 * length aig.old) own.now }
     requires read { All (λ x. x.0 < 2 * length aig.old) read.now }
     ensures care { IfOk result (λ x. IsCare own.now read.now aig.new x) }
@@ -56,13 +80,14 @@ pub(crate) fn care_of(aig: &mut Aig, own: &[Lit], read: &[Lit]) -> Result<Lit, N
     aig.keeps();
     let mut care = Lit::TRUE;
     for i in 0..own.len().min(read.len()) {
-        care = narrowed(aig, care, own[i], read[i])?;
+        let is_picked = picked.get(i).copied().unwrap_or(false);
+        care = narrowed(aig, care, own[i], read[i], is_picked)?;
     }
     Ok(care)
 }
 
-/// The care, where the two are one as well.
-fn narrowed(aig: &mut Aig, care: Lit, l: Lit, r: Lit) -> Result<Lit, NoMemory>
+/// The care, where the two are one as well, if that is picked.
+fn narrowed(aig: &mut Aig, care: Lit, l: Lit, r: Lit, is_picked: bool) -> Result<Lit, NoMemory>
     requires care { care.0 < 2 * length aig.old }
     requires left { l.0 < 2 * length aig.old }
     requires right { r.0 < 2 * length aig.old }
@@ -70,7 +95,7 @@ fn narrowed(aig: &mut Aig, care: Lit, l: Lit, r: Lit) -> Result<Lit, NoMemory>
     ensures within { IfOk result (λ x. x.0 < 2 * length aig.new) }
     ensures grows { OnOk result (Grows aig.old aig.new) }
 {
-    if l.0 == r.0 {
+    if !is_picked || l.0 == r.0 {
         return Ok(care);
     }
     let same = equal(aig, l, r)?;
@@ -80,158 +105,142 @@ fn narrowed(aig: &mut Aig, care: Lit, l: Lit, r: Lit) -> Result<Lit, NoMemory>
     aig.and(care, same)
 }
 
-/// For how many conflicts two literals are searched for a difference under every assignment, before the care counts.
-const FEW: u32 = 100;
+/// How many equalities are picked at first.
+const PICKED: usize = 4;
 
-/// Whether the two literals are one under every assignment, as far as a short search shows.
-fn are_one(alloc: Global, aig: &Aig, conflicts: u32, l: Lit, r: Lit) -> Result<bool, NoMemory>
-    requires left { l.0 < 2 * length aig.now }
-    requires right { r.0 < 2 * length aig.now }
-    ensures { IfOk result (λ same. IsTrue same → Agree aig.now l.0 r.0) }
+/// How often more are picked.
+const TURNS: usize = 10;
+
+/// Whether the two literals are one wherever what is asked holds. First no equality of the cycle before is asked to hold; where an assignment
+/// tells the two apart that doesn't count, some that it breaks are.
+pub(crate) fn ask(
+    alloc: Global,
+    classes: &mut Classes,
+    facts: &mut Facts,
+    asked: &Asked<'_>,
+    l: Lit,
+    r: Lit,
+) -> Result<Answer, NoMemory>
+    requires known { AreKnown facts.old }
+    requires held { AreHeldWithin asked.now.care asked.now.before.now facts.old.aig }
+    requires left { l.0 < 2 * length facts.old.aig }
+    requires right { r.0 < 2 * length facts.old.aig }
+    ensures same { IfOk result (λ p. p ≡ answer.Same → IsOneWhere asked.now.care asked.now.before.now facts.old.aig l r) }
+    ensures grows { OnOk result (Grows facts.old.aig facts.new.aig) }
+    ensures known { OnOk result (AreKnown facts.new) }
 {
-    let effort = Effort {
-        conflicts: conflicts.min(FEW).saturating_mul(20),
-        searches: true,
-    };
-    let mut budget = Budget::new(effort, aig.size());
-    match prove(alloc, aig, &[], l, r, &mut budget)? {
-        Proved::Same => Ok(true),
-        _ => Ok(false),
+    if l.0 == r.0 {
+        return Ok(Answer::Same);
     }
+    let mut picked = vec![in alloc; false; asked.before.own.len()]?;
+    match facts.prove_one(alloc, l, r)? {
+        Proved::Same => return Ok(Answer::Same),
+        told => {
+            if tells(alloc, classes, facts, asked, &told, &mut picked, PICKED)? {
+                return Ok(Answer::Apart);
+            }
+        }
+    }
+    ask_in_turns(alloc, classes, facts, asked, &mut picked, l, r)
 }
 
-/// Whether the two literals are one wherever the care holds.
-fn ask(alloc: Global, aig: &mut Aig, asked: &Asked<'_>, l: Lit, r: Lit) -> Result<Proved, NoMemory>
-    requires care { asked.now.care.0 < 2 * length aig.old }
+/// Whether an assignment was found that counts, by which the classes are split. Else some equalities more are picked, at most so many.
+fn tells(
+    alloc: Global,
+    classes: &mut Classes,
+    facts: &Facts,
+    asked: &Asked<'_>,
+    told: &Proved,
+    picked: &mut [bool],
+    most: usize,
+) -> Result<bool, NoMemory> {
+    let Proved::Apart(model) = told else {
+        return Ok(false);
+    };
+    let lesson = learn(alloc, classes, &facts.aig, &asked.frame(), model)?;
+    if lesson.counts {
+        return Ok(true);
+    }
+    lesson.marks.pick(picked, most);
+    Ok(false)
+}
+
+/// The same, where some equalities are picked, by one query after the other.
+fn ask_in_turns(
+    alloc: Global,
+    classes: &mut Classes,
+    facts: &mut Facts,
+    asked: &Asked<'_>,
+    picked: &mut [bool],
+    l: Lit,
+    r: Lit,
+) -> Result<Answer, NoMemory>
+    requires known { AreKnown facts.old }
+    requires held { AreHeldWithin asked.now.care asked.now.before.now facts.old.aig }
+    requires left { l.0 < 2 * length facts.old.aig }
+    requires right { r.0 < 2 * length facts.old.aig }
+    ensures same { IfOk result (λ p. p ≡ answer.Same → IsOneWhere asked.now.care asked.now.before.now facts.old.aig l r) }
+    ensures grows { OnOk result (Grows facts.old.aig facts.new.aig) }
+    ensures known { OnOk result (AreKnown facts.new) }
+{
+    for turn in 0..TURNS {
+        if turn == TURNS - 1 {
+            pick_all(picked);
+        }
+        match ask_under(alloc, facts, asked, picked, l, r)? {
+            Proved::Same => return Ok(Answer::Same),
+            Proved::Open => return Ok(Answer::Open),
+            told => {
+                if tells(alloc, classes, facts, asked, &told, picked, PICKED << turn)? {
+                    return Ok(Answer::Apart);
+                }
+            }
+        }
+    }
+    Ok(Answer::Open)
+}
+
+/// The same, by the equalities that are picked.
+fn ask_under(
+    alloc: Global,
+    facts: &mut Facts,
+    asked: &Asked<'_>,
+    picked: &[bool],
+    l: Lit,
+    r: Lit,
+) -> Result<Proved, NoMemory>
+    requires known { AreKnown facts.old }
+    requires held { AreHeldWithin asked.now.care asked.now.before.now facts.old.aig }
+    requires left { l.0 < 2 * length facts.old.aig }
+    requires right { r.0 < 2 * length facts.old.aig }
+    ensures same { IfOk result (λ p. p ≡ proved.Same → IsOneWhere asked.now.care asked.now.before.now facts.old.aig l r) }
+    ensures grows { OnOk result (Grows facts.old.aig facts.new.aig) }
+    ensures known { OnOk result (AreKnown facts.new) }
+{
+    let apart = apart_under(&mut facts.aig, asked, picked, l, r)?;
+    facts.prove_zero(alloc, apart, asked.conflicts)
+}
+
+/// The literal that is 1 where the two differ, what is asked holds, and the picked equalities do.
+fn apart_under(
+    aig: &mut Aig,
+    asked: &Asked<'_>,
+    picked: &[bool],
+    l: Lit,
+    r: Lit,
+) -> Result<Lit, NoMemory>
+    requires held { AreHeldWithin asked.now.care asked.now.before.now aig.old }
     requires left { l.0 < 2 * length aig.old }
     requires right { r.0 < 2 * length aig.old }
-    ensures same { IfOk result (λ p. p ≡ proved.Same → (a : ℕ → Bool) → value aig.old a asked.now.care.0 ≡ true → value aig.old a l.0 ≡ value aig.old a r.0) }
+    ensures apart { IfOk result (λ x. ((a : ℕ → Bool) → value aig.new a x.0 ≡ false) → IsOneWhere asked.now.care asked.now.before.now aig.old l r) }
+    ensures within { IfOk result (λ x. x.0 < 2 * length aig.new) }
     ensures grows { OnOk result (Grows aig.old aig.new) }
 {
-    if l.0 == r.0 || are_one(alloc, aig, asked.conflicts, l, r)? {
-        return Ok(Proved::Same);
-    }
+    let equal_before = care_of(aig, &asked.before.own, &asked.before.read, picked)?;
+    let care = and_both(aig, asked.care, equal_before)?;
     let same = equal(aig, l, r)?;
     if is_full(aig) {
         return Err(NoMemory);
     }
-    let apart = aig.and(asked.care, Aig::not(same))?;
-    let none = zero(aig);
-    let effort = Effort {
-        conflicts: asked.conflicts.saturating_mul(20),
-        searches: true,
-    };
-    let mut budget = Budget::new(effort, aig.size());
-    prove(alloc, aig, &[], apart, none, &mut budget)
-}
-
-impl Classes {
-    /// Whether all ties are shown. Each node is made of what those before it are read as: of its anchor's literal, where the tie is shown.
-    /// Where one isn't, the classes are split by what tells it apart, or its node is put into a class of its own.
-    pub(crate) fn settle(
-        &mut self,
-        alloc: Global,
-        aig: &mut Aig,
-        asked: &Asked<'_>,
-        anchors: &[Anchor],
-    ) -> Result<bool, NoMemory>
-        requires care { asked.now.care.0 < 2 * length aig.old }
-        requires leaves { All (λ x. x.0 < 2 * length aig.old) asked.now.leaves.now }
-        ensures { IfOk result (λ same. IsTrue same → AreShown asked.now.base.now asked.now.leaves.now asked.now.care anchors.now aig.old) }
-    {
-        let mut read = Vec::new(alloc);
-        let mut same = anchors.len() <= asked.base.size() as usize;
-        for n in 0..asked.base.size() {
-            let shown = self.sweep_node(alloc, aig, asked, anchors, &mut read, n)?;
-            same = both(same, shown);
-        }
-        Ok(same)
-    }
-
-    /// Puts what the node of this number is read as behind the others: its anchor's literal, where its tie is shown, and else its own.
-    fn sweep_node(
-        &mut self,
-        alloc: Global,
-        aig: &mut Aig,
-        asked: &Asked<'_>,
-        anchors: &[Anchor],
-        read: &mut Vec<Lit>,
-        n: u32,
-    ) -> Result<bool, NoMemory>
-        requires care { asked.now.care.0 < 2 * length aig.old }
-        requires leaves { All (λ x. x.0 < 2 * length aig.old) asked.now.leaves.now }
-        requires node { n < length asked.now.base.now }
-        requires each { length read.old.items ≡ n }
-        requires within { All (λ x. x.0 < 2 * length aig.old) read.old.items }
-        ensures { IfOk result (λ same. IsSwept asked.now.base.now asked.now.leaves.now asked.now.care anchors.now aig.old read.old.items n same aig.new read.new.items) }
-    {
-        let own = node_literal(aig, asked.base, asked.leaves, read, n)?;
-        let shown = self.try_tie(alloc, aig, asked, anchors, read, own)?;
-        match shown {
-            Some(lit) => {
-                read.push(lit)?;
-                Ok(true)
-            }
-            None => {
-                read.push(own)?;
-                Ok(false)
-            }
-        }
-    }
-
-    /// The literal that the node of this number is read as by its tie, where this is its own one and the tie is shown.
-    fn try_tie(
-        &mut self,
-        alloc: Global,
-        aig: &mut Aig,
-        asked: &Asked<'_>,
-        anchors: &[Anchor],
-        read: &[Lit],
-        own: Lit,
-    ) -> Result<Option<Lit>, NoMemory>
-        requires care { asked.now.care.0 < 2 * length aig.old }
-        requires own { own.0 < 2 * length aig.old }
-        requires within { All (λ x. x.0 < 2 * length aig.old) read.now }
-        ensures shown { IfOk result (λ o. IfSome o (IsShown asked.now.base.now read.now asked.now.care anchors.now aig.old own aig.new)) }
-        ensures within { IfOk result (λ o. IfSome o (λ l. l.0 < 2 * length aig.new)) }
-        ensures grows { OnOk result (Grows aig.old aig.new) }
-    {
-        aig.keeps();
-        let n = read.len();
-        if n >= anchors.len() || is_own(anchors[n], n) {
-            return Ok(Some(own));
-        }
-        if self.is_apart(n, anchors[n]) {
-            return Ok(None);
-        }
-        let Some(other) = anchor_literal(read, anchors[n]) else {
-            return Ok(None);
-        };
-        let answer = ask(alloc, aig, asked, own, other)?;
-        match answer {
-            Proved::Same => Ok(Some(other)),
-            told => {
-                self.learn(alloc, aig, asked, n, told)?;
-                Ok(None)
-            }
-        }
-    }
-}
-
-/// Whether the anchor is the place itself.
-fn is_own(anchor: Anchor, n: usize) -> bool
-    ensures { IsTrue result → anchor ≡ Place n false }
-{
-    match anchor {
-        Anchor::Bit(_) => false,
-        Anchor::Place { place, flipped } => place == n && !flipped,
-    }
-}
-
-/// Whether both hold.
-fn both(one: bool, other: bool) -> bool
-    ensures one { IsTrue result → IsTrue one }
-    ensures other { IsTrue result → IsTrue other }
-{
-    one && other
+    aig.and(care, Aig::not(same))
 }

@@ -1,6 +1,6 @@
 //! The nodes of a graph, made again in another one, where each variable has a literal.
 
-ghost use Rattle.std.specs.Prelude.{◌≡◌, ℕ, Bool, ◌*◌, ◌<◌, List, length, All, IfOk, OnOk};
+ghost use Rattle.std.specs.Prelude.{◌≡◌, ℕ, Bool, ◌*◌, ◌<◌, List, [], length, All, IfOk, OnOk};
 ghost use Rattle.aig.specs.declared.node.Node.{Node};
 ghost use Rattle.aig.specs.Graph.{Grows};
 ghost use Rattle.aig.specs.Values.{value};
@@ -33,10 +33,7 @@ pub(crate) fn copy_of(
     requires { All (λ x. x.0 < 2 * length aig.old) leaves.now }
     ensures { IfOk result (IsCopy base.now leaves.now anchors.now aig.old aig.new (length base.now)) }
 {
-    let mut copy = NodeLits {
-        own: Vec::new(alloc),
-        read: Vec::new(alloc),
-    };
+    let mut copy = NodeLits::new(alloc);
     for n in 0..base.size() {
         copy.put(aig, base, leaves, anchors, n)?;
     }
@@ -44,6 +41,17 @@ pub(crate) fn copy_of(
 }
 
 impl NodeLits {
+    /// Of no node.
+    pub(crate) fn new(alloc: Global) -> NodeLits
+        ensures own { result.own.items ≡ [] }
+        ensures read { result.read.items ≡ [] }
+    {
+        NodeLits {
+            own: Vec::new(alloc),
+            read: Vec::new(alloc),
+        }
+    }
+
     /// Puts the literals of the node of this number behind the others.
     fn put(
         &mut self,

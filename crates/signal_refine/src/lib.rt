@@ -6,13 +6,14 @@
 mod anchors;
 mod ask;
 mod assumed;
-mod classes;
 mod copies;
+mod facts;
+mod flops;
 mod leaves;
 mod nets;
 mod refinement;
-mod runs;
 mod signals;
+mod sweep;
 mod told;
 
 pub use assumed::Assumed;

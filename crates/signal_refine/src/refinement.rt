@@ -3,22 +3,25 @@
 ghost use Rattle.std.specs.Prelude.{◌≡◌, ◌+◌, ◌*◌, ◌^◌, ◌<◌, ◌≤◌, length, All, IfOk, OnOk, IsTrue};
 ghost use Rattle.signal_refine.specs.Places.{places_of};
 ghost use Rattle.aig.specs.Graph.{Grows};
+ghost use Rattle.signal_refine.specs.Asking.{AreKnown};
 ghost use Rattle.signal_refine.specs.Assuming.{IsMet, IsStepCare};
 ghost use Rattle.signal_refine.specs.Showing.{AreLits, AreReady, AreBelow, Begins, Steps, AreInductiveNodes, AreInductiveTies};
 
-use crate::ask::{Asked, care_of};
+use crate::ask::Asked;
 use crate::assumed::{Assumed, and_both, met_literal};
-use crate::classes::Classes;
 use crate::copies::{NodeLits, carried, copy_of};
+use crate::facts::Facts;
+use crate::flops::flops_of;
 use crate::leaves::{Cycle, Latches, leaves_of};
 use crate::nets::SignalNets;
-use crate::runs::candidates;
 use crate::signals::signal_literals;
+use crate::sweep::are_settled;
 use crate::told::told_anchors;
 use aig::{Aig, Lit};
 use circuit_laws::signal_laws::Anchor;
 use sec_base::{NoMemory, Orders};
 use std::alloc::Global;
+use tie_candidates::{Classes, Premise, candidates};
 
 /// Ties that are an inductive invariant.
 #[derive(Drop)]
@@ -83,17 +86,11 @@ fn rounds(alloc: Global, round: &Round<'_>) -> Result<Correspondence, NoMemory>
     requires assumed { round.now.assumed.lit.0 < 2 * length round.now.assumed.graph.now }
     ensures { IfOk result (λ made. AreInductiveTies (IsMet round.now.assumed round.now.nets) round.now.nets made.anchors.items) }
 {
-    let mut classes = candidates(
-        alloc,
-        &round.nets,
-        &round.assumed,
-        round.base,
-        round.lits,
-        round.first,
-    )?;
+    let mut classes = guessed(alloc, round)?;
+    let mut facts = Facts::new(alloc)?;
     for _n in 0..round.base.size() {
         let nodes = classes.anchors(alloc)?;
-        if are_shown(alloc, round, &nodes, &mut classes)? {
+        if are_shown(alloc, round, &nodes, &mut classes, &mut facts)? {
             return Ok(Correspondence {
                 anchors: told_anchors(alloc, round.lits, &nodes)?,
                 drops: classes.drops,
@@ -106,22 +103,37 @@ fn rounds(alloc: Global, round: &Round<'_>) -> Result<Correspondence, NoMemory>
     })
 }
 
+/// The classes of nodes that seeded runs don't tell apart.
+fn guessed(alloc: Global, round: &Round<'_>) -> Result<Classes, NoMemory> {
+    let flops = flops_of(alloc, &round.nets, round.lits, round.first)?;
+    let premise = Premise {
+        graph: round.assumed.graph,
+        lit: round.assumed.lit,
+        numbers: round.assumed.numbers,
+        row: round.assumed.row,
+    };
+    candidates(alloc, &flops, &premise, round.base, round.first)
+}
+
 /// Whether the ties of nodes are an inductive invariant, by queries that all say so.
 fn are_shown(
     alloc: Global,
     round: &Round<'_>,
     nodes: &[Anchor],
     classes: &mut Classes,
+    facts: &mut Facts,
 ) -> Result<bool, NoMemory>
+    requires known { AreKnown facts.old }
     requires ready { AreReady round.now.nets }
     requires first { AreBelow round.now.nets round.now.first }
     requires lits { AreLits round.now.nets round.now.first round.now.base.now round.now.lits.now }
     requires assumed { round.now.assumed.lit.0 < 2 * length round.now.assumed.graph.now }
-    ensures { IfOk result (λ shown. IsTrue shown → AreInductiveNodes (IsMet round.now.assumed round.now.nets) round.now.nets round.now.first round.now.base.now nodes.now) }
+    ensures shown { IfOk result (λ shown. IsTrue shown → AreInductiveNodes (IsMet round.now.assumed round.now.nets) round.now.nets round.now.first round.now.base.now nodes.now) }
+    ensures known { OnOk result (AreKnown facts.new) }
 {
-    let kept = do_step(alloc, round, nodes, classes)?;
+    let kept = do_step(alloc, round, nodes, classes, facts)?;
     if kept {
-        return do_begin(alloc, round, nodes, classes);
+        return do_begin(alloc, round, nodes, classes, facts);
     }
     Ok(false)
 }
@@ -132,23 +144,25 @@ fn do_step(
     round: &Round<'_>,
     nodes: &[Anchor],
     classes: &mut Classes,
+    facts: &mut Facts,
 ) -> Result<bool, NoMemory>
+    requires known { AreKnown facts.old }
     requires ready { AreReady round.now.nets }
     requires first { AreBelow round.now.nets round.now.first }
     requires lits { AreLits round.now.nets round.now.first round.now.base.now round.now.lits.now }
     requires assumed { round.now.assumed.lit.0 < 2 * length round.now.assumed.graph.now }
-    ensures { IfOk result (λ kept. IsTrue kept → Steps (IsMet round.now.assumed round.now.nets) round.now.nets round.now.first round.now.base.now nodes.now) }
+    ensures steps { IfOk result (λ kept. IsTrue kept → Steps (IsMet round.now.assumed round.now.nets) round.now.nets round.now.first round.now.base.now nodes.now) }
+    ensures known { OnOk result (AreKnown facts.new) }
 {
-    let mut aig = Aig::new(alloc)?;
-    aig.keeps();
+    facts.aig.keeps();
     let cycle = Cycle {
         nets: round.nets,
         inputs: 0,
         first: round.first,
         latches: Latches::Free,
     };
-    let leaves = leaves_of(alloc, &mut aig, &cycle, round.count())?;
-    let now = copy_of(alloc, &mut aig, round.base, &leaves, nodes)?;
+    let leaves = leaves_of(alloc, &mut facts.aig, &cycle, round.count())?;
+    let now = copy_of(alloc, &mut facts.aig, round.base, &leaves, nodes)?;
     let before = carried(alloc, &now.read, round.lits)?;
     let later = Cycle {
         nets: round.nets,
@@ -156,41 +170,38 @@ fn do_step(
         first: round.first,
         latches: Latches::Carried(&before),
     };
-    let next = leaves_of(alloc, &mut aig, &later, round.count())?;
-    let care = step_care(alloc, &mut aig, round, &now, &leaves, &next)?;
+    let next = leaves_of(alloc, &mut facts.aig, &later, round.count())?;
+    let care = step_care(alloc, &mut facts.aig, round, &leaves, &next)?;
     let asked = Asked {
         base: round.base,
         leaves: &next,
         care,
+        before: &now,
+        ties: nodes,
         conflicts: round.conflicts,
     };
-    classes.settle(alloc, &mut aig, &asked, nodes)
+    are_settled(alloc, classes, facts, &asked, nodes)
 }
 
-/// What is asked in the next cycle is so where the ties hold in this one, and the assumption is met in both.
+/// What is 1 where the assumption is met in this cycle and in the next one.
 fn step_care(
     alloc: Global,
     aig: &mut Aig,
     round: &Round<'_>,
-    now: &NodeLits,
     leaves: &[Lit],
     next: &[Lit],
 ) -> Result<Lit, NoMemory>
     requires assumed { round.now.assumed.lit.0 < 2 * length round.now.assumed.graph.now }
-    requires own { All (λ x. x.0 < 2 * length aig.old) now.now.own.items }
-    requires read { All (λ x. x.0 < 2 * length aig.old) now.now.read.items }
     requires leaves { All (λ x. x.0 < 2 * length aig.old) leaves.now }
     requires next { All (λ x. x.0 < 2 * length aig.old) next.now }
-    ensures care { IfOk result (λ x. IsStepCare round.now.assumed now.now leaves.now next.now aig.old aig.new x) }
+    ensures care { IfOk result (λ x. IsStepCare round.now.assumed leaves.now next.now aig.old aig.new x) }
     ensures within { IfOk result (λ x. x.0 < 2 * length aig.new) }
     ensures grows { OnOk result (Grows aig.old aig.new) }
 {
     let here = met_literal(alloc, aig, &round.assumed, leaves)?;
     let later = met_literal(alloc, aig, &round.assumed, next)?;
     let met = and_both(aig, here, later)?;
-    let equal = care_of(aig, &now.own, &now.read)?;
-    let care = and_both(aig, met, equal)?;
-    Ok(care)
+    Ok(met)
 }
 
 /// Whether the ties hold in each cycle in which latches have their initial values.
@@ -199,29 +210,34 @@ fn do_begin(
     round: &Round<'_>,
     nodes: &[Anchor],
     classes: &mut Classes,
+    facts: &mut Facts,
 ) -> Result<bool, NoMemory>
+    requires known { AreKnown facts.old }
     requires ready { AreReady round.now.nets }
     requires first { AreBelow round.now.nets round.now.first }
     requires assumed { round.now.assumed.lit.0 < 2 * length round.now.assumed.graph.now }
-    ensures { IfOk result (λ begun. IsTrue begun → Begins (IsMet round.now.assumed round.now.nets) round.now.nets round.now.first round.now.base.now nodes.now) }
+    ensures begins { IfOk result (λ begun. IsTrue begun → Begins (IsMet round.now.assumed round.now.nets) round.now.nets round.now.first round.now.base.now nodes.now) }
+    ensures known { OnOk result (AreKnown facts.new) }
 {
-    let mut aig = Aig::new(alloc)?;
-    aig.keeps();
+    facts.aig.keeps();
     let cycle = Cycle {
         nets: round.nets,
         inputs: 0,
         first: round.first,
         latches: Latches::Started,
     };
-    let leaves = leaves_of(alloc, &mut aig, &cycle, round.count())?;
-    let care = met_literal(alloc, &mut aig, &round.assumed, &leaves)?;
+    let leaves = leaves_of(alloc, &mut facts.aig, &cycle, round.count())?;
+    let care = met_literal(alloc, &mut facts.aig, &round.assumed, &leaves)?;
+    let before = NodeLits::new(alloc);
     let asked = Asked {
         base: round.base,
         leaves: &leaves,
         care,
+        before: &before,
+        ties: &[],
         conflicts: round.conflicts,
     };
-    classes.settle(alloc, &mut aig, &asked, nodes)
+    are_settled(alloc, classes, facts, &asked, nodes)
 }
 
 impl Round<'_> {

@@ -5,7 +5,7 @@ use Rattle.signal_refine.proofs.Framing.{within_grows}
 use Rattle.signal_refine.proofs.copies.copy_of.Goals as goal
 
 pub loop-n-init : goal.loop-n-init
-loop-n-init c = copy_none c.args.base.now c.args.leaves.now c.args.anchors.now c.args.aig.now _ c.new.ensures.items c.new-2.ensures.items
+loop-n-init c = copy_none c.args.base.now c.args.leaves.now c.args.anchors.now c.args.aig.now _ c.new-copy.ensures.own c.new-copy.ensures.read
 
 pub put-requires-clause-leaves : goal.put-requires-clause-leaves
 put-requires-clause-leaves c = within_grows c.args.aig.now c.loop-n.aig c.loop-n.invariant.grows c.args.leaves.now c.requires

@@ -14,10 +14,10 @@ returns-then-branch c = record {
   lits = c.args.round.now.lits.now;
   are_lits = c.requires.lits;
   nodes = c.deref.result.now;
-  inductive = c.in_ok-are_shown.ensures c.if-branch.true;
+  inductive = c.in_ok-are_shown.ensures.shown c.if-branch.true;
   told = subst (λ (l : List Anchor). AreTold c.args.round.now.lits.now l c.in_ok-told_anchors.field-0.items) (c.deref-then-branch.ensures.value ∙ sym c.deref.ensures.value) c.in_ok-told_anchors.ensures;
 }
 
 pub returns : goal.returns
-returns c = subst (AreInductiveTies (IsMet c.args.round.now.assumed c.args.round.now.nets) c.args.round.now.nets) (sym c.new.ensures.items)
+returns c = subst (AreInductiveTies (IsMet c.args.round.now.assumed c.args.round.now.nets) c.args.round.now.nets) (sym c.new-2.ensures.items)
     (none_left c.args.round.now.nets c.args.round.now.first c.requires.first c.args.round.now.base.now (IsMet c.args.round.now.assumed c.args.round.now.nets) c.args.round.now.lits.now c.requires.lits)

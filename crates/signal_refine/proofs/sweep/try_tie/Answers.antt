@@ -9,20 +9,20 @@ use Rattle.circuit_laws.specs.declared.signal_laws.anchor.Anchor.{Anchor}
 use Rattle.signal_refine.specs.Copies.{node_at}
 use Rattle.signal_refine.specs.Asking.{AnchorHas}
 use Rattle.signal_refine.proofs.Settling.{anchor_is}
-use Rattle.signal_refine.proofs.classes.Classes.try_tie.Goals as goal
+use Rattle.signal_refine.proofs.sweep.try_tie.Goals as goal
 
 pub ask-requires-clause-right : goal.ask-requires-clause-right
-ask-requires-clause-right c = c.in-Some.ensures.within (length c.args.aig.now) c.requires.within (graph-some c.args.aig.now c.keeps.ensures.graph)
+ask-requires-clause-right c = c.in-Some.ensures.within (length c.args.facts.now.aig) c.requires.within (graph-some c.args.facts.now.aig c.keeps.ensures.graph)
 
 pub returns-in-Same-clause-shown : goal.returns-in-Same-clause-shown
 returns-in-Same-clause-shown c = λ a k on have own.
-    let g = c.args.aig.now in
+    let g = c.args.facts.now.aig in
     let read = c.args.read.now in
     let w = node_at c.args.asked.now.base.now k in
     let other = c.in-Some.other.0 in
     let same = c.in_ok-answer.ensures.same c.in-Same.is a on in
     let within = c.in-Some.ensures.within (length g) c.requires.within (graph-some g c.keeps.ensures.graph) in (
-      value-grows g c.ask.new.aig c.in_ok-answer.ensures.grows a other within ∙ (sym same ∙ own),
+      value-grows g c.ask.new.facts.aig c.in_ok-answer.ensures.grows a other within ∙ (sym same ∙ own),
       λ anchor at.
           sym own
           ∙ (same
@@ -32,7 +32,7 @@ returns-in-Same-clause-shown c = λ a k on have own.
 
 pub returns-in-Same-clause-within : goal.returns-in-Same-clause-within
 returns-in-Same-clause-within c =
-    let g = c.args.aig.now in
+    let g = c.args.facts.now.aig in
     let within = c.in-Some.ensures.within (length g) c.requires.within (graph-some g c.keeps.ensures.graph) in
-    let more = Grows-length g c.ask.new.aig c.in_ok-answer.ensures.grows in
+    let more = Grows-length g c.ask.new.facts.aig c.in_ok-answer.ensures.grows in
     omega (arith, within, more)
