@@ -57,3 +57,9 @@ begun_latches (l ∷ ls) (k ∷ known) = (record l { init = init_of k }) ∷ beg
 -- the net with what is known of its latches as their initial values
 abbrev pub begun : NetView → List (Option Bool) → NetView
 begun n known = record n { latches = begun_latches n.latches known }
+
+-- m is the net with what is known of its latches behind the rows as their initial values
+pub record IsBegun (n : NetView) (names : List (List ℕ)) (rows : List (List Bool)) (known : List (Option Bool)) (m : NetView) : Type 0 where
+  pub each : length known ≡ length n.latches
+  pub are_known : AreKnownBehind n names rows known
+  pub is : m ≡ begun n known

@@ -1,3 +1,4 @@
 pub mod Behind
 pub mod Agreement
 pub mod Sequence
+pub mod Report

@@ -90,6 +90,7 @@ fn words_of<'a>(which: Subcommand) -> (&'a str, &'a [Word<'a>])
                 MODE,
                 Word::Option("power"),
                 Word::Flag("reset"),
+                Word::Option("after"),
             ],
         ),
         Subcommand::Replay => (
