@@ -4,7 +4,7 @@ ghost use Rattle.std.specs.Prelude.{◌≡◌, ◌-◌, ℕ, Bool, None, Some, l
 ghost use Rattle.std.specs.List.{Contains};
 ghost use Rattle.flat_net.specs.View.{circuit_of};
 ghost use Rattle.circuit_laws.specs.start_laws.Known.{IsKnown};
-ghost use Rattle.restart.specs.Behind.{IsColumnOf, AreColumnsOf, AreKnownLatches, AreKnownBits, AreKnownBehind, KnowsOutput};
+ghost use Rattle.restart.specs.Behind.{IsColumnOf, AreColumnsOf, IsThreeRunTo, AreKnownBehind, KnowsOutput};
 
 use crate::cycle::{compute, take_over};
 use flat_net::{Bits, NameTable, Net, NoMemory};
@@ -21,6 +21,7 @@ pub fn known_behind(
     ensures size { IfOk result (λ known. length known.items ≡ length net.now.latches) }
     ensures known { IfOk result (λ known. AreKnownBehind net.now names.now rows.now known.items) }
 {
+    net.keeps();
     let columns = columns_of(alloc, net, names)?;
     let mut latches = vec![in alloc; None; net.latches().len()]?;
     let mut values = vec![in alloc; None; net.size() as usize]?;
@@ -61,6 +62,7 @@ fn run_to(
     requires nothing { (p : ℕ) → slice_index_or values.old p None ≡ None }
     ensures { (bit : Bool) → result ≡ Some bit → (p : ℕ) × Contains (circuit_of net.now).outputs (record { name = name.now; place = p }) × IsKnown (circuit_of net.now) columns.now rows.now (length rows.now - 1) p bit }
 {
+    net.keeps();
     run(net, columns, rows, latches, values);
     value_of(net, values, name)
 }
@@ -115,8 +117,7 @@ fn run(
     requires nothing { (p : ℕ) → slice_index_or values.old p None ≡ None }
     ensures size { length latches.new ≡ length latches.old }
     ensures values_size { length values.new ≡ length values.old }
-    ensures known { AreKnownLatches net.now columns.now rows.now (length rows.now) latches.new }
-    ensures last { AreKnownBits net.now columns.now rows.now (length rows.now - 1) values.new }
+    ensures run { IsThreeRunTo net.now columns.now rows.now latches.new values.new }
 {
     net.keeps();
     for row in rows {
