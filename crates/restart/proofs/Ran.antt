@@ -25,7 +25,7 @@ use Rattle.restart.specs.Cycle.{AreOfCycle, TakesOver}
 use Rattle.restart.proofs.Begun.{port_at}
 
 -- values before a cycle, in it and behind it
-splice : {X : Type 0} → ℕ → (ℕ → X) → X → X → ℕ → X
+abbrev splice : {X : Type 0} → ℕ → (ℕ → X) → X → X → ℕ → X
 splice zero f here after zero = here
 splice zero f here after (suc s) = after
 splice (suc t) f here after zero = f 0
@@ -48,7 +48,7 @@ before_or_at : (s t : ℕ) → s < suc t → (s < t) ⊎ (s ≡ t)
 before_or_at s t h = grind arith
 
 -- a latch's value, by what drives the signal
-by_driver : List (Option Bool) → Option Driver → Option Bool
+abbrev by_driver : List (Option Bool) → Option Driver → Option Bool
 by_driver latches (Some (driver.Latch j)) = get_or latches j None
 by_driver latches (Some (driver.Input i)) = None
 by_driver latches (Some (driver.Gate j)) = None
@@ -80,7 +80,7 @@ module _ (n : NetView) (columns : List ℕ) (rows : List (List Bool)) where
 
   module _ (sound : IsSound n) (t : ℕ) (row : List Bool) (latches values others next : List (Option Bool)) (has : slice_get rows t ≡ Some row) (ran : Ran t latches others) (of : AreOfCycle n columns row latches values)
       (takes : TakesOver n values next) where
-    w : ℕ → ℕ → Option Bool
+    abbrev w : ℕ → ℕ → Option Bool
     w s p = splice t (λ k. ran.run k p) (get_or values p None) (by_driver next (slice_get n.drivers p)) s
 
     before : (s p : ℕ) → s < t → w s p ≡ ran.run s p

@@ -1,6 +1,6 @@
 //! The three-valued run over the rows of a stimulus.
 
-ghost use Rattle.std.specs.Prelude.{◌≡◌, ◌-◌, ℕ, Bool, None, Some, length, slice_get, slice_index_or, IfOk};
+ghost use Rattle.std.specs.Prelude.{◌≡◌, ◌-◌, ℕ, Bool, List, None, Some, length, slice_get, slice_index_or, IfOk};
 ghost use Rattle.std.specs.List.{Contains};
 ghost use Rattle.flat_net.specs.View.{circuit_of};
 ghost use Rattle.circuit_laws.specs.start_laws.Known.{IsKnown};
@@ -21,7 +21,6 @@ pub fn known_behind(
     ensures size { IfOk result (λ known. length known.items ≡ length net.now.latches) }
     ensures known { IfOk result (λ known. AreKnownBehind net.now names.now rows.now known.items) }
 {
-    net.keeps();
     let columns = columns_of(alloc, net, names)?;
     let mut latches = vec![in alloc; None; net.latches().len()]?;
     let mut values = vec![in alloc; None; net.size() as usize]?;
@@ -118,6 +117,7 @@ fn run(
     ensures size { length latches.new ≡ length latches.old }
     ensures values_size { length values.new ≡ length values.old }
     ensures run { IsThreeRunTo net.now columns.now rows.now latches.new values.new }
+    ensures known { (names : List (List ℕ)) → AreColumnsOf net.now names columns.now → AreKnownBehind net.now names rows.now latches.new }
 {
     net.keeps();
     for row in rows {

@@ -1,7 +1,7 @@
 -- The row that the loop is at is that of its cycle.
 use Rattle.std.proofs.Common.{◌≡◌, ◌+◌, ℕ, suc, Some, length, refl, sym, ◌∙◌, ap, subst, arith}
 use Rattle.cycle_sim.proofs.Lists.{item_at}
-use Rattle.restart.proofs.Ran.{Ran, ran_none, ran_more, ran_all}
+use Rattle.restart.proofs.Ran.{Ran, ran_none, ran_more, ran_all, known_of}
 use Rattle.restart.proofs.three_run.run.Goals as goal
 
 pub loop-row-init : goal.loop-row-init
@@ -24,3 +24,12 @@ returns-clause-run c =
     let rows = c.args.rows.now in
     let all : c.loop-row.row-index ≡ length rows = omega (arith, c.loop-row-test.false, c.loop-row.auto.row-index-end) in
     ran_all net columns rows c.keeps.ensures.sound c.requires.columns c.loop-row.latches c.loop-row.values (subst (λ (s : ℕ). Ran net columns rows s c.loop-row.latches c.loop-row.values) all c.loop-row.invariant)
+
+pub returns-clause-known : goal.returns-clause-known
+returns-clause-known c = λ names are.
+    let net = c.args.net.now in
+    let columns = c.args.columns.now in
+    let rows = c.args.rows.now in
+    let all : c.loop-row.row-index ≡ length rows = omega (arith, c.loop-row-test.false, c.loop-row.auto.row-index-end) in
+    known_of net columns rows c.keeps.ensures.sound c.requires.columns names c.loop-row.latches c.loop-row.values are (omega (arith, c.loop-row.auto.latches, c.requires.latches))
+    (ran_all net columns rows c.keeps.ensures.sound c.requires.columns c.loop-row.latches c.loop-row.values (subst (λ (s : ℕ). Ran net columns rows s c.loop-row.latches c.loop-row.values) all c.loop-row.invariant))
