@@ -1,5 +1,5 @@
--- A circuit with the outputs of one name alone, and so a net; or a net without them.
-use Rattle.std.specs.Prelude.{◌≡◌, ℕ, Bool, true, false, not, List, [], ◌∷◌, bytes_eq, codes, refl}
+-- A circuit with the outputs of one name alone, and so a net.
+use Rattle.std.specs.Prelude.{◌≡◌, ℕ, Bool, List, [], ◌∷◌, bytes_eq, codes, refl}
 use Rattle.std.specs.List.{filter, list_any}
 use Rattle.circuit_theory.specs.Circuit.{Circuit}
 use Rattle.flat_net.specs.View.{NetView, circuit_of}
@@ -12,29 +12,16 @@ only_output name c = record c { outputs = filter (λ o. bytes_eq o.name name) c.
 abbrev pub shows_output : NetView → List ℕ → Bool
 shows_output n name = list_any (λ port. bytes_eq port.name name) n.outputs
 
--- a bit as it is, or its complement
-abbrev pub as_asked : Bool → Bool → Bool
-as_asked true bit = bit
-as_asked false bit = not bit
-
--- The second net is the first with its outputs whose names pass the test: inputs, latches, names and drivers are the same, and so is the circuit but
--- for its outputs. A cover may have another number.
-pub record IsShowing (test : List ℕ → Bool) (n m : NetView) : Type 0 where
+-- The second net is the first with its outputs of this name alone: inputs, latches, names and drivers are the same, and so is the circuit but for its
+-- outputs. A cover may have another number.
+pub record IsAlone (name : List ℕ) (n m : NetView) : Type 0 where
   pub inputs : m.inputs ≡ n.inputs
-  pub outputs : m.outputs ≡ filter (λ port. test port.name) n.outputs
+  pub outputs : m.outputs ≡ filter (λ port. bytes_eq port.name name) n.outputs
   pub latches : m.latches ≡ n.latches
   pub drivers : m.drivers ≡ n.drivers
   pub names : m.names ≡ n.names
   pub clock : m.clock ≡ n.clock
-  pub circuit : circuit_of m ≡ record (circuit_of n) { outputs = filter (λ o. test o.name) (circuit_of n).outputs }
-
--- the outputs of this name alone
-abbrev pub IsAlone : List ℕ → NetView → NetView → Type 0
-IsAlone name n m = IsShowing (λ o. bytes_eq o name) n m
-
--- all but those of this name
-abbrev pub IsWithout : List ℕ → NetView → NetView → Type 0
-IsWithout name n m = IsShowing (λ o. not (bytes_eq o name)) n m
+  pub circuit : circuit_of m ≡ only_output name (circuit_of n)
 
 -- two outputs, one of which is asked for
 one_left : only_output {P = ℕ} (codes "y") (record { inputs = []; outputs = record { name = codes "x"; place = 0 } ∷ record { name = codes "y"; place = 1 } ∷ []; equations = []; starts = [] })
