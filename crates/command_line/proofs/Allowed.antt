@@ -11,7 +11,7 @@ use Rattle.sec_base.specs.declared.settings.Settings.{Settings}
 use Rattle.command_line.specs.declared.task.Task.{Task}
 use Rattle.command_line.specs.declared.task.Task.TheVariants as task
 use Rattle.command_line.specs.command_words.Command.{sec_app, most_conflicts, most_cycles, any_number}
-use Rattle.command_line.specs.Jobs.{task_in, check_in, compared_in, checked_in, begun_in, paired_in, stands_alone, graph_in, sim_in, replay_in, settle_in, gen_in, lrat_in, cert_in, induct_in, form_in, settings_in, conflicts_in, mode_in, mode_of, refuses_reset, number_of, is_set, with_word, last_in, inducted_in, tied_in, searched_in, renamed_in}
+use Rattle.command_line.specs.Jobs.{task_in, check_in, compared_in, checked_in, begun_in, paired_in, stands_alone, graph_in, run_in, sim_in, replay_in, settle_in, gen_in, lrat_in, cert_in, induct_in, form_in, settings_in, conflicts_in, mode_in, mode_of, refuses_reset, number_of, is_set, with_word, last_in, inducted_in, tied_in, searched_in, renamed_in}
 use Rattle.command_line.specs.Allowed.{IsAllowed, JobsAreAllowed}
 
 some_is : {X : Type 0} {x y : X} → Some x ≡ Some y → x ≡ y
@@ -187,15 +187,20 @@ allowed_graph rows job e =
     let allowed_here : IsAllowed (task.Graph a.0 mode.0) = tt in
     subst IsAllowed mode.2 allowed_here
 
+allowed_run : (a s : Text) (mode : Mode) (power : Option Text) (reset : Bool) (after : Option Text) (job : Task) → run_in a s mode power reset after ≡ Some job → IsAllowed job
+allowed_run a s mode power reset None job e = let here : IsAllowed (task.Sim a s mode power reset) = tt in subst IsAllowed (some_is e) here
+allowed_run a s mode power true (Some rows) job e = let here : IsAllowed (task.SimAfter a s rows power) = tt in subst IsAllowed (some_is e) here
+allowed_run a s mode power false (Some rows) job e = absurd (cc)
+
 allowed_sim : (rows : List Row) (job : Task) → sim_in rows ≡ Some job → IsAllowed job
 allowed_sim rows job e =
     let power : Option Text = first_of (codes "power") rows in
     let reset : Bool = is_set (codes "reset") rows in
-    let a = and_then_some (λ x. with_word (codes "s") rows (λ y. option_map (λ m. task.Sim x y m power reset) (mode_in rows))) (first_of (codes "a") rows) job e in
-    let s = and_then_some (λ y. option_map (λ m. task.Sim a.0 y m power reset) (mode_in rows)) (first_of (codes "s") rows) job a.2 in
-    let mode = map_some (λ m. task.Sim a.0 s.0 m power reset) (mode_in rows) job s.2 in
-    let allowed_here : IsAllowed (task.Sim a.0 s.0 mode.0 power reset) = tt in
-    subst IsAllowed mode.2 allowed_here
+    let after : Option Text = first_of (codes "after") rows in
+    let a = and_then_some (λ x. with_word (codes "s") rows (λ y. option_and_then (λ m. run_in x y m power reset after) (mode_in rows))) (first_of (codes "a") rows) job e in
+    let s = and_then_some (λ y. option_and_then (λ m. run_in a.0 y m power reset after) (mode_in rows)) (first_of (codes "s") rows) job a.2 in
+    let mode = and_then_some (λ m. run_in a.0 s.0 m power reset after) (mode_in rows) job s.2 in
+    allowed_run a.0 s.0 mode.0 power reset after job mode.2
 
 allowed_replay : (rows : List Row) (job : Task) → replay_in rows ≡ Some job → IsAllowed job
 allowed_replay rows job e =

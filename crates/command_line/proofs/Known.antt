@@ -17,8 +17,8 @@ use Rattle.clap.specs.Walk.{Row, Rule, Text, Walk, answers_to, finished, first_o
 use Rattle.clap.specs.Simple.{App, Shape, built, built_leaf, entered, help_shape, inherited, label_of, marked_built, names_of, rows_at, subcommand_of, with_leaf_noted}
 use Rattle.clap.specs.declared.builder.value_parser.ValueParser.{ValueParser}
 use Rattle.command_line.specs.command_words.Command.{sec_app, check_app, graph_app, sim_app, replay_app, settle_app, gen_app, lrat_app, cert_app, induct_app, most_conflicts, most_cycles, any_number}
-use Rattle.command_line.specs.Jobs.{begun_in, cert_in, check_in, checked_in, conflicts_in, form_in, gen_in, graph_in, induct_in, is_set, job_of, lrat_in, mode_in, number_of, paired_in, replay_in, settle_in, sim_in, stands_alone, task_in, tied_in, renamed_in}
-use Rattle.command_line.specs.Known.{HasFitMode, after_fits, cycles_fit, cycles_given, mode_fits, pair_fits, ties_fit, tied_fits, pairs_fit}
+use Rattle.command_line.specs.Jobs.{begun_in, cert_in, check_in, checked_in, conflicts_in, form_in, gen_in, graph_in, induct_in, is_set, job_of, lrat_in, mode_in, number_of, paired_in, replay_in, settle_in, run_in, sim_in, stands_alone, task_in, tied_in, renamed_in}
+use Rattle.command_line.specs.Known.{HasFitMode, after_fits, cycles_fit, cycles_given, mode_fits, pair_fits, ties_fit, tied_fits, pairs_fit, run_fits, sim_fits}
 use Rattle.command_line.proofs.Taken.{else_first, else_next, EachRule, IsNotHelp, IsOwn, no_help_walk}
 use Rattle.command_line.proofs.Leaves.{IsRead, first_good, first_has, leaf_read, second_check}
 
@@ -107,12 +107,17 @@ graph_job rows a ea mode = by (mode_in rows) refl mode
     by None e h = absurd (true≢false (sym h))
     by (Some m) e h = rw (ea, e) refl
 
-sim_job : (rows : List Row) (a s : Text) → first_of (codes "a") rows ≡ Some a → first_of (codes "s") rows ≡ Some s → is_some (mode_in rows) ≡ true → is_some (sim_in rows) ≡ true
-sim_job rows a s ea es mode = by (mode_in rows) refl mode
+run_job : (a s : Text) (mode : Mode) (power : Option Text) (reset : Bool) (after : Option Text) → run_fits reset after ≡ true → is_some (run_in a s mode power reset after) ≡ true
+run_job a s mode power reset None h = refl
+run_job a s mode power true (Some rows) h = refl
+run_job a s mode power false (Some rows) h = h
+
+sim_job : (rows : List Row) (a s : Text) → first_of (codes "a") rows ≡ Some a → first_of (codes "s") rows ≡ Some s → (is_some (mode_in rows) && sim_fits rows) ≡ true → is_some (sim_in rows) ≡ true
+sim_job rows a s ea es known = let both = both_hold (is_some (mode_in rows)) (sim_fits rows) known in by (mode_in rows) refl both.0 both.1
   where
-    by : (m : Option Mode) → mode_in rows ≡ m → is_some m ≡ true → is_some (sim_in rows) ≡ true
-    by None e h = absurd (true≢false (sym h))
-    by (Some m) e h = rw (ea, es, e) refl
+    by : (m : Option Mode) → mode_in rows ≡ m → is_some m ≡ true → sim_fits rows ≡ true → is_some (sim_in rows) ≡ true
+    by None e h fits = absurd (true≢false (sym h))
+    by (Some m) e h fits = rw (ea, es, e) (run_job a s m (first_of (codes "power") rows) (is_set (codes "reset") rows) (first_of (codes "after") rows) fits)
 
 replay_job : (rows : List Row) (a b s : Text) → first_of (codes "a") rows ≡ Some a → first_of (codes "b") rows ≡ Some b → first_of (codes "s") rows ≡ Some s → is_some (mode_in rows) ≡ true → is_some (replay_in rows) ≡ true
 replay_job rows a b s ea eb es mode = by (mode_in rows) refl mode
@@ -192,7 +197,7 @@ graph_is words e help known =
     graph_job rows a.0 a.1 known
 
 sim_own : EachRule (IsOwn (part sim_app.top).rules) (part sim_app.top).rules
-sim_own = ((refl, omega arith), ((refl, omega arith), ((refl, omega arith), ((refl, omega arith), ((refl, omega arith), ((refl, tt), tt))))))
+sim_own = ((refl, omega arith), ((refl, omega arith), ((refl, omega arith), ((refl, omega arith), ((refl, omega arith), ((refl, omega arith), ((refl, tt), tt)))))))
 
 sim_is : IsJob (part sim_app.top)
 sim_is words e help known =

@@ -57,7 +57,7 @@ cycles_are_taken = ((refl, refl), refl, refl)
 
 pub after_is_taken : AfterIsTaken
 unfolding clap_on_literals
-after_is_taken = ((refl, refl), refl, refl, refl, refl)
+after_is_taken = ((refl, refl), refl, refl, refl, refl, refl)
 
 pub assumed_is_taken : AssumedIsTaken
 unfolding clap_on_literals
@@ -109,4 +109,4 @@ pairs_are_no_job = ((refl, refl), (refl, refl), (refl, refl), (refl, refl))
 
 pub after_is_no_job : AfterIsNoJob
 unfolding clap_on_literals
-after_is_no_job = ((refl, refl), (refl, refl), (refl, refl))
+after_is_no_job = ((refl, refl), (refl, refl), (refl, refl), (refl, refl))

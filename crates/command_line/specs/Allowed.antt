@@ -16,6 +16,7 @@ IsAllowed (task.CheckPair a b pair settings) = (settings.conflicts ≤ MAX_CONFL
 IsAllowed (task.CheckRenamed a b pairs settings) = (settings.conflicts ≤ MAX_CONFLICTS) × (settings.expose ≡ true) × (settings.reset ≡ false)
 IsAllowed (task.Graph a mode) = Unit {0}
 IsAllowed (task.Sim a s mode power reset) = Unit {0}
+IsAllowed (task.SimAfter a s rows power) = Unit {0}
 IsAllowed (task.Replay a b s mode settles) = Unit {0}
 IsAllowed (task.Settle a b s mode) = Unit {0}
 IsAllowed (task.Gen seed regroup conflicts) = conflicts ≤ MAX_CONFLICTS

@@ -104,8 +104,16 @@ check_in rows =
 abbrev pub graph_in : List Row → Option Task
 graph_in rows = with_word (codes "a") rows (λ a. option_map (λ mode. task.Graph a mode) (mode_in rows))
 
+-- the run of a circuit over a stimulus, or behind the rows of another one where that is named, which stands only beside `--reset`
+abbrev pub run_in : Text → Text → Mode → Option Text → Bool → Option Text → Option Task
+run_in a s mode power reset None = Some (task.Sim a s mode power reset)
+run_in a s mode power true (Some rows) = Some (task.SimAfter a s rows power)
+run_in a s mode power false (Some rows) = None
+
 abbrev pub sim_in : List Row → Option Task
-sim_in rows = with_word (codes "a") rows (λ a. with_word (codes "s") rows (λ s. option_map (λ mode. task.Sim a s mode (first_of (codes "power") rows) (is_set (codes "reset") rows)) (mode_in rows)))
+sim_in rows =
+    with_word (codes "a") rows (λ a. with_word (codes "s") rows (λ s.
+    option_and_then (λ mode. run_in a s mode (first_of (codes "power") rows) (is_set (codes "reset") rows) (first_of (codes "after") rows)) (mode_in rows)))
 
 abbrev pub replay_in : List Row → Option Task
 replay_in rows =

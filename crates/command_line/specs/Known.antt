@@ -31,6 +31,13 @@ pairs_fit rows =
     not (is_some (first_of (codes "pairs") rows))
     || (is_set (codes "expose") rows && (stands_alone (is_set (codes "settles") rows) (first_of (codes "assume") rows) (first_of (codes "cycles") rows) (first_of (codes "after") rows) && not (is_some (first_of (codes "pair") rows))))
 
+-- `--after` of `sim` isn't given, or stands beside `--reset`
+abbrev pub run_fits : Bool → Option Text → Bool
+run_fits reset after = not (is_some after) || reset
+
+abbrev pub sim_fits : List Row → Bool
+sim_fits rows = run_fits (is_set (codes "reset") rows) (first_of (codes "after") rows)
+
 -- No assumption is given, or it stands beside `--signals` and without a stimulus.
 abbrev pub ties_fit : Bool → Option Text → Option Text → Bool
 ties_fit signals assumed after = not (is_some assumed) || (signals && not (is_some after))
@@ -40,10 +47,10 @@ tied_fits rows = ties_fit (is_set (codes "signals") rows) (first_of (codes "assu
 
 -- The mode among the subcommand's matches is one of the two, and `--reset` may stand beside it; `gen`, `lrat` and `induct` have none, and
 -- `cert` has a form in its place. Nothing refuses the cycles of `check`, nor its stimulus, nor its one name, nor its pairs, nor the
--- stimulus or the assumption of `induct`.
+-- stimulus behind whose rows `sim` begins, nor the stimulus or the assumption of `induct`.
 abbrev pub mode_fits : Text → List Row → Bool
 mode_fits name rows =
-    bytes_eq name (codes "gen") || (bytes_eq name (codes "lrat") || (if bytes_eq name (codes "induct") then tied_fits rows else if bytes_eq name (codes "cert") then is_some (form_in rows) else if bytes_eq name (codes "check") then is_some (mode_in rows) && (cycles_fit rows && (after_fits rows && (pair_fits rows && pairs_fit rows))) else is_some (mode_in rows)))
+    bytes_eq name (codes "gen") || (bytes_eq name (codes "lrat") || (if bytes_eq name (codes "induct") then tied_fits rows else if bytes_eq name (codes "cert") then is_some (form_in rows) else if bytes_eq name (codes "check") then is_some (mode_in rows) && (cycles_fit rows && (after_fits rows && (pair_fits rows && pairs_fit rows))) else if bytes_eq name (codes "sim") then is_some (mode_in rows) && sim_fits rows else is_some (mode_in rows)))
 
 -- the mode of the subcommand that the words name is one of the two, and nothing refuses `--reset`
 abbrev pub HasFitMode : List Text → Type 0
@@ -173,6 +180,7 @@ AfterIsTaken =
     × (job_of (codes "check" ∷ codes "a" ∷ codes "b" ∷ codes "--reset" ∷ codes "--cycles" ∷ codes "20" ∷ codes "--after" ∷ codes "s" ∷ []) ≡ Some (task.After (codes "a") (codes "b") (codes "s") (Some 20) 20000))
     × (job_of (codes "check" ∷ codes "a" ∷ codes "b" ∷ codes "--reset" ∷ codes "--after" ∷ codes "s" ∷ []) ≡ Some (task.After (codes "a") (codes "b") (codes "s") None 20000))
     × (job_of (codes "induct" ∷ codes "a" ∷ codes "b" ∷ codes "--after" ∷ codes "s" ∷ []) ≡ Some (task.InductAfter (codes "a") (codes "b") (codes "s") false 20000))
+    × (job_of (codes "sim" ∷ codes "a" ∷ codes "s" ∷ codes "--reset" ∷ codes "--after" ∷ codes "r" ∷ []) ≡ Some (task.SimAfter (codes "a") (codes "s") (codes "r") None))
     × (job_of (codes "check" ∷ codes "a" ∷ codes "b" ∷ codes "--reset" ∷ codes "--cycles" ∷ codes "20" ∷ codes "--after" ∷ codes "s" ∷ codes "--assume" ∷ codes "c" ∷ []) ≡ Some (task.AfterUnder (codes "a") (codes "b") (codes "c") (codes "s") 20 20000))
 
 -- since `--after` stands without `--reset`, or with `--assume` and without `--cycles`
@@ -181,6 +189,7 @@ AfterIsNoJob =
     AreNoJob (codes "check" ∷ codes "a" ∷ codes "b" ∷ codes "--after" ∷ codes "s" ∷ [])
     × AreNoJob (codes "check" ∷ codes "a" ∷ codes "b" ∷ codes "--cycles" ∷ codes "20" ∷ codes "--after" ∷ codes "s" ∷ [])
     × AreNoJob (codes "check" ∷ codes "a" ∷ codes "b" ∷ codes "--reset" ∷ codes "--after" ∷ codes "s" ∷ codes "--assume" ∷ codes "c" ∷ [])
+    × AreNoJob (codes "sim" ∷ codes "a" ∷ codes "s" ∷ codes "--after" ∷ codes "r" ∷ [])
 
 -- words with `--pair`, and what they ask for
 abbrev pub PairIsTaken : Type 0

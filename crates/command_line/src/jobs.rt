@@ -6,7 +6,7 @@ ghost use Rattle.clap.specs.Words.{fault_of, first_of, found_of, rows_of, subcom
 ghost use Rattle.clap.specs.ValueTests.{accepts};
 ghost use Rattle.clap.specs.declared.builder.value_parser.ValueParser.TheVariants as parser;
 ghost use Rattle.command_line.specs.command_words.Command.{sec_app};
-ghost use Rattle.command_line.specs.Jobs.{job_of, task_in, check_in, compared_in, graph_in, sim_in, replay_in, settle_in, gen_in, lrat_in, cert_in, induct_in, form_in, mode_of, mode_in, refuses_reset, is_set, number_of, conflicts_in, settings_in, checked_in, paired_in, stands_alone, search_in, last_in, after_in, inducted_in, tied_in, searched_in, renamed_in};
+ghost use Rattle.command_line.specs.Jobs.{job_of, task_in, check_in, compared_in, graph_in, run_in, sim_in, replay_in, settle_in, gen_in, lrat_in, cert_in, induct_in, form_in, mode_of, mode_in, refuses_reset, is_set, number_of, conflicts_in, settings_in, checked_in, paired_in, stands_alone, search_in, last_in, after_in, inducted_in, tied_in, searched_in, renamed_in};
 
 use crate::command_words::sec_command;
 use crate::task::Task;
@@ -20,7 +20,7 @@ use std::alloc::{AllocError, Global};
 #[derive(Clone, Copy)]
 pub enum WordsError {
     /// `clap`'s definition for the command doesn't take the words, the mode is neither `plain` nor `event`, `--reset` stands with
-    /// `event`, with `--expose` or with `--settles`, `--cycles` or `--after` of `check` stands without
+    /// `event`, with `--expose` or with `--settles`, `--cycles` or `--after` of `check` or `sim` stands without
     /// `--reset`, `--after` with `--assume` and without `--cycles`, `--assume` of `induct` without `--signals`, `--pair` with
     /// `--settles`, `--assume`, `--cycles` or `--after`, `--pairs` with one of these or with `--pair` or
     /// without `--expose`, or the form of a certificate is neither `cnf` nor `lrat`.
@@ -462,14 +462,35 @@ fn sim_in(alloc: Global, matches: &ArgMatches<'_>) -> Result<Option<Task>, NoMem
     };
     let reset = is_set(matches, "reset");
     let power = copied(alloc, word(matches, "power"))?;
+    let rows = path_of(alloc, word(matches, "after"))?;
     let (a, s) = paths_of(alloc, a, s)?;
-    Ok(Some(Task::Sim {
-        a,
-        s,
-        mode,
-        power,
-        reset,
-    }))
+    Ok(run_in(a, s, mode, power, reset, rows))
+}
+
+/// The run of a circuit, or where rows are named the run behind these. That stands only beside `--reset`.
+fn run_in(
+    a: FilePath,
+    s: FilePath,
+    mode: Mode,
+    power: Option<Word>,
+    reset: bool,
+    rows: Option<FilePath>,
+) -> Option<Task>
+    ensures { result ≡ run_in a s mode power reset rows }
+{
+    let Some(rows) = rows else {
+        return Some(Task::Sim {
+            a,
+            s,
+            mode,
+            power,
+            reset,
+        });
+    };
+    if reset {
+        return Some(Task::SimAfter { a, s, rows, power });
+    }
+    None
 }
 
 fn replay_in(alloc: Global, matches: &ArgMatches<'_>) -> Result<Option<Task>, NoMemory>

@@ -48,6 +48,14 @@ pub enum Task {
         power: Option<Word>,
         reset: bool,
     },
+    /// Run a circuit on the stimulus `s` from what is known of its latches behind the rows of another one, whatever it powers up with. A latch
+    /// that isn't known there has its digit of `power`, or 0.
+    SimAfter {
+        a: FilePath,
+        s: FilePath,
+        rows: FilePath,
+        power: Option<Word>,
+    },
     /// Run two circuits on a stimulus and print where they differ, and with `settles` how many pairs are settled in both.
     Replay {
         a: FilePath,
@@ -179,6 +187,12 @@ impl Drop for Task {
                 mode: _,
                 power: _,
                 reset: _,
+            } => {}
+            Task::SimAfter {
+                a: _,
+                s: _,
+                rows: _,
+                power: _,
             } => {}
             Task::Replay {
                 a: _,

@@ -18,7 +18,7 @@ use Rattle.cycle_search.specs.declared.found.SearchError.{SearchError}
 use Rattle.cycle_search.specs.declared.found.SearchError.TheVariants as search
 use Rattle.cycle_search.specs.Searches.{Searches}
 use Rattle.sec_jobs.proofs.job_search.search_meaning.Meaning.{agree as search_agree, agree_up_to as search_agree_up_to, agree_before as search_agree_before}
-use Rattle.restart.specs.Behind.{begun}
+use Rattle.restart.specs.Behind.{begun, IsBegun}
 use Rattle.restart.specs.Agreement.{AgreeBehind, Each, UpTo, Before}
 use Rattle.restart.specs.Sequence.{IsShownBehind}
 use Rattle.restart.proofs.Begun.{behind_agree, behind_agree_up_to, behind_agree_before}
@@ -26,7 +26,7 @@ use Rattle.restart.proofs.Again.{shown_again}
 use Rattle.job_base.proofs.sec_files.job_files.Reading.{if_told}
 use Rattle.job_after.specs.declared.fault.AfterFault.{AfterFault}
 use Rattle.job_after.specs.declared.judging.Judged.{Judged}
-use Rattle.job_after.specs.Judged.{Behind, IsBegun, IsBehind, IsJudged, judgement_of, proofs_of}
+use Rattle.job_after.specs.Judged.{Behind, IsBehind, IsJudged, judgement_of, proofs_of}
 use Rattle.job_after.specs.Report.{after_text}
 use Rattle.job_after.specs.declared.fault.AfterFault.TheVariants as fault
 use Rattle.job_after.specs.Last.{EndsIn}

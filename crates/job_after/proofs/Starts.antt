@@ -1,10 +1,10 @@
 -- Nets that begin behind the rows of a stimulus.
+use Rattle.restart.specs.Behind.{IsBegun}
 use Rattle.std.proofs.Common.{◌≡◌, ◌∙◌, ℕ, Bool, List, length, sym, ap, subst, Option}
 use Rattle.flat_net.specs.Comparable.{IsComparable}
 use Rattle.flat_net.specs.View.{NetView}
 use Rattle.restart.proofs.Again.{begun_comparable}
 use Rattle.restart.proofs.Starting.{begun_long}
-use Rattle.job_after.specs.Judged.{IsBegun}
 
 -- a net that begins can be compared where the net can
 pub comparable : (n : NetView) (names : List (List ℕ)) (rows : List (List Bool)) (known : List (Option Bool)) (m : NetView) → IsBegun n names rows known m → IsComparable n → IsComparable m

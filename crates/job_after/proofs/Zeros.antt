@@ -6,8 +6,7 @@ use Rattle.restart.specs.Sequence.{IsShownBehind}
 use Rattle.restart.proofs.Again.{shown_again}
 use Rattle.flat_net.specs.declared.parts.LatchAt.{LatchAt}
 use Rattle.flat_net.specs.View.{NetView}
-use Rattle.restart.specs.Behind.{init_of, begun_latches, begun}
-use Rattle.job_after.specs.Judged.{IsBegun}
+use Rattle.restart.specs.Behind.{init_of, begun_latches, begun, IsBegun}
 
 begun_again : (ls : List LatchAt) (first last : List (Option Bool)) → length last ≡ length ls → begun_latches (begun_latches ls first) last ≡ begun_latches ls last
 begun_again [] first last size = refl

@@ -37,7 +37,8 @@ use Rattle.sec_setup.specs.Cycles.{IsAcyclic}
 use Rattle.job_after.specs.Last.{IsCyclic}
 use Rattle.job_after.specs.Report.{after_text}
 use Rattle.restart.specs.Sequence.{BeginsWithRows}
-use Rattle.job_after.specs.Judged.{IsBegun, Behind, IsBehind, IsJudged}
+use Rattle.job_after.specs.Judged.{Behind, IsBehind, IsJudged}
+use Rattle.restart.specs.Behind.{IsBegun}
 
 -- the paths of two circuits and of a stimulus, the last cycle behind its rows where one is named, and the limit of conflicts
 pub record AfterJob : Type 0 where

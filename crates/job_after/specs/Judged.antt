@@ -12,17 +12,11 @@ use Rattle.cycle_search.specs.declared.found.Searched.{Searched}
 use Rattle.cycle_search.specs.declared.found.SearchVerdict.{SearchVerdict}
 use Rattle.cycle_search.specs.declared.found.SearchVerdict.TheVariants as verdict
 use Rattle.cycle_search.specs.Searches.{AreSearched}
-use Rattle.restart.specs.Behind.{begun, AreKnownBehind}
+use Rattle.restart.specs.Behind.{IsBegun}
 use Rattle.restart.specs.Agreement.{AgreeBehind, Each, UpTo, Before}
 use Rattle.job_after.specs.Last.{IsLast}
 use Rattle.job_after.specs.Report.{after_text}
 use Rattle.restart.specs.Sequence.{IsShownBehind, GoesOnAs}
-
--- m is the net with what is known of its latches behind the rows as their initial values
-pub record IsBegun (n : NetView) (names : List (List ℕ)) (rows : List (List Bool)) (known : List (Option Bool)) (m : NetView) : Type 0 where
-  pub each : length known ≡ length n.latches
-  pub are_known : AreKnownBehind n names rows known
-  pub is : m ≡ begun n known
 
 -- the judgement: a difference that isn't shown is none
 abbrev pub judgement_of : SearchVerdict → Option Witness → Judgement

@@ -1,8 +1,8 @@
 -- The report, as a function of both nets, of what is known of them behind the rows, and of what was found.
-use Rattle.std.specs.Prelude.{ℕ, Bool, true, false, List, [], ◌∷◌, ◌++◌, length, codes, Option, Some, None, filter, position}
+use Rattle.std.specs.Prelude.{ℕ, Bool, List, [], ◌∷◌, ◌++◌, codes, Option, Some, None}
 use Rattle.std.specs.Fmt.{decimal}
-use Rattle.flat_net.specs.Cut.{latch_at}
 use Rattle.flat_net.specs.View.{NetView}
+use Rattle.restart.specs.Report.{after_line, unknown_line}
 use Rattle.witness_report.specs.Text.{stimulus_text}
 use Rattle.witness_report.specs.declared.witness.PairName.{PairName}
 use Rattle.witness_report.specs.declared.witness.Witness.{Witness}
@@ -12,31 +12,9 @@ use Rattle.cycle_search.specs.declared.found.SearchVerdict.{SearchVerdict}
 use Rattle.cycle_search.specs.declared.found.SearchVerdict.TheVariants as verdict
 use Rattle.cycle_search.specs.search_report.Report.{values_text, verdict_text, front_text}
 
--- nothing is known of it
-abbrev pub is_unknown : Option Bool → Bool
-is_unknown None = true
-is_unknown (Some bit) = false
-
--- how many aren't known
-abbrev pub unknown_count : List (Option Bool) → ℕ
-unknown_count known = length (filter is_unknown known)
-
--- the place of the first that isn't known
-abbrev pub first_unknown : List (Option Bool) → Option ℕ
-first_unknown known = position is_unknown known
-
--- the first latch's name behind a space, if there is one
-abbrev pub first_name : NetView → Option ℕ → List ℕ
-first_name n None = []
-first_name n (Some j) = 32 ∷ (latch_at n j).name
-
--- the line of a net's latches that aren't known
-abbrev pub unknown_line : List ℕ → NetView → List (Option Bool) → List ℕ
-unknown_line front n known = front ++ decimal (unknown_count known) ++ first_name n (first_unknown known) ++ 10 ∷ []
-
 -- how many rows the stimulus has, and what isn't known of both nets behind them
 abbrev pub begun_text : NetView → NetView → ℕ → List (Option Bool) → List (Option Bool) → List ℕ
-begun_text a b rows left right = codes "after " ++ decimal rows ++ 10 ∷ [] ++ unknown_line (codes "unknown A ") a left ++ unknown_line (codes "unknown B ") b right
+begun_text a b rows left right = after_line rows ++ unknown_line (codes "unknown A ") a left ++ unknown_line (codes "unknown B ") b right
 
 -- a difference with its sequence
 abbrev pub sequence_text : Witness → List ℕ

@@ -1,14 +1,14 @@
 //! The report.
 
 ghost use Rattle.std.specs.Prelude.{◌≡◌, ◌++◌, length, IfOk, OnOk};
-ghost use Rattle.job_after.specs.Report.{unknown_line, first_unknown, first_name, begun_text, sequence_text, unshown_text, shown_text, after_text};
+ghost use Rattle.job_after.specs.Report.{begun_text, sequence_text, unshown_text, shown_text, after_text};
 
-use crate::known::{first_unknown, unknown_count};
 use cycle_search::search_report::{put_count_line, put_front, put_name, put_values, put_verdict};
 use cycle_search::{SearchVerdict, Searched};
-use flat_net::{Net, latch_of};
+use flat_net::Net;
 use obligations::outcome::{PairName, Witness};
-use sec_base::{NoMemory, Seq, Text, put, put_number};
+use restart::{put_after, put_unknown};
+use sec_base::{NoMemory, Seq, Text, put};
 use std::alloc::Global;
 use witness_report::write_stimulus;
 
@@ -59,39 +59,9 @@ pub fn put_begun(
     requires right { length right.now ≡ length b.now.latches }
     ensures { OnOk result (text.new.items ≡ text.old.items ++ begun_text a.now b.now rows left.now right.now) }
 {
-    put_count_line(alloc, text, b"after ", rows)?;
+    put_after(alloc, text, rows)?;
     put_unknown(alloc, text, b"unknown A ", a, left)?;
     put_unknown(alloc, text, b"unknown B ", b, right)
-}
-
-/// Puts how many latches of the net aren't known, and the first one's name.
-fn put_unknown(
-    alloc: Global,
-    text: &mut Vec<u8>,
-    front: &[u8],
-    net: &Net,
-    known: &[Option<bool>],
-) -> Result<(), NoMemory>
-    requires { length known.now ≡ length net.now.latches }
-    ensures { OnOk result (text.new.items ≡ text.old.items ++ unknown_line front.now net.now known.now) }
-{
-    put(text, front)?;
-    put_number(alloc, text, unknown_count(known) as u64)?;
-    put_first(text, net, known)?;
-    put(text, b"\n")
-}
-
-/// Puts the name of the first latch that isn't known behind a space, if there is one.
-fn put_first(text: &mut Vec<u8>, net: &Net, known: &[Option<bool>]) -> Result<(), NoMemory>
-    requires { length known.now ≡ length net.now.latches }
-    ensures { OnOk result (text.new.items ≡ text.old.items ++ first_name net.now (first_unknown known.now)) }
-{
-    net.keeps();
-    let Some(j) = first_unknown(known) else {
-        return Ok(());
-    };
-    put(text, b" ")?;
-    put(text, latch_of(net, j as u32).name.as_slice())
 }
 
 /// Puts the verdict, with what shows it.

@@ -7,7 +7,6 @@ ghost use Rattle.job_after.specs.Judged.{judgement_of, proofs_of};
 
 use crate::after_report::{After, report};
 use crate::fault::AfterFault;
-use crate::known::begin;
 use crate::last::last_cycle;
 use crate::shown::{Start, shown_of};
 use base_tables::NameTable;
@@ -19,6 +18,7 @@ use job_circuit::replay::ReplayError;
 use job_circuit::replay::replay_header::opened_by;
 use obligations::PairResults;
 use obligations::outcome::{PairResult, Witness};
+use restart::begin;
 use sec_base::{MAX_CONFLICTS, NoMemory, Text};
 use sec_setup::ports::name_tables::{table_of_names, word_of};
 use std::alloc::Global;

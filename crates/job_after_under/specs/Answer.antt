@@ -28,7 +28,8 @@ use Rattle.cycle_under.specs.Cycles.{pair_under}
 use Rattle.cycle_under.specs.Searches.{SearchesUnder}
 use Rattle.restart.specs.Agreement.{Each, UpTo, Before}
 use Rattle.restart.specs.Sequence.{BeginsWithRows}
-use Rattle.job_after.specs.Judged.{IsBegun, Behind}
+use Rattle.job_after.specs.Judged.{Behind}
+use Rattle.restart.specs.Behind.{IsBegun}
 use Rattle.job_after_under.specs.Judged.{IsBehindUnder}
 use Rattle.job_after_under.specs.Report.{behind_text, undecided_behind}
 use Rattle.job_after_under.specs.Runs.{AgreeBehindWhereMet, SequenceMeetsFrom}

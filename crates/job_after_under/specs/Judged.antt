@@ -13,7 +13,8 @@ use Rattle.cycle_search.specs.declared.found.SearchVerdict.TheVariants as verdic
 use Rattle.cycle_under.specs.Searches.{AreSearchedUnder}
 use Rattle.restart.specs.Agreement.{Each, UpTo, Before}
 use Rattle.restart.specs.Sequence.{IsShownBehind}
-use Rattle.job_after.specs.Judged.{IsBegun, Behind, judgement_of, proofs_of}
+use Rattle.job_after.specs.Judged.{Behind, judgement_of, proofs_of}
+use Rattle.restart.specs.Behind.{IsBegun}
 use Rattle.job_after_under.specs.Report.{behind_text, undecided_behind}
 use Rattle.job_after_under.specs.Runs.{AgreeBehindWhereMet, SequenceMeetsFrom}
 

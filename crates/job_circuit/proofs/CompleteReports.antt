@@ -29,7 +29,7 @@ use Rattle.job_circuit.specs.Reports.{IsCircuitRefusal, IsGraphRefusal, IsGraphF
 
 -- an accepted circuit is not refused
 module _ (circuit : Option (List ℕ)) (x : List ℕ) (is : circuit ≡ Some x) (accepted : IsAccepted x) where
-  circuit_stands : (r : Refusal) → IsCircuitRefusal circuit r → ⊥
+  pub circuit_stands : (r : Refusal) → IsCircuitRefusal circuit r → ⊥
   circuit_stands (refusal.TooLong file.A) h = not_long circuit x is accepted h
   circuit_stands (refusal.TooLong file.B) h = h
   circuit_stands (refusal.TooLong file.C) h = h

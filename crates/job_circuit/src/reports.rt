@@ -57,7 +57,7 @@ fn graph_end(told: Result<Text, KindsError>) -> Result<Finding, Stop>
 }
 
 /// What is found by a simulation.
-fn sim_end(simulated: Result<Text, SimulateError>) -> Result<Finding, Stop>
+pub(crate) fn sim_end(simulated: Result<Text, SimulateError>) -> Result<Finding, Stop>
     ensures { result ≡ sim_end simulated }
 {
     match simulated {

@@ -63,7 +63,7 @@ begun_known n columns rows known size each u bit h =
     subst (λ p. IsKnown (circuit_of n) columns rows (length rows) p bit) s.4 (each s.0 s.1 bit s.2 s.3)
 
 -- a number of an input is that of a port
-port_at : (ports : List Port) (order : List ℕ) (p k : ℕ) → StandsBeside (map named ports) order p k → (i : ℕ) × (port : Port) × (slice_get ports i ≡ Some port) × (slice_get order i ≡ Some k) × (port.signal.0 ≡ p)
+pub port_at : (ports : List Port) (order : List ℕ) (p k : ℕ) → StandsBeside (map named ports) order p k → (i : ℕ) × (port : Port) × (slice_get ports i ≡ Some port) × (slice_get order i ≡ Some k) × (port.signal.0 ≡ p)
 port_at [] order p k h = absurd h
 port_at (x ∷ ports) [] p k h = absurd h
 port_at (x ∷ ports) (j ∷ order) p k (inl h) = (0, x, refl, ap Some h.1, h.0)

@@ -1,20 +1,22 @@
--- Writing what is known of one signal after the other.
-use Rattle.std.proofs.Common.{◌≡◌, ◌≢◌, ℕ, zero, suc, ◌+◌, ◌<◌, Bool, List, [], ◌∷◌, map, length, get_or, set, slice_get, Some, None, Option, refl, sym, ◌∙◌, ap, subst, arith, inl, inr, ◌⊎◌}
-use Rattle.std.proofs.lemmas.List.{length-set}
-use Rattle.std.proofs.lemmas.Option.{slice_get_within, none-some, same_Some, slice_get-get_or, get_or_from_slice_get}
-use Rattle.circuit_theory.specs.Tree.{StandsBeside}
-use Rattle.flat_net.specs.declared.parts.Port.{Port}
-use Rattle.flat_net.proofs.Nets.{some_at, gate_stands, latch_stands}
-use Rattle.flat_net.proofs.Places.{one_at}
-use Rattle.cycle_sim.proofs.Lists.{set_here, set_there, below_or_here}
-use Rattle.circuit_theory.proofs.Sums.{same_or_not}
+-- Writing the values of one cycle of a three-valued run, one after the other.
+use Rattle.std.proofs.Common.{◌≡◌, ◌≢◌, ℕ, zero, suc, ◌+◌, ◌<◌, Bool, List, [], ◌∷◌, map, length, get_or, set, slice_get, Some, None, Option, sym, ◌∙◌, ap, arith, inl, inr, ◌⊎◌}
+use Rattle.std.specs.List.{Contains}
+use Rattle.std.proofs.lemmas.List.{get_or-set_same, get_or-set_other}
+use Rattle.std.proofs.lemmas.List.Elements.{All-contains}
+use Rattle.std.proofs.lemmas.Option.{slice_get_within, slice_get-get_or}
+use Rattle.circuit_theory.proofs.Lists.{map_same}
 use Rattle.flat_net.specs.declared.signals.Signal.{Signal}
+use Rattle.flat_net.specs.declared.parts.Driver.{Driver}
+use Rattle.flat_net.specs.declared.parts.Driver.TheVariants as driver
+use Rattle.flat_net.specs.declared.parts.Port.{Port}
 use Rattle.flat_net.specs.declared.parts.Gate.{Gate}
 use Rattle.flat_net.specs.declared.parts.LatchAt.{LatchAt}
-use Rattle.flat_net.specs.View.{NetView, circuit_of, cover_of, named}
-use Rattle.circuit_laws.specs.start_laws.Known.{IsKnown, AreKnown, cover_three}
-use Rattle.circuit_laws.proofs.start_laws.Covers.{cover_forces}
-use Rattle.restart.specs.Behind.{AreKnownBits, AreKnownLatches}
+use Rattle.flat_net.specs.Sound.{IsSound}
+use Rattle.flat_net.specs.View.{NetView, cover_of}
+use Rattle.flat_net.proofs.Places.{one_at}
+use Rattle.cycle_sim.proofs.Lists.{set_here, set_there, below_or_here}
+use Rattle.circuit_laws.specs.start_laws.Known.{cover_three}
+use Rattle.restart.specs.Cycle.{HasInputs, HasLatches, HasGates}
 
 -- a value that is read with None elsewhere stands there
 pub read_some : (values : List (Option Bool)) (p : ℕ) (bit : Bool) → get_or values p None ≡ Some bit → slice_get values p ≡ Some (Some bit)
@@ -22,75 +24,99 @@ read_some [] p bit e = absurd (cc)
 read_some (v ∷ values) zero bit e = ap Some e
 read_some (v ∷ values) (suc p) bit e = read_some values p bit e
 
--- a list is as long as before a write
-long : {X : Type 0} (xs : List X) (s p : ℕ) (x : X) → p < length (set xs s x) → p < length xs
-long xs s p x h = let e : length (set xs s x) ≡ length xs = rw length-set refl in omega (arith, h, e)
+-- so many inputs, latches or gates have their values
+abbrev pub InputsBelow : NetView → List ℕ → List Bool → List (Option Bool) → ℕ → Type 0
+InputsBelow n columns row values count = (k c : ℕ) (port : Port) → k < count → slice_get n.inputs k ≡ Some port → slice_get columns k ≡ Some c → get_or values port.signal.0 None ≡ slice_get row c
 
--- what stands at another place than the one that was written stood there before
-other_stood : {X : Type 0} (xs : List X) (s p : ℕ) (x y : X) → p ≢ s → slice_get (set xs s x) p ≡ Some y → slice_get xs p ≡ Some y
-other_stood xs s p x y apart at =
-    let w = slice_get_within (set xs s x) p y at in
-    let within : p < length xs = long xs s p x w in
-    let old = some_at xs p within in
-    old.1 ∙ (sym (set_there xs s p x old.0 apart old.1) ∙ at)
+abbrev pub LatchesBelow : NetView → List (Option Bool) → List (Option Bool) → ℕ → Type 0
+LatchesBelow n latches values count = (k : ℕ) (l : LatchAt) → k < count → slice_get n.latches k ≡ Some l → get_or values l.out.0 None ≡ get_or latches k None
 
-module _ (n : NetView) (columns : List ℕ) (rows : List (List Bool)) (t : ℕ) where
-  -- a bit that is known is written
-  pub known_put : (values : List (Option Bool)) (s : ℕ) (value : Option Bool) → ((bit : Bool) → value ≡ Some bit → IsKnown (circuit_of n) columns rows t s bit) → AreKnownBits n columns rows t values → AreKnownBits n columns rows t (set values s value)
-  known_put values s value known before p bit at = go (same_or_not p s)
+abbrev pub GatesBelow : NetView → List (Option Bool) → ℕ → Type 0
+GatesBelow n values count = (k : ℕ) (g : Gate) → k < count → slice_get n.gates k ≡ Some g → get_or values g.out.0 None ≡ cover_three (cover_of n.covers g) (map (λ (f : Signal). get_or values f.0 None) g.fanins)
+
+same_input : {i j : ℕ} → driver.Input i ≡ driver.Input j → i ≡ j
+same_input e = cc
+
+same_latch : {i j : ℕ} → driver.Latch i ≡ driver.Latch j → i ≡ j
+same_latch e = cc
+
+no_input_gate : {i j : ℕ} → driver.Input i ≡ driver.Gate j → ⊥
+no_input_gate e = cc
+
+no_input_latch : {i j : ℕ} → driver.Input i ≡ driver.Latch j → ⊥
+no_input_latch e = cc
+
+no_latch_gate : {i j : ℕ} → driver.Latch i ≡ driver.Gate j → ⊥
+no_latch_gate e = cc
+
+module _ (n : NetView) (sound : IsSound n) where
+  -- what other drivers drive is another signal
+  apart : (p s : ℕ) (d e : Driver) → slice_get n.drivers p ≡ Some d → slice_get n.drivers s ≡ Some e → (d ≡ e → ⊥) → p ≢ s
+  apart p s d e hp hs other same = other (one_at n.drivers s d e (sym (ap (slice_get n.drivers) same) ∙ hp) hs)
+
+  pub inputs_more : (columns : List ℕ) (row : List Bool) (values : List (Option Bool)) (i c : ℕ) (port : Port) (value : Option Bool) → slice_get n.inputs i ≡ Some port → slice_get columns i ≡ Some c → port.signal.0 < length values → value ≡ slice_get row c →
+      InputsBelow n columns row values i → InputsBelow n columns row (set values port.signal.0 value) (i + 1)
+  inputs_more columns row values i c port value at column within is before k e q low at_q column_q = go (below_or_here k i low)
     where
-      go : (p ≡ s) ⊎ (p ≢ s) → IsKnown (circuit_of n) columns rows t p bit
-      go (inl e) =
-          let within : s < length values = subst (λ k. k < length values) e (long values s p value (slice_get_within (set values s value) p (Some bit) at)) in
-          let same : value ≡ Some bit = same_Some _ _ (sym (set_here values s value within) ∙ (ap (slice_get (set values s value)) (sym e) ∙ at)) in
-          subst (λ q. IsKnown (circuit_of n) columns rows t q bit) (sym e) (known bit same)
-      go (inr ne) = before p bit (other_stood values s p value (Some bit) ne at)
+      go : (k < i) ⊎ (k ≡ i) → get_or (set values port.signal.0 value) q.signal.0 None ≡ slice_get row e
+      go (inl l) =
+          get_or-set_other values port.signal.0 q.signal.0 value None
+          (apart q.signal.0 port.signal.0 (driver.Input k) (driver.Input i) (sound.inputs k q at_q).owner (sound.inputs i port at).owner (λ h. let same = same_input h in omega (arith, l, same))) ∙ before k e q l at_q column_q
+      go (inr same) =
+          let one : port ≡ q = one_at n.inputs i port q at (sym (ap (slice_get n.inputs) same) ∙ at_q) in
+          let columns_one : c ≡ e = one_at columns i c e column (sym (ap (slice_get columns) same) ∙ column_q) in
+          ap (λ (x : Port). get_or (set values port.signal.0 value) x.signal.0 None) (sym one) ∙ (get_or-set_same values port.signal.0 value None within ∙ (is ∙ ap (slice_get row) columns_one))
 
-  -- the fan-ins' values are known where they are
-  are_known : (values : List (Option Bool)) → AreKnownBits n columns rows t values → (fs : List Signal) → AreKnown (circuit_of n) columns rows t (map (λ (f : Signal). f.0) fs) (map (λ (f : Signal). get_or values f.0 None) fs)
-  are_known values known [] = AreKnown.none
-  are_known values known (f ∷ fs) = pick (get_or values f.0 None) refl (are_known values known fs)
-    where
-      pick : (o : Option Bool) → get_or values f.0 None ≡ o → AreKnown (circuit_of n) columns rows t (map (λ (g : Signal). g.0) fs) (map (λ (g : Signal). get_or values g.0 None) fs) →
-          AreKnown (circuit_of n) columns rows t (f.0 ∷ map (λ (g : Signal). g.0) fs) (o ∷ map (λ (g : Signal). get_or values g.0 None) fs)
-      pick None e rest = AreKnown.unknown rest
-      pick (Some bit) e rest = AreKnown.known (known f.0 bit (read_some values f.0 bit e)) rest
+  module _ (values : List (Option Bool)) (j : ℕ) (l : LatchAt) (value : Option Bool) (at : slice_get n.latches j ≡ Some l) where
+    pub inputs_by_latch : (columns : List ℕ) (row : List Bool) → HasInputs n columns row values → HasInputs n columns row (set values l.out.0 value)
+    inputs_by_latch columns row before i c port at_port column =
+        get_or-set_other values l.out.0 port.signal.0 value None (apart port.signal.0 l.out.0 (driver.Input i) (driver.Latch j) (sound.inputs i port at_port).owner (sound.latches j l at).owner no_input_latch)
+        ∙ before i c port at_port column
 
-  -- what a gate's cover makes of them is known
-  pub gate_known : (values : List (Option Bool)) (j : ℕ) (g : Gate) (bit : Bool) → slice_get n.gates j ≡ Some g → AreKnownBits n columns rows t values →
-      cover_three (cover_of n.covers g) (map (λ (f : Signal). get_or values f.0 None) g.fanins) ≡ Some bit → IsKnown (circuit_of n) columns rows t g.out.0 bit
-  gate_known values j g bit at known e =
-      IsKnown.gate (map (λ (f : Signal). get_or values f.0 None) g.fanins) (gate_stands n j g at) (are_known values known g.fanins) (cover_forces (cover_of n.covers g) (map (λ (f : Signal). get_or values f.0 None) g.fanins) bit e)
+    pub latches_more : (latches : List (Option Bool)) → l.out.0 < length values → value ≡ get_or latches j None → LatchesBelow n latches values j → LatchesBelow n latches (set values l.out.0 value) (j + 1)
+    latches_more latches within is before k m low at_m = go (below_or_here k j low)
+      where
+        go : (k < j) ⊎ (k ≡ j) → get_or (set values l.out.0 value) m.out.0 None ≡ get_or latches k None
+        go (inl h) =
+            get_or-set_other values l.out.0 m.out.0 value None
+            (apart m.out.0 l.out.0 (driver.Latch k) (driver.Latch j) (sound.latches k m at_m).owner (sound.latches j l at).owner (λ e. let same = same_latch e in omega (arith, h, same))) ∙ before k m h at_m
+        go (inr same) =
+            let one : l ≡ m = one_at n.latches j l m at (sym (ap (slice_get n.latches) same) ∙ at_m) in
+            ap (λ (x : LatchAt). get_or (set values l.out.0 value) x.out.0 None) (sym one) ∙ (get_or-set_same values l.out.0 value None within ∙ (is ∙ ap (λ (i : ℕ). get_or latches i None) (sym same)))
 
--- what a latch takes over is known of it in the next cycle
-pub taken_known : (n : NetView) (columns : List ℕ) (rows : List (List Bool)) (t : ℕ) (values : List (Option Bool)) (j : ℕ) (l : LatchAt) (bit : Bool) → slice_get n.latches j ≡ Some l → AreKnownBits n columns rows t values →
-    get_or values l.next.0 None ≡ Some bit → IsKnown (circuit_of n) columns rows (suc t) l.out.0 bit
-taken_known n columns rows t values j l bit at known e = IsKnown.later (latch_stands n j l at) (known l.next.0 bit (read_some values l.next.0 bit e))
+  module _ (values : List (Option Bool)) (j : ℕ) (g : Gate) (value : Option Bool) (at : slice_get n.gates j ≡ Some g) where
+    pub inputs_by_gate : (columns : List ℕ) (row : List Bool) → HasInputs n columns row values → HasInputs n columns row (set values g.out.0 value)
+    inputs_by_gate columns row before i c port at_port column =
+        get_or-set_other values g.out.0 port.signal.0 value None (apart port.signal.0 g.out.0 (driver.Input i) (driver.Gate j) (sound.inputs i port at_port).owner (sound.gates j g at).owner no_input_gate)
+        ∙ before i c port at_port column
 
--- the bit of an input in the row is known
-pub input_known : (n : NetView) (columns : List ℕ) (rows : List (List Bool)) (t i k : ℕ) (row : List Bool) (port : Port) (bit : Bool) → slice_get n.inputs i ≡ Some port → slice_get columns i ≡ Some k →
-    slice_get rows t ≡ Some row → slice_get row k ≡ Some bit → IsKnown (circuit_of n) columns rows t port.signal.0 bit
-input_known n columns rows t i k row port bit at column has e =
-    IsKnown.input k (stands_beside n.inputs columns i k port at column) (ap (λ (r : List Bool). slice_get r k) (get_or_from_slice_get rows t row [] has) ∙ e)
-  where
-    stands_beside : (ports : List Port) (order : List ℕ) (i k : ℕ) (port : Port) → slice_get ports i ≡ Some port → slice_get order i ≡ Some k → StandsBeside (map named ports) order port.signal.0 k
-    stands_beside [] order i k port h c = absurd (none-some port h)
-    stands_beside (p ∷ ports) [] i k port h c = absurd (none-some k c)
-    stands_beside (p ∷ ports) (o ∷ order) zero k port h c = inl (ap (λ (q : Port). q.signal.0) (same_Some p port h), same_Some o k c)
-    stands_beside (p ∷ ports) (o ∷ order) (suc i) k port h c = inr (stands_beside ports order i k port h c)
+    pub latches_by_gate : (latches : List (Option Bool)) → HasLatches n latches values → HasLatches n latches (set values g.out.0 value)
+    latches_by_gate latches before k l at_l =
+        get_or-set_other values g.out.0 l.out.0 value None (apart l.out.0 g.out.0 (driver.Latch k) (driver.Gate j) (sound.latches k l at_l).owner (sound.gates j g at).owner no_latch_gate) ∙ before k l at_l
 
--- nothing is known where all is unknown
-pub nothing_known : (n : NetView) (columns : List ℕ) (rows : List (List Bool)) (t : ℕ) (values : List (Option Bool)) → ((p : ℕ) → get_or values p None ≡ None) → AreKnownBits n columns rows t values
-nothing_known n columns rows t values none p bit at = absurd (wrong (sym (none p) ∙ get_or_from_slice_get values p (Some bit) None at))
-  where
-    wrong : ◌≡◌ {A = Option Bool} None (Some bit) → ⊥
-    wrong e = cc
+    -- gates up to this one read lower signals alone
+    fanins_stay : (h : Gate) (k : ℕ) → slice_get n.gates k ≡ Some h → ((f : Signal) → Contains h.fanins f → f.0 < g.out.0) → map (λ (f : Signal). get_or values f.0 None) h.fanins ≡ map (λ (f : Signal). get_or (set values g.out.0 value) f.0 None) h.fanins
+    fanins_stay h k at_h below =
+        map_same (λ (f : Signal). get_or values f.0 None) (λ (f : Signal). get_or (set values g.out.0 value) f.0 None) h.fanins
+        (λ f reads. sym (get_or-set_other values g.out.0 f.0 value None (λ e. let low = below f reads in omega (arith, low, e))))
 
-pub no_latch_known : (n : NetView) (columns : List ℕ) (rows : List (List Bool)) (t : ℕ) (values : List (Option Bool)) → ((j : ℕ) → get_or values j None ≡ None) → AreKnownLatches n columns rows t values
-no_latch_known n columns rows t values none j l bit at here = absurd (wrong (sym (none j) ∙ get_or_from_slice_get values j (Some bit) None here))
-  where
-    wrong : ◌≡◌ {A = Option Bool} None (Some bit) → ⊥
-    wrong e = cc
+    pub gates_more : g.out.0 < length values → value ≡ cover_three (cover_of n.covers g) (map (λ (f : Signal). get_or values f.0 None) g.fanins) → GatesBelow n values j → GatesBelow n (set values g.out.0 value) (j + 1)
+    gates_more within is before k h low at_h = go (below_or_here k j low)
+      where
+        above : (f : Signal) → Contains h.fanins f → f.0 < h.out.0
+        above f reads = All-contains (λ (s : Signal). s.0 < h.out.0) h.fanins f (sound.gates k h at_h).above reads
+
+        go : (k < j) ⊎ (k ≡ j) → get_or (set values g.out.0 value) h.out.0 None ≡ cover_three (cover_of n.covers h) (map (λ (f : Signal). get_or (set values g.out.0 value) f.0 None) h.fanins)
+        go (inl l) =
+            let lower : h.out.0 < g.out.0 = sound.ordered k j h g l at_h at in
+            get_or-set_other values g.out.0 h.out.0 value None (λ e. omega (arith, lower, e))
+            ∙ (before k h l at_h ∙ ap (cover_three (cover_of n.covers h)) (fanins_stay h k at_h (λ f reads. let low = above f reads in omega (arith, low, lower))))
+        go (inr same) =
+            let one : g ≡ h = one_at n.gates j g h at (sym (ap (slice_get n.gates) same) ∙ at_h) in
+            let stays : cover_three (cover_of n.covers g) (map (λ (f : Signal). get_or values f.0 None) g.fanins) ≡ cover_three (cover_of n.covers g) (map (λ (f : Signal). get_or (set values g.out.0 value) f.0 None) g.fanins) =
+            ap (cover_three (cover_of n.covers g)) (fanins_stay g j at (λ f reads. All-contains (λ (s : Signal). s.0 < g.out.0) g.fanins f (sound.gates j g at).above reads)) in
+            ap (λ (x : Gate). get_or (set values g.out.0 value) x.out.0 None) (sym one)
+            ∙ (get_or-set_same values g.out.0 value None within ∙ (is ∙ (stays ∙ ap (λ (x : Gate). cover_three (cover_of n.covers x) (map (λ (f : Signal). get_or (set values g.out.0 value) f.0 None) x.fanins)) one)))
 
 -- the column at a place
 pub column_at : (columns : List ℕ) (i : ℕ) → i < length columns → slice_get columns i ≡ Some (get_or columns i 0)

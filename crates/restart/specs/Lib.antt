@@ -1,3 +1,5 @@
 pub mod Behind
+pub mod Cycle
 pub mod Agreement
 pub mod Sequence
+pub mod Report

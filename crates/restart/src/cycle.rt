@@ -1,7 +1,7 @@
 //! What is known in one cycle.
 
-ghost use Rattle.std.specs.Prelude.{◌≡◌, ◌<◌, ℕ, suc, Bool, List, None, length, map, slice_get, slice_index_or, IfSome};
-ghost use Rattle.restart.specs.Behind.{HasRow, AreKnownLatches, AreKnownBits};
+ghost use Rattle.std.specs.Prelude.{◌≡◌, ◌<◌, ℕ, Bool, List, Option, None, length, map, slice_get, slice_index_or, IfSome};
+ghost use Rattle.restart.specs.Cycle.{HasInputs, HasLatches, AreOfCycle, TakesOver};
 ghost use Rattle.flat_net.specs.View.{cover_of};
 ghost use Rattle.circuit_laws.specs.start_laws.Known.{cover_three};
 
@@ -21,32 +21,19 @@ pub(crate) fn compute(
     requires latches { length latches.now ≡ length net.now.latches }
     requires values { length values.old ≡ length net.now.drivers }
     ensures size { length values.new ≡ length values.old }
-    ensures known { (rows : List (List Bool)) (t : ℕ) → HasRow rows t row.now → AreKnownLatches net.now columns.now rows t latches.now → AreKnownBits net.now columns.now rows t values.new }
+    ensures cycle { AreOfCycle net.now columns.now row.now latches.now values.new }
 {
-    net.keeps();
-    forget(values);
     put_inputs(net, columns, row, values);
     put_latches(net, latches, values);
     put_gates(net, values);
-}
-
-/// Nothing is known of a signal.
-fn forget(values: &mut [Option<bool>])
-    ensures size { length values.new ≡ length values.old }
-    ensures none { (p : ℕ) → slice_index_or values.new p None ≡ None }
-{
-    for i in 0..values.len() {
-        values[i] = None;
-    }
 }
 
 /// Puts the bits of the inputs that the row has a column for.
 fn put_inputs(net: &Net, columns: &[u32], row: &[bool], values: &mut [Option<bool>])
     requires columns { length columns.now ≡ length net.now.inputs }
     requires values { length values.old ≡ length net.now.drivers }
-    requires none { (p : ℕ) → slice_index_or values.old p None ≡ None }
     ensures size { length values.new ≡ length values.old }
-    ensures known { (rows : List (List Bool)) (t : ℕ) → HasRow rows t row.now → AreKnownBits net.now columns.now rows t values.new }
+    ensures put { HasInputs net.now columns.now row.now values.new }
 {
     net.keeps();
     for (i, port) in net.inputs().iter().enumerate() {
@@ -66,7 +53,8 @@ fn put_latches(net: &Net, latches: &[Option<bool>], values: &mut [Option<bool>])
     requires latches { length latches.now ≡ length net.now.latches }
     requires values { length values.old ≡ length net.now.drivers }
     ensures size { length values.new ≡ length values.old }
-    ensures known { (columns : List ℕ) (rows : List (List Bool)) (t : ℕ) → AreKnownLatches net.now columns rows t latches.now → AreKnownBits net.now columns rows t values.old → AreKnownBits net.now columns rows t values.new }
+    ensures inputs { (columns : List ℕ) (row : List Bool) → HasInputs net.now columns row values.old → HasInputs net.now columns row values.new }
+    ensures put { HasLatches net.now latches.now values.new }
 {
     net.keeps();
     for (j, latch) in net.latches().iter().enumerate() {
@@ -78,7 +66,7 @@ fn put_latches(net: &Net, latches: &[Option<bool>], values: &mut [Option<bool>])
 fn put_gates(net: &Net, values: &mut [Option<bool>])
     requires values { length values.old ≡ length net.now.drivers }
     ensures size { length values.new ≡ length values.old }
-    ensures known { (columns : List ℕ) (rows : List (List Bool)) (t : ℕ) → AreKnownBits net.now columns rows t values.old → AreKnownBits net.now columns rows t values.new }
+    ensures put { (columns : List ℕ) (row : List Bool) (latches : List (Option Bool)) → HasInputs net.now columns row values.old → HasLatches net.now latches values.old → AreOfCycle net.now columns row latches values.new }
 {
     net.keeps();
     for (j, gate) in net.gates().iter().enumerate() {
@@ -104,7 +92,7 @@ pub(crate) fn take_over(net: &Net, values: &[Option<bool>], latches: &mut [Optio
     requires values { length values.now ≡ length net.now.drivers }
     requires latches { length latches.old ≡ length net.now.latches }
     ensures size { length latches.new ≡ length latches.old }
-    ensures known { (columns : List ℕ) (rows : List (List Bool)) (t : ℕ) → AreKnownBits net.now columns rows t values.now → AreKnownLatches net.now columns rows (suc t) latches.new }
+    ensures taken { TakesOver net.now values.now latches.new }
 {
     net.keeps();
     for (j, latch) in net.latches().iter().enumerate() {

@@ -1,10 +1,10 @@
 //! The three-valued run over the rows of a stimulus.
 
-ghost use Rattle.std.specs.Prelude.{◌≡◌, ◌-◌, ℕ, Bool, None, Some, length, slice_get, slice_index_or, IfOk};
+ghost use Rattle.std.specs.Prelude.{◌≡◌, ◌-◌, ℕ, Bool, List, None, Some, length, slice_get, slice_index_or, IfOk};
 ghost use Rattle.std.specs.List.{Contains};
 ghost use Rattle.flat_net.specs.View.{circuit_of};
 ghost use Rattle.circuit_laws.specs.start_laws.Known.{IsKnown};
-ghost use Rattle.restart.specs.Behind.{IsColumnOf, AreColumnsOf, AreKnownLatches, AreKnownBits, AreKnownBehind, KnowsOutput};
+ghost use Rattle.restart.specs.Behind.{IsColumnOf, AreColumnsOf, IsThreeRunTo, AreKnownBehind, KnowsOutput};
 
 use crate::cycle::{compute, take_over};
 use flat_net::{Bits, NameTable, Net, NoMemory};
@@ -61,6 +61,7 @@ fn run_to(
     requires nothing { (p : ℕ) → slice_index_or values.old p None ≡ None }
     ensures { (bit : Bool) → result ≡ Some bit → (p : ℕ) × Contains (circuit_of net.now).outputs (record { name = name.now; place = p }) × IsKnown (circuit_of net.now) columns.now rows.now (length rows.now - 1) p bit }
 {
+    net.keeps();
     run(net, columns, rows, latches, values);
     value_of(net, values, name)
 }
@@ -115,8 +116,8 @@ fn run(
     requires nothing { (p : ℕ) → slice_index_or values.old p None ≡ None }
     ensures size { length latches.new ≡ length latches.old }
     ensures values_size { length values.new ≡ length values.old }
-    ensures known { AreKnownLatches net.now columns.now rows.now (length rows.now) latches.new }
-    ensures last { AreKnownBits net.now columns.now rows.now (length rows.now - 1) values.new }
+    ensures run { IsThreeRunTo net.now columns.now rows.now latches.new values.new }
+    ensures known { (names : List (List ℕ)) → AreColumnsOf net.now names columns.now → AreKnownBehind net.now names rows.now latches.new }
 {
     net.keeps();
     for row in rows {

@@ -14,6 +14,7 @@ use Rattle.job_circuit.specs.declared.job_replay.replays.ReplayReport.TheVariant
 use Rattle.job_circuit.specs.job_replay.Told.{report_with}
 use Rattle.job_circuit.proofs.Means.{graph_means, sim_means}
 use Rattle.job_circuit.proofs.CompleteReports.{graph_complete, sim_complete}
+use Rattle.job_circuit.proofs.SimBehindFinds.{sim_behind_means, sim_behind_complete}
 use Rattle.job_circuit.proofs.job_replay.Means.{replay_means}
 use Rattle.job_circuit.proofs.job_replay.CompleteReplays.{replay_complete}
 use Rattle.job_check.proofs.check_meaning.Complete.{check_complete}
@@ -57,6 +58,7 @@ means held (Some (task.CheckPair a b pair settings)) before now f proofs name fo
 means held (Some (task.CheckRenamed a b pairs settings)) before now f proofs name found w = renamed_means held (check_of settings a b) pairs before now proofs f name found w
 means held (Some (task.Graph a mode)) before now f proofs name found w = graph_means mode (held a) before now f proofs name found w
 means held (Some (task.Sim a s mode power reset)) before now f proofs name found w = sim_means mode (held a) (held s) power reset before now f proofs name found w
+means held (Some (task.SimAfter a s rows power)) before now f proofs name found w = sim_behind_means (held a) (held rows) (held s) power before now f proofs name found w
 means held (Some (task.Replay a b s mode settles)) before now f proofs name found w = replay_means (report_with settles) mode (held a) (held b) (held s) before now f proofs name found w
 means held (Some (task.Settle a b s mode)) before now f proofs name found w = replay_means told.Settled mode (held a) (held b) (held s) before now f proofs name found w
 means held (Some (task.Gen seed regroup conflicts)) before now f proofs name found w = gen_means (record { seed = seed; regroup = regroup; conflicts = conflicts }) before now f proofs name found w
@@ -80,6 +82,7 @@ memory_means held (Some (task.CheckPair a b pair settings)) before now proofs = 
 memory_means held (Some (task.CheckRenamed a b pairs settings)) before now proofs = tt
 memory_means held (Some (task.Graph a mode)) before now proofs = tt
 memory_means held (Some (task.Sim a s mode power reset)) before now proofs = tt
+memory_means held (Some (task.SimAfter a s rows power)) before now proofs = tt
 memory_means held (Some (task.Replay a b s mode settles)) before now proofs = tt
 memory_means held (Some (task.Settle a b s mode)) before now proofs = tt
 memory_means held (Some (task.Gen seed regroup conflicts)) before now proofs = tt
@@ -102,6 +105,7 @@ fault_means held (Some (task.CheckPair a b pair settings)) before now proofs = t
 fault_means held (Some (task.CheckRenamed a b pairs settings)) before now proofs = tt
 fault_means held (Some (task.Graph a mode)) before now proofs = tt
 fault_means held (Some (task.Sim a s mode power reset)) before now proofs = tt
+fault_means held (Some (task.SimAfter a s rows power)) before now proofs = tt
 fault_means held (Some (task.Replay a b s mode settles)) before now proofs = tt
 fault_means held (Some (task.Settle a b s mode)) before now proofs = tt
 fault_means held (Some (task.Gen seed regroup conflicts)) before now proofs = tt
@@ -125,6 +129,7 @@ is_complete held (Some (task.CheckPair a b pair settings)) f found = pair_comple
 is_complete held (Some (task.CheckRenamed a b pairs settings)) f found = renamed_complete held settings a b pairs f found
 is_complete held (Some (task.Graph a mode)) f found = graph_complete mode (held a) f found
 is_complete held (Some (task.Sim a s mode power reset)) f found = sim_complete mode (held a) (held s) power reset f found
+is_complete held (Some (task.SimAfter a s rows power)) f found = sim_behind_complete (held a) (held rows) (held s) power f found
 is_complete held (Some (task.Replay a b s mode settles)) f found = replay_complete (report_with settles) mode (held a) (held b) (held s) f found
 is_complete held (Some (task.Settle a b s mode)) f found = replay_complete told.Settled mode (held a) (held b) (held s) f found
 is_complete held (Some (task.Gen seed regroup conflicts)) f found = gen_complete (record { seed = seed; regroup = regroup; conflicts = conflicts }) f found
@@ -148,6 +153,7 @@ memory_is_complete held (Some (task.CheckPair a b pair settings)) = λ can. tt
 memory_is_complete held (Some (task.CheckRenamed a b pairs settings)) = λ can. tt
 memory_is_complete held (Some (task.Graph a mode)) = λ can. tt
 memory_is_complete held (Some (task.Sim a s mode power reset)) = λ can. tt
+memory_is_complete held (Some (task.SimAfter a s rows power)) = λ can. inr refl
 memory_is_complete held (Some (task.Replay a b s mode settles)) = λ can. tt
 memory_is_complete held (Some (task.Settle a b s mode)) = λ can. tt
 memory_is_complete held (Some (task.Gen seed regroup conflicts)) = tt

@@ -13,6 +13,7 @@ use Rattle.job_base.specs.declared.status.StatusName.TheVariants as status
 use Rattle.job_base.specs.Lines.{finding_text}
 use Rattle.job_cert.specs.sec_files.Reading.{Held}
 use Rattle.job_circuit.specs.Reports.{IsGraphFound, IsSimFound}
+use Rattle.job_circuit.specs.SimBehind.{IsSimBehindFound}
 use Rattle.job_circuit.specs.job_replay.Replays.{IsReplayFound}
 use Rattle.job_circuit.specs.declared.job_replay.replays.ReplayReport.TheVariants as told
 use Rattle.job_circuit.specs.job_replay.Told.{report_with}
@@ -40,6 +41,7 @@ IsFoundOfJob held (task.CheckPair a b pair settings) f = IsPairFound held pair (
 IsFoundOfJob held (task.CheckRenamed a b pairs settings) f = IsRenamedFound held (check_of settings a b) pairs f
 IsFoundOfJob held (task.Graph a mode) f = IsGraphFound mode (held a) f
 IsFoundOfJob held (task.Sim a s mode power reset) f = IsSimFound mode (held a) (held s) power reset f
+IsFoundOfJob held (task.SimAfter a s rows power) f = IsSimBehindFound (held a) (held rows) (held s) power f
 IsFoundOfJob held (task.Replay a b s mode settles) f = IsReplayFound (report_with settles) mode (held a) (held b) (held s) f
 IsFoundOfJob held (task.Settle a b s mode) f = IsReplayFound told.Settled mode (held a) (held b) (held s) f
 IsFoundOfJob held (task.Gen seed regroup conflicts) f = IsGenFound (record { seed = seed; regroup = regroup; conflicts = conflicts }) f

@@ -4,6 +4,7 @@ use Rattle.command_line.specs.declared.task.Task.{Task}
 use Rattle.command_line.specs.declared.task.Task.TheVariants as task
 use Rattle.job_cert.specs.sec_files.Reading.{IsLoaded}
 use Rattle.job_circuit.specs.Reports.{graph_paths, sim_paths}
+use Rattle.job_circuit.specs.SimBehind.{behind_paths, LetsGoOn}
 use Rattle.job_circuit.specs.job_replay.Replays.{replay_paths}
 use Rattle.job_check.specs.check_meaning.check_found.Check.{check_paths}
 use Rattle.job_pair.specs.Found.{check_of}
@@ -22,6 +23,7 @@ paths_of (task.CheckPair a b pair settings) = check_paths (check_of settings a b
 paths_of (task.CheckRenamed a b pairs settings) = renamed_paths a b pairs
 paths_of (task.Graph a mode) = graph_paths a
 paths_of (task.Sim a s mode power reset) = sim_paths a s
+paths_of (task.SimAfter a s rows power) = behind_paths a rows s
 paths_of (task.Replay a b s mode settles) = replay_paths a b s
 paths_of (task.Settle a b s mode) = replay_paths a b s
 paths_of (task.Gen seed regroup conflicts) = []
@@ -49,6 +51,7 @@ GoesOn (task.CheckPair a b pair settings) = IsLoaded
 GoesOn (task.CheckRenamed a b pairs settings) = IsLoaded
 GoesOn (task.Graph a mode) = IsLoaded
 GoesOn (task.Sim a s mode power reset) = IsLoaded
+GoesOn (task.SimAfter a s rows power) = LetsGoOn
 GoesOn (task.Replay a b s mode settles) = IsLoaded
 GoesOn (task.Settle a b s mode) = IsLoaded
 GoesOn (task.Gen seed regroup conflicts) = IsLoaded

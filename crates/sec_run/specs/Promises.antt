@@ -8,6 +8,7 @@ use Rattle.job_base.specs.declared.status.StatusName.{StatusName}
 use Rattle.job_base.specs.declared.status.StatusName.TheVariants as status
 use Rattle.job_cert.specs.sec_files.Reading.{Held}
 use Rattle.job_circuit.specs.Reports.{GraphMeans, SimMeans, IsGraphComplete, IsSimComplete}
+use Rattle.job_circuit.specs.SimBehind.{SimBehindMeans, IsSimBehindComplete}
 use Rattle.job_circuit.specs.job_replay.Replays.{ReplayMeans, IsReplayComplete}
 use Rattle.job_circuit.specs.declared.job_replay.replays.ReplayReport.TheVariants as told
 use Rattle.job_circuit.specs.job_replay.Told.{report_with}
@@ -37,6 +38,7 @@ Means held (Some (task.CheckPair a b pair settings)) before now proofs name = Pa
 Means held (Some (task.CheckRenamed a b pairs settings)) before now proofs name = RenamedMeans held (check_of settings a b) pairs before now proofs name
 Means held (Some (task.Graph a mode)) before now proofs name = GraphMeans mode (held a) before now proofs name
 Means held (Some (task.Sim a s mode power reset)) before now proofs name = SimMeans mode (held a) (held s) power reset before now proofs name
+Means held (Some (task.SimAfter a s rows power)) before now proofs name = SimBehindMeans (held a) (held rows) (held s) power before now name
 Means held (Some (task.Replay a b s mode settles)) before now proofs name = ReplayMeans (report_with settles) mode (held a) (held b) (held s) before now proofs name
 Means held (Some (task.Settle a b s mode)) before now proofs name = ReplayMeans told.Settled mode (held a) (held b) (held s) before now proofs name
 Means held (Some (task.Gen seed regroup conflicts)) before now proofs name = GenMeans (record { seed = seed; regroup = regroup; conflicts = conflicts }) before now proofs name
@@ -60,6 +62,7 @@ IsComplete held (Some (task.CheckPair a b pair settings)) name = IsPairComplete 
 IsComplete held (Some (task.CheckRenamed a b pairs settings)) name = IsRenamedComplete held (check_of settings a b) pairs name
 IsComplete held (Some (task.Graph a mode)) name = IsGraphComplete mode (held a) name
 IsComplete held (Some (task.Sim a s mode power reset)) name = IsSimComplete mode (held a) (held s) power name
+IsComplete held (Some (task.SimAfter a s rows power)) name = IsSimBehindComplete (held a) (held rows) (held s) power name
 IsComplete held (Some (task.Replay a b s mode settles)) name = IsReplayComplete (report_with settles) mode (held a) (held b) (held s) name
 IsComplete held (Some (task.Settle a b s mode)) name = IsReplayComplete told.Settled mode (held a) (held b) (held s) name
 IsComplete held (Some (task.Gen seed regroup conflicts)) name = IsGenAnswer name

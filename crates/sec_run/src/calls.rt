@@ -21,7 +21,7 @@ use job_cert::job_lrat::{Refutation, check_refutation};
 use job_cert::{Certification, Wanted, certify};
 use job_check::{Comparison, check};
 use job_circuit::job_replay::{Replay, ReplayReport, replay_files};
-use job_circuit::{Simulation, simulate, tell_graph};
+use job_circuit::{Simulation, SimulationBehind, simulate, simulate_behind, tell_graph};
 use job_gen::{Generation, compare_generated};
 use job_pair::job_renamed::{RenamedComparison, compare_renamed};
 use job_pair::{PairComparison, compare_pair};
@@ -118,6 +118,15 @@ fn find<S: Shelf>(alloc: Global, task: &Task, shelf: &mut S) -> Result<Finding, 
                 reset: *reset,
             };
             simulate(alloc, &simulation, shelf)
+        }
+        Task::SimAfter { a, s, rows, power } => {
+            let simulation = SimulationBehind {
+                circuit: a.as_str(),
+                before: rows.as_str(),
+                stimulus: s.as_str(),
+                power: digits_of(power),
+            };
+            simulate_behind(alloc, &simulation, shelf)
         }
         Task::Replay {
             a,

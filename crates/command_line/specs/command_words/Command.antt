@@ -53,7 +53,7 @@ abbrev pub graph_app : App
 graph_app = fold with_rule (new_app (codes "graph")) (place (codes "a") ∷ mode ∷ [])
 
 abbrev pub sim_app : App
-sim_app = fold with_rule (new_app (codes "sim")) (place (codes "a") ∷ place (codes "s") ∷ mode ∷ option (codes "power") ∷ flag (codes "reset") ∷ [])
+sim_app = fold with_rule (new_app (codes "sim")) (place (codes "a") ∷ place (codes "s") ∷ mode ∷ option (codes "power") ∷ flag (codes "reset") ∷ option (codes "after") ∷ [])
 
 abbrev pub replay_app : App
 replay_app = fold with_rule (new_app (codes "replay")) (place (codes "a") ∷ place (codes "b") ∷ place (codes "s") ∷ mode ∷ flag (codes "settles") ∷ [])

@@ -78,12 +78,13 @@ const CHECK: [Word<'static>; 12] = [
 
 const GRAPH: [Word<'static>; 2] = [Word::Place("a"), MODE];
 
-const SIM: [Word<'static>; 5] = [
+const SIM: [Word<'static>; 6] = [
     Word::Place("a"),
     Word::Place("s"),
     MODE,
     Word::Option("power"),
     Word::Flag("reset"),
+    Word::Option("after"),
 ];
 
 const REPLAY: [Word<'static>; 5] = [

@@ -21,12 +21,11 @@ use Rattle.job_signals.specs.declared.judging.JudgeError as ties_error
 use Rattle.job_signals.specs.declared.judging.JudgeError.TheVariants as ties
 use Rattle.job_signals.specs.Judged.{judgement_of}
 use Rattle.job_signals.specs.Ends as ties_ends
-use Rattle.restart.specs.Behind.{begun}
+use Rattle.restart.specs.Behind.{begun, IsBegun}
 use Rattle.restart.proofs.Begun.{behind_agree}
 use Rattle.job_after.specs.declared.fault.AfterFault.{AfterFault}
 use Rattle.job_after.specs.declared.fault.AfterFault.TheVariants as fault
 use Rattle.job_after.specs.declared.judging.Judged.{Judged}
-use Rattle.job_after.specs.Judged.{IsBegun}
 use Rattle.job_after.specs.Report.{begun_text}
 use Rattle.job_after.specs.Ends.{FitsAfter, header_fault}
 use Rattle.job_signals.specs.job_begun.Judged.{Begun, IsTold, IsJudged}

@@ -1,4 +1,5 @@
 -- What is judged of two nets by an induction over cycles behind the rows of a stimulus.
+use Rattle.restart.specs.Behind.{IsBegun}
 use Rattle.std.specs.Prelude.{◌≡◌, ℕ, Bool, true, false, List, [], ◌++◌, length, Option}
 use Rattle.flat_net.specs.View.{NetView, circuit_of}
 use Rattle.pair_decide.specs.declared.query.Proof.{Proof}
@@ -7,7 +8,6 @@ use Rattle.job_base.specs.declared.finding.Judgement.TheVariants as judgement
 use Rattle.sec_jobs.specs.job_induct.induct_meaning.Judged as blocks
 use Rattle.job_signals.specs.Judged as ties
 use Rattle.restart.specs.Agreement.{AgreeBehind, Each}
-use Rattle.job_after.specs.Judged.{IsBegun}
 use Rattle.job_after.specs.Report.{begun_text}
 
 -- both nets as they begin behind the rows, and what is known of their latches there

@@ -7,8 +7,9 @@ ghost use Rattle.job_signals.specs.job_begun.Ends.{by_ties, by_blocks, IsToldBy,
 
 use crate::judging;
 use flat_net::Net;
-use job_after::{AfterFault, Judged, begin, match_header, put_begun};
+use job_after::{AfterFault, Judged, match_header, put_begun};
 use job_base::Proofs;
+use restart::begin;
 use sec_base::{MAX_CONFLICTS, NoMemory, Seq, Text, put};
 use sec_jobs::job_induct;
 use sec_setup::ports::name_tables::table_of_names;

@@ -1,8 +1,8 @@
 -- What is judged, or the refusal.
 use Rattle.std.proofs.Common.{◌≡◌, ◌∙◌, ℕ, List, Bool, length, sym, ap, subst, Option, Err}
 use Rattle.flat_net.specs.View.{NetView}
-use Rattle.restart.specs.Behind.{begun}
-use Rattle.job_after.specs.Judged.{Behind, IsBegun, IsBehind}
+use Rattle.restart.specs.Behind.{begun, IsBegun}
+use Rattle.job_after.specs.Judged.{Behind, IsBehind}
 use Rattle.job_after.specs.Report.{after_text}
 use Rattle.job_after.specs.Ends.{FitsAfter, header_fault, search_fault}
 use Rattle.job_after.proofs.Starts.{comparable, long}

@@ -2,11 +2,11 @@
 use Rattle.std.proofs.Common.{◌≡◌, ◌∙◌, ℕ, List, Bool, length, refl, sym, ap, subst, inl, inr, Option, Err}
 use Rattle.flat_net.specs.Comparable.{IsComparable}
 use Rattle.flat_net.specs.View.{NetView}
-use Rattle.restart.specs.Behind.{begun}
+use Rattle.restart.specs.Behind.{begun, IsBegun}
 use Rattle.cycle_under.specs.declared.found.SearchUnder.{SearchUnder}
 use Rattle.cycle_under.specs.Searches.{AreSearchedUnder, IsMadeUnder}
 use Rattle.job_after.specs.Ends.{FitsAfter}
-use Rattle.job_after.specs.Judged.{Behind, IsBegun}
+use Rattle.job_after.specs.Judged.{Behind}
 use Rattle.job_after.proofs.Starts.{comparable, long}
 use Rattle.job_after.proofs.Zeros.{stays}
 use Rattle.job_after_under.specs.declared.fault.Fault.TheVariants as fault

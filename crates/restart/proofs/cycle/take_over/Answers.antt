@@ -1,8 +1,8 @@
 -- The latch that the loop is at takes over what is known of its data.
 use Rattle.std.proofs.Common.{◌≡◌, ◌<◌, length, sym, ◌∙◌, ap, arith}
-use Rattle.std.proofs.lemmas.Option.{slice_get_within, same_Some}
+use Rattle.std.proofs.lemmas.Option.{slice_get_within}
 use Rattle.cycle_sim.proofs.Lists.{item_at}
-use Rattle.restart.proofs.Bits.{taken_more, taken_known}
+use Rattle.restart.proofs.Bits.{taken_more}
 use Rattle.restart.proofs.cycle.take_over.Goals as goal
 
 pub bounds-values-latch : goal.bounds-values-latch
@@ -17,8 +17,6 @@ loop-j-preserved c =
     let size : length c.loop-j.latches ≡ length c.args.net.now.latches = omega (arith, c.loop-j.auto.latches, c.requires.latches) in
     taken_more c.args.net.now c.args.values.now c.loop-j.latches c.loop-j.j c.latch-item.result at size c.loop-j.invariant
 
-pub returns-clause-known : goal.returns-clause-known
-returns-clause-known c = λ columns rows t known j l bit at here.
-    let w = slice_get_within c.args.net.now.latches j l at in
-    let low : j < c.loop-j.j = let e = ap length c.latches-latch-items.ensures in omega (arith, w, e) in
-    taken_known c.args.net.now columns rows t c.args.values.now j l bit at known (same_Some _ _ (sym (c.loop-j.invariant j l low at) ∙ here))
+pub returns-clause-taken : goal.returns-clause-taken
+returns-clause-taken c = λ j l at.
+    c.loop-j.invariant j l (let w = slice_get_within c.args.net.now.latches j l at in let e = ap length c.latches-latch-items.ensures in omega (arith, w, e, c.loop-j-test.false)) at

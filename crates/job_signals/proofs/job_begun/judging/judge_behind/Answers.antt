@@ -1,6 +1,6 @@
 -- What is judged, or the refusal.
+use Rattle.restart.specs.Behind.{IsBegun}
 use Rattle.std.proofs.Common.{◌≡◌, ◌∙◌, ℕ, List, Bool, ◌++◌, length, sym, ap, subst, Option, Err}
-use Rattle.job_after.specs.Judged.{IsBegun}
 use Rattle.job_after.specs.Report.{begun_text}
 use Rattle.job_after.specs.Ends.{FitsAfter, header_fault}
 use Rattle.job_after.proofs.Starts.{comparable, long}
