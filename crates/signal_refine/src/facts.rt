@@ -60,12 +60,7 @@ impl Facts {
     }
 
     /// Whether the two literals are one under every assignment, as far as a short search shows. If so, that is known since.
-    pub(crate) fn prove_one(
-        &mut self,
-        alloc: Global,
-        l: Lit,
-        r: Lit,
-    ) -> Result<Proved, NoMemory>
+    pub(crate) fn prove_one(&mut self, alloc: Global, l: Lit, r: Lit) -> Result<Proved, NoMemory>
         requires known { AreKnown self.old }
         requires left { l.0 < 2 * length self.old.aig }
         requires right { r.0 < 2 * length self.old.aig }

@@ -2,7 +2,9 @@
 
 ghost use Rattle.std.specs.Prelude.{◌<◌, length};
 
-use crate::lanes::{Block, and_blocks, block_at, block_of, is_whole, put_block, turned, xor_blocks};
+use crate::lanes::{
+    Block, and_blocks, block_at, block_of, is_whole, put_block, turned, xor_blocks,
+};
 use crate::scenes::Frame;
 use aig::{Aig, Lit, NoMemory, Node};
 use circuit_laws::signal_laws::Anchor;

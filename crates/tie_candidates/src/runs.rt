@@ -79,7 +79,12 @@ fn mix(keys: &mut [u64], classes: &Classes, table: &SignatureTable, nodes: u32)
     for n in 0..nodes {
         let entry = (n as usize).saturating_add(1);
         if entry < keys.len() {
-            keys[entry] = mixed(keys[entry], table.block(n), classes.phase(entry), [u64::MAX; 8]);
+            keys[entry] = mixed(
+                keys[entry],
+                table.block(n),
+                classes.phase(entry),
+                [u64::MAX; 8],
+            );
         }
     }
 }
@@ -142,7 +147,11 @@ fn met_by(alloc: Global, words: &[u64], premise: &Premise<'_>) -> Result<Block, 
 fn block_where(block: Block, met: Block, bit: bool) -> Block {
     let mut made = [0; 8];
     for i in 0..8 {
-        made[i] = if bit { block[i] | !met[i] } else { block[i] & met[i] };
+        made[i] = if bit {
+            block[i] | !met[i]
+        } else {
+            block[i] & met[i]
+        };
     }
     made
 }
