@@ -17,7 +17,7 @@ use Rattle.event_setup.specs.event_meaning.event_meaning_under.Answered.{Compare
 use Rattle.job_base.specs.sec_files.Loading.{IsTooLong, HasFault, HasDesignFault, HasRecordFault}
 use Rattle.job_base.specs.sec_files.job_files.Reading.{Held, IsLoaded}
 use Rattle.job_check.specs.check_meaning.check_found.Check.{Check}
-use Rattle.job_base.specs.sec_files.job_files.Texts.{OfNets, OfThreeNets}
+use Rattle.job_base.specs.sec_files.job_files.Texts.{OfTexts, OfThreeTexts, OfNets, OfThreeNets}
 
 -- what is said of two texts without an assumption, and of three with one
 abbrev pub OfGiven : Held → Check → Option (List ℕ) → (List ℕ → List ℕ → Type 0) → (List ℕ → List ℕ → List ℕ → Type 0) → Type 0
