@@ -1,6 +1,6 @@
 -- From what is known behind the rows of a stimulus a run goes on as one from initial values; so a report of the latter tells of it.
 use Rattle.std.proofs.Common.{◌≡◌, ◌∙◌, ℕ, zero, suc, ◌+◌, ◌<◌, ◌≤◌, Bool, true, false, List, [], ◌∷◌, ◌++◌, length, map, slice_get, refl, sym, ap, subst, arith, inl, inr, ◌⊎◌, Option, Some, None, Result, Ok, Err, codes}
-use Rattle.std.specs.Prelude.{◌==◌, ◌&&◌, ◌||◌, if◌then◌else◌}
+use Rattle.std.specs.Prelude.{◌==◌, ◌&&◌, ◌||◌, if◌then◌else◌, IsErrAnd}
 use Rattle.std.specs.List.{All, list_all}
 use Rattle.std.proofs.lemmas.Option.{slice_get_within, same_Some}
 use Rattle.circuit_theory.specs.declared.Mode.TheVariants.{Plain}
@@ -62,7 +62,7 @@ word_same n known (Some word) = refl
 module _ (n : NetView) (first : List (List ℕ)) (before : List (List Bool)) (wide : All (λ (row : List Bool). length row ≡ length first) before) (names : List (List ℕ)) (rows : List (List Bool)) (power : Option (List ℕ))
     (fits : first_misfit n names power ≡ None) where
   module _ (known : List (Option Bool)) (start : NetView) (is : IsBegun n first before known start) (run : ℕ → ℕ → Bool) (over : RunsOver n first before names rows known (word_bits n power) run) (some : 0 < length rows) where
-    tail : ℕ → ℕ → Bool
+    abbrev tail : ℕ → ℕ → Bool
     tail s = run (s + length before)
 
     begins : BeginsWith (circuit_of n) is.are_known.columns before run
@@ -112,3 +112,17 @@ unreported n start first before known names rows power (refused.Misfit m) fits i
 unreported n start first before known names rows power refused.TooLarge fits is h = absurd h.1
 unreported n start first before known names rows power (refused.Limit name proof) fits is h = absurd h.1
 unreported n start first before known names rows power refused.NoMemory fits is h = tt
+
+-- the refusal as it is handed on
+pub refused_run : (n : NetView) (first : List (List ℕ)) (before : List (List Bool)) (names : List (List ℕ)) (rows : List (List Bool)) (power : Option (List ℕ)) (r : Result (List ℕ) SimulateError) (e : SimulateError) → IsErrAnd r (λ f. f ≡ e) →
+    RunsBehind n first before names rows power (Err e) → RunsBehind n first before names rows power r
+refused_run n first before names rows power (Ok report) e is h = absurd is
+refused_run n first before names rows power (Err f) e is h = subst (λ (g : SimulateError). RunsBehind n first before names rows power (Err g)) (sym is) h
+
+pub none_of : (o : Option Misfit) → ((m : Misfit) → o ≡ Some m → ⊥) → o ≡ None
+none_of None h = refl
+none_of (Some m) h = absurd (h m refl)
+
+-- there is a value for each latch of the net that begins
+pub long : (n start : NetView) (first : List (List ℕ)) (before : List (List Bool)) (known : List (Option Bool)) → IsBegun n first before known start → length known ≡ length start.latches
+long n start first before known is = is.each ∙ sym (ap (λ (m : NetView). length m.latches) is.is ∙ begun_long n.latches known)

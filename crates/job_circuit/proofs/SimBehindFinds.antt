@@ -66,10 +66,10 @@ behind_circuit circuit before stimulus power (refusal.Pair name) h = h
 behind_circuit circuit before stimulus power (refusal.Pairs fault) h = h
 
 module _ (held : Held) (earlier now : List ℕ → ℕ) (circuit before stimulus : List ℕ) (power : Option (List ℕ)) where
-  P : Finding → Type 0
+  abbrev P : Finding → Type 0
   P f = IsSimBehindFound (held circuit) (held before) (held stimulus) power f
 
-  Failed : Type 0
+  abbrev Failed : Type 0
   Failed = ReadFailedAfter LetsGoOn held earlier now (behind_paths circuit before stimulus)
 
   third_failed : LetsGoOn (held circuit) → LetsGoOn (held before) → Rose (earlier stimulus) (now stimulus) → Failed
