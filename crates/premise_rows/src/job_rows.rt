@@ -12,7 +12,7 @@ ghost use Rattle.premise_rows.specs.job_rows.Ring.{RingIsCutOnce};
 ghost use Rattle.premise_rows.specs.job_rows.Refutations.{UnitsAreRefuted, PairsAreRefuted};
 ghost use Rattle.premise_rows.specs.job_rows.Writing.{UnitsCanBeWritten, DetourCanBeWritten};
 
-/// Two latches in a row can be run over a stimulus, from a power word and without one.
+/// Two latches in a row can be run over a stimulus, from a power word and without one, and behind the rows of a stimulus.
 pub fn two_can_be_run()
     ensures { TwoCanBeRun }
 {}

@@ -68,4 +68,14 @@ pub two_can_be_run : TwoCanBeRun
 two_can_be_run = (
   record { circuit = accepted two design.two small_two two_spells; names = names; rows = rows; stimulus = stimulus; fits = λ net l. fits net (net_is_small two design.two small_two two_spells net l); light = λ net l. tt },
   record { circuit = accepted two design.two small_two two_spells; names = names; rows = rows; stimulus = stimulus; fits = λ net l. fits_power net (net_is_small two design.two small_two two_spells net l); light = λ net l. tt },
+  record {
+    circuit = accepted two design.two small_two two_spells;
+    first = names;
+    first_rows = rows;
+    before = stimulus;
+    names = names;
+    rows = rows;
+    stimulus = stimulus;
+    fits = λ net l. (fits net (net_is_small two design.two small_two two_spells net l), fits_power net (net_is_small two design.two small_two two_spells net l));
+  },
 )
