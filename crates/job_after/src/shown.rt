@@ -9,9 +9,10 @@ ghost use Rattle.job_after.specs.Judged.{GoesOnAsFound};
 use base_tables::NameTable;
 use cycle_search::{SearchError, SearchVerdict, Searched, search_cycles};
 use flat_net::Net;
+use net_names::{CopyError, without_output};
 use obligations::outcome::{PairName, Witness};
 use restart::{restart, shown_behind};
-use sec_base::{MAX_CONFLICTS, NoMemory};
+use sec_base::{MAX_CONFLICTS, NoMemory, Word};
 use std::alloc::Global;
 use witness_report::Stimulus;
 
@@ -84,7 +85,107 @@ pub fn shown_by(
     }
 }
 
-/// The difference that is shown where one is looked for from these initial values, if one is.
+/// How many names of outputs are left out at most, one after the other, where no difference of them is shown.
+const MAX_LEFT_OUT: u32 = 16;
+
+/// Two nets that are searched in place of the circuits.
+#[derive(Drop)]
+struct Others {
+    left: Net,
+    right: Net,
+}
+
+/// What a search of two nets finds; nothing where it is refused.
+fn search_others(
+    alloc: Global,
+    a: &Net,
+    b: &Net,
+    start: &Start<'_>,
+) -> Result<Option<Searched>, NoMemory>
+    requires left { IsComparable a.now }
+    requires right { IsComparable b.now }
+    requires conflicts { start.now.conflicts ≤ MAX_CONFLICTS }
+{
+    match search_cycles(alloc, a, b, start.cycles, start.conflicts) {
+        Ok(searched) => Ok(Some(searched)),
+        Err(SearchError::NoMemory) => Err(NoMemory),
+        Err(_) => Ok(None),
+    }
+}
+
+/// Both nets without the outputs in which the search found a difference; nothing where it found none, or a net can't be copied.
+fn left_out(
+    alloc: Global,
+    a: &Net,
+    b: &Net,
+    searched: &Searched,
+) -> Result<Option<Others>, NoMemory>
+    requires left { IsComparable a.now }
+    requires right { IsComparable b.now }
+    ensures { IfOk result (λ others. IfSome others (λ both. IsComparable both.left × IsComparable both.right)) }
+{
+    let SearchVerdict::Different(found) = &searched.verdict else {
+        return Ok(None);
+    };
+    let PairName::Output(name) = &found.witness.pair else {
+        return Ok(None);
+    };
+    let Some(left) = without(alloc, a, name)? else {
+        return Ok(None);
+    };
+    let Some(right) = without(alloc, b, name)? else {
+        return Ok(None);
+    };
+    Ok(Some(Others { left, right }))
+}
+
+/// The net without the outputs of this name; nothing where it can't be copied.
+fn without(alloc: Global, net: &Net, name: &Word) -> Result<Option<Net>, NoMemory>
+    requires { IsComparable net.now }
+    ensures { IfOk result (λ copy. IfSome copy IsComparable) }
+{
+    match without_output(alloc, net, name.as_slice()) {
+        Ok(copy) => Ok(Some(copy)),
+        Err(CopyError::NoMemory) => Err(NoMemory),
+        Err(CopyError::Order) => Ok(None),
+    }
+}
+
+/// The difference that is shown in other outputs than those in which this search found one, if one is.
+fn shown_in_others(
+    alloc: Global,
+    a: &Net,
+    b: &Net,
+    start: &Start<'_>,
+    searched: &Searched,
+) -> Result<Option<Witness>, NoMemory>
+    requires left { IsComparable a.now }
+    requires right { IsComparable b.now }
+    requires conflicts { start.now.conflicts ≤ MAX_CONFLICTS }
+    requires header { start.now.header.now ≡ start.now.stimulus.now.names }
+    ensures { IfOk result (λ shown. IfSome shown (IsShownBehind a.now b.now start.now.stimulus.now.names start.now.stimulus.now.rows)) }
+{
+    let Some(mut others) = left_out(alloc, a, b, searched)? else {
+        return Ok(None);
+    };
+    for _ in 0..MAX_LEFT_OUT {
+        let Some(found) = search_others(alloc, &others.left, &others.right, start)? else {
+            return Ok(None);
+        };
+        let shown = shown_by(alloc, a, b, start, &found)?;
+        if shown.is_some() {
+            return Ok(shown);
+        }
+        let Some(fewer) = left_out(alloc, &others.left, &others.right, &found)? else {
+            return Ok(None);
+        };
+        others = fewer;
+    }
+    Ok(None)
+}
+
+/// The difference that is shown where one is looked for from these initial values, if one is. Where the sequence that is found shows none, its
+/// outputs are left out and others looked at, one name after the other.
 fn shown_anew(
     alloc: Global,
     a: &Net,
@@ -97,11 +198,14 @@ fn shown_anew(
     requires header { start.now.header.now ≡ start.now.stimulus.now.names }
     ensures { IfOk result (λ shown. IfSome shown (IsShownBehind a.now b.now start.now.stimulus.now.names start.now.stimulus.now.rows)) }
 {
-    match search_cycles(alloc, a, b, start.cycles, start.conflicts) {
-        Ok(searched) => shown_by(alloc, a, b, start, &searched),
-        Err(SearchError::NoMemory) => Err(NoMemory),
-        Err(_) => Ok(None),
+    let Some(searched) = search_others(alloc, a, b, start)? else {
+        return Ok(None);
+    };
+    let shown = shown_by(alloc, a, b, start, &searched)?;
+    if shown.is_some() {
+        return Ok(shown);
     }
+    shown_in_others(alloc, a, b, start, &searched)
 }
 
 /// The same where each latch that isn't known begins with 0. Afterwards both nets are as before.
