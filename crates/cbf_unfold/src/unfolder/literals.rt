@@ -39,7 +39,11 @@ impl<'a> Unfolder<'a> {
                 variable(aig, places, number, self.cap() - place.0)
             }
             Driver::Gate(j) => gate_literal(alloc, net, self.memo(), aig, place.0, j),
-            Driver::Latch(j) => Ok(self.met((place.0 - 1, latch_of(net, j).next.0))),
+            Driver::Latch(j) => {
+                let lit = self.met((place.0 - 1, latch_of(net, j).next.0));
+                aig.mark(lit)?;
+                Ok(lit)
+            }
         }
     }
 }
