@@ -1,7 +1,8 @@
 //! What is known beside a part of a graph as a care over its small graph.
 
 ghost use Rattle.std.specs.Prelude.{◌≡◌, ℕ, ◌+◌, ◌*◌, ◌^◌, ◌<◌, ◌≤◌, Bool, not, ◌&&◌, length, IfOk, OnOk};
-ghost use Rattle.aig.specs.Values.{value, KeepsValues};
+ghost use Rattle.aig.specs.Graph.{Grows};
+ghost use Rattle.aig.specs.Values.{value};
 ghost use Rattle.swept_queries.specs.node_agreement.Standing.{StandsFor, AreChosen, AreLocal, by_nodes};
 
 use crate::node_agreement::small::{MOST, Small, find};
@@ -61,7 +62,8 @@ impl Small {
             return Ok(care);
         };
         let once = with_implied(&mut self.graph, care, y, z)?;
-        with_implied(&mut self.graph, once, z, y)
+        let twice = with_implied(&mut self.graph, once, z, y)?;
+        Ok(twice)
     }
 }
 
@@ -73,10 +75,10 @@ fn with_implied(small: &mut Aig, care: Lit, y: Lit, z: Lit) -> Result<Lit, NoMem
     requires room { length small.old + 2 < 2 ^ 30 }
     ensures within { IfOk result (λ x. x.0 < 2 * length small.new) }
     ensures value { IfOk result (λ x. (a : ℕ → Bool) → value small.new a x.0 ≡ (value small.old a care.0 && not (value small.old a y.0 && not (value small.old a z.0)))) }
-    ensures older { OnOk result (KeepsValues small.old small.new) }
-    ensures more { OnOk result (length small.old ≤ length small.new) }
+    ensures grows { OnOk result (Grows small.old small.new) }
     ensures few { OnOk result (length small.new ≤ length small.old + 2) }
 {
     let apart = small.and(y, Aig::not(z))?;
-    small.and(care, Aig::not(apart))
+    let known = small.and(care, Aig::not(apart))?;
+    Ok(known)
 }
