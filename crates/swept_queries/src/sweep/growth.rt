@@ -86,6 +86,11 @@ fn marked_in(alloc: Global, old: &Aig) -> Result<Vec<bool>, NoMemory> {
     Ok(marked)
 }
 
+/// Whether the node is one, and has operands.
+fn is_and(graph: &Aig, n: u32) -> bool {
+    n < graph.size() && matches!(graph.node(n), Node::And(_, _))
+}
+
 /// The graph of the constant.
 fn begun(alloc: Global, old: &Aig, effort: Effort, words: &[u64]) -> Result<Growth, NoMemory>
     ensures { IfOk result (λ w. IsGrown old.now w 1) }
@@ -123,7 +128,8 @@ impl Growth {
         ensures { OnOk result (IsGrown old.now self.new (n + 1)) }
     {
         self.put(alloc, old, n, words, role)?;
-        self.note_end(ends)
+        self.note_end(ends)?;
+        Ok(())
     }
 
     /// Puts the literal for the next node of the old graph behind the others. It may be one that was kept before only if the
@@ -149,14 +155,17 @@ impl Growth {
         Ok(())
     }
 
-    /// Notes that a stage ends at the last literal, if it does: its node is marked.
+    /// Notes that a stage ends at the last literal, if it does: its node is marked. At a variable each cone ends anyway.
     fn note_end(&mut self, ends: bool) -> Result<(), NoMemory>
         ensures graph { self.new.graph ≡ self.old.graph }
         ensures map { self.new.map.items ≡ self.old.map.items }
         ensures chosen { self.new.chosen.items ≡ self.old.chosen.items }
     {
-        if ends && let Some(y) = self.map.last() {
-            let y = *y;
+        if !ends {
+            return Ok(());
+        }
+        let y = self.map.last().copied().unwrap_or(Lit::FALSE);
+        if is_and(&self.graph, y.node()) {
             self.graph.mark(y)?;
             self.hints.note_leaf(y.node())?;
         }

@@ -7,11 +7,11 @@ use Rattle.swept_queries.proofs.node_agreement.facts.with_implied.Goals as goal
 pub and-requires-clause-right : goal.and-requires-clause-right
 and-requires-clause-right c = c.not.ensures.within (length c.args.small.now) c.requires.right
 
-pub and-2-requires-clause-left : goal.and-2-requires-clause-left
-and-2-requires-clause-left c = omega (arith, Grows-length c.args.small.now c.and.new.self c.and.ensures.grows, c.requires.care)
+pub and-requires-2-clause-left : goal.and-requires-2-clause-left
+and-requires-2-clause-left c = omega (arith, Grows-length c.args.small.now c.and.new.self c.and.ensures.grows, c.requires.care)
 
-pub and-2-requires-clause-right : goal.and-2-requires-clause-right
-and-2-requires-clause-right c = c.not-2.ensures.within (length c.and.new.self) c.in_ok-apart.ensures.within
+pub and-requires-2-clause-right : goal.and-requires-2-clause-right
+and-requires-2-clause-right c = c.not-2.ensures.within (length c.and.new.self) c.in_ok-apart.ensures.within
 
 pub returns-clause-value : goal.returns-clause-value
 returns-clause-value c = λ a.

@@ -20,4 +20,4 @@ grown-same g w v n graph map chosen is = record {
 }
 
 pub returns : goal.returns
-returns c = grown-same c.args.old.now c.put.new.self c.note_end.new.self _ c.note_end.ensures.graph c.note_end.ensures.map c.note_end.ensures.chosen c.put.ensures
+returns c = grown-same c.args.old.now c.put.new.self c.note_end.new.self _ c.note_end.ensures.graph c.note_end.ensures.map c.note_end.ensures.chosen c.in_ok-put.ensures
