@@ -1,9 +1,7 @@
 -- A query over a small graph, and what its answer says of the graph that it is a part of.
-use Rattle.std.proofs.Common.{◌≡◌, ◌≢◌, ℕ, ◌*◌, ◌<◌, List, [], ◌∷◌, length, Option, Some, None, refl, sym, ◌∙◌, ap, subst, arith}
+use Rattle.std.proofs.Common.{◌≡◌, ℕ, ◌*◌, ◌<◌, List, [], ◌∷◌, length, Option, Some, None, refl, sym, subst}
 use Rattle.std.specs.Prelude.{Contains}
-use Rattle.std.specs.List.{AllPairs}
 use Rattle.aig.specs.declared.node.Node.{Node}
-use Rattle.aig.specs.declared.node.Node.TheVariants.{Input}
 use Rattle.aig.specs.Graph.{IsGraph}
 use Rattle.aig.specs.lane_eval.Tables as table
 use Rattle.pair_decide.specs.declared.query.Query.{Query}

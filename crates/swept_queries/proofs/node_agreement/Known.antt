@@ -29,7 +29,7 @@ module _ (g : List Node) where
   implied-holds graph h k care y z x w v cared left right one within made = record {
     within = within;
     same = λ a.
-    made (by_nodes g a) ∙ ap (λ (c : Bool). c && not (value h (by_nodes g a) y && not (value h (by_nodes g a) z))) (cared.same a ∙ value-one g graph a)
-    ∙ ap (λ (b : Bool). true && not (b && not (value h (by_nodes g a) z))) (left.same a ∙ one a) ∙ ap (λ (b : Bool). true && not (value g a v && not b)) (right.same a)
-    ∙ always (value g a v) ∙ sym (value-one g graph a);
+        made (by_nodes g a) ∙ ap (λ (c : Bool). c && not (value h (by_nodes g a) y && not (value h (by_nodes g a) z))) (cared.same a ∙ value-one g graph a)
+        ∙ ap (λ (b : Bool). true && not (b && not (value h (by_nodes g a) z))) (left.same a ∙ one a) ∙ ap (λ (b : Bool). true && not (value g a v && not b)) (right.same a)
+        ∙ always (value g a v) ∙ sym (value-one g graph a);
   }

@@ -1,5 +1,5 @@
 -- What an answer over a part of a graph tells of the graph.
-use Rattle.std.proofs.Common.{◌≡◌, ◌≢◌, ℕ, ◌*◌, ◌<◌, Bool, false, List, length, get_or, slice_get, Option, Some, None, sym, ◌∙◌, ap, subst, arith}
+use Rattle.std.proofs.Common.{◌≡◌, ◌≢◌, ℕ, ◌<◌, Bool, false, List, length, get_or, Option, Some, None, sym, ◌∙◌, ap, subst, arith}
 use Rattle.std.specs.Prelude.{Contains, IfSome}
 use Rattle.std.specs.List.{AllPairs}
 use Rattle.std.proofs.lemmas.Option.{slice_get-get_or, slice_get_within}

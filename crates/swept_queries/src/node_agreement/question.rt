@@ -67,12 +67,7 @@ pub(crate) fn ask(
 }
 
 /// Tries it by a table where the variables are at most 16, and else by a search, if that may have conflicts.
-fn ask_search(
-    alloc: Global,
-    graph: &Aig,
-    query: Query,
-    conflicts: u32,
-) -> Result<Tried, NoMemory>
+fn ask_search(alloc: Global, graph: &Aig, query: Query, conflicts: u32) -> Result<Tried, NoMemory>
     requires left { query.left.0 < 2 * length graph.now }
     requires right { query.right.0 < 2 * length graph.now }
     requires care { query.care.0 < 2 * length graph.now }

@@ -1,5 +1,4 @@
-use Rattle.std.proofs.Common.{ℕ, ◌*◌, List, length, sym, subst, arith}
-use Rattle.aig.specs.declared.node.Lit.{Lit}
+use Rattle.std.proofs.Common.{◌*◌, sym, subst, arith}
 use Rattle.aig.proofs.Growth.{Grows-length}
 use Rattle.aig.proofs.Meaning.{value-grows}
 use Rattle.swept_queries.specs.node_agreement.Standing.{AreLocal, by_nodes}
