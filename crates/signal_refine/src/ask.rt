@@ -17,7 +17,7 @@ use sec_base::NoMemory;
 use std::alloc::Global;
 use sweep_candidates::Model;
 use swept_queries::node_agreement::Proved;
-use tie_candidates::{Classes, Frame, learn, pick_all};
+use tie_candidates::{Classes, Frame, Source, learn, pick_all};
 
 /// What is asked: of the nodes of `base`, whose variables have these literals, wherever the care is 1 and what nodes are read as in the cycle
 /// before has their values, with at most so many conflicts for each query.
@@ -29,6 +29,8 @@ pub(crate) struct Asked<'a> {
     pub before: &'a NodeLits,
     /// By what nodes are read so in the cycle before. No contract knows it.
     pub ties: &'a [Anchor],
+    /// What runs are made of. No contract knows it.
+    pub source: Source<'a>,
     pub conflicts: u32,
 }
 
@@ -40,6 +42,7 @@ impl<'a> Asked<'a> {
             ties: self.ties,
             leaves: self.leaves,
             care: self.care,
+            source: self.source,
         }
     }
 }

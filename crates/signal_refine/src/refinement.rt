@@ -21,7 +21,7 @@ use aig::{Aig, Lit};
 use circuit_laws::signal_laws::Anchor;
 use sec_base::{NoMemory, Orders};
 use std::alloc::Global;
-use tie_candidates::{Classes, Premise, candidates};
+use tie_candidates::{Classes, Premise, Source, candidates};
 
 /// Ties that are an inductive invariant.
 #[derive(Drop)]
@@ -41,6 +41,8 @@ struct Round<'a> {
     base: &'a Aig,
     lits: &'a [Lit],
     first: u32,
+    /// What runs are made of. No contract knows it.
+    source: Source<'a>,
     conflicts: u32,
 }
 
@@ -67,15 +69,32 @@ pub fn correspond(
         latches: Latches::Free,
     };
     let lits = signal_literals(alloc, &mut base, &cycle)?;
+    let flops = flops_of(alloc, nets, lits.as_slice(), first)?;
+    let source = Source {
+        flops: flops.as_slice(),
+        premise: premise_of(assumed),
+        inputs: first,
+    };
     let round = Round {
         nets: *nets,
         assumed: *assumed,
         base: &base,
         lits: &lits,
         first,
+        source,
         conflicts,
     };
     rounds(alloc, &round)
+}
+
+/// The assumption, as runs see it.
+fn premise_of<'a>(assumed: &Assumed<'a>) -> Premise<'a> {
+    Premise {
+        graph: assumed.graph,
+        lit: assumed.lit,
+        numbers: assumed.numbers,
+        row: assumed.row,
+    }
 }
 
 /// The ties that are left behind the last round.
@@ -86,7 +105,7 @@ fn rounds(alloc: Global, round: &Round<'_>) -> Result<Correspondence, NoMemory>
     requires assumed { round.now.assumed.lit.0 < 2 * length round.now.assumed.graph.now }
     ensures { IfOk result (λ made. AreInductiveTies (IsMet round.now.assumed round.now.nets) round.now.nets made.anchors.items) }
 {
-    let mut classes = guessed(alloc, round)?;
+    let mut classes = candidates(alloc, &round.source, round.base)?;
     let mut facts = Facts::new(alloc)?;
     for _n in 0..round.base.size() {
         let nodes = classes.anchors(alloc)?;
@@ -101,18 +120,6 @@ fn rounds(alloc: Global, round: &Round<'_>) -> Result<Correspondence, NoMemory>
         anchors: Vec::new(alloc),
         drops: classes.drops,
     })
-}
-
-/// The classes of nodes that seeded runs don't tell apart.
-fn guessed(alloc: Global, round: &Round<'_>) -> Result<Classes, NoMemory> {
-    let flops = flops_of(alloc, &round.nets, round.lits, round.first)?;
-    let premise = Premise {
-        graph: round.assumed.graph,
-        lit: round.assumed.lit,
-        numbers: round.assumed.numbers,
-        row: round.assumed.row,
-    };
-    candidates(alloc, &flops, &premise, round.base, round.first)
 }
 
 /// Whether the ties of nodes are an inductive invariant, by queries that all say so.
@@ -178,6 +185,7 @@ fn do_step(
         care,
         before: &now,
         ties: nodes,
+        source: round.source,
         conflicts: round.conflicts,
     };
     are_settled(alloc, classes, facts, &asked, nodes)
@@ -235,6 +243,7 @@ fn do_begin(
         care,
         before: &before,
         ties: &[],
+        source: round.source,
         conflicts: round.conflicts,
     };
     are_settled(alloc, classes, facts, &asked, nodes)

@@ -60,11 +60,6 @@ pub(crate) fn is_some(block: Block) -> bool {
     any != 0
 }
 
-/// Whether it is 1 everywhere.
-pub(crate) fn is_whole(block: Block) -> bool {
-    !is_some(turned(block, true))
-}
-
 /// The block at the place of the list; 0 where there is none.
 pub(crate) fn block_at(blocks: &[Block], at: usize) -> Block {
     blocks.get(at).copied().unwrap_or([0; 8])

@@ -10,5 +10,5 @@ mod scenes;
 
 pub use classes::Classes;
 pub use marks::{Marks, pick_all};
-pub use runs::{Flop, Premise, candidates};
+pub use runs::{Flop, Premise, Source, candidates};
 pub use scenes::{Frame, Lesson, learn, no_model};

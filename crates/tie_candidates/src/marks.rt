@@ -3,7 +3,7 @@
 ghost use Rattle.std.specs.Prelude.{◌<◌, length};
 
 use crate::lanes::{
-    Block, and_blocks, block_at, block_of, is_whole, put_block, turned, xor_blocks,
+    Block, and_blocks, block_at, block_of, put_block, turned, xor_blocks,
 };
 use crate::scenes::Frame;
 use aig::{Aig, Lit, NoMemory, Node};
@@ -13,7 +13,7 @@ use std::alloc::Global;
 /// Which nodes' ties don't hold, by the nodes' numbers.
 #[derive(Drop)]
 pub struct Marks {
-    /// Under none of the assignments.
+    /// Under none of the first 128 assignments.
     every: Vec<bool>,
     /// Not under the first one.
     first: Vec<bool>,
@@ -63,13 +63,13 @@ impl Marks {
             _ => xor_blocks(own, tied),
         };
         self.holds = and_blocks(self.holds, turned(apart, true));
-        self.every.push(is_whole(apart))?;
+        self.every.push(apart[0] & apart[1] == u64::MAX)?;
         self.first.push(apart[0] % 2 == 1)?;
         read.push(tied)?;
         Ok(())
     }
 
-    /// Picks some ties more, at most so many: of those that hold under none of the assignments, or else of those that don't hold under
+    /// Picks some ties more, at most so many: of those that hold under none of the first 128 assignments, or else of those that don't hold under
     /// the first one; and all where there are none.
     pub fn pick(&self, picked: &mut [bool], most: usize) {
         if !pick_from(&self.every, picked, most) && !pick_from(&self.first, picked, most) {

@@ -37,27 +37,30 @@ pub struct Premise<'a> {
     pub row: &'a [bool],
 }
 
-/// Classes of nodes that have equal or complementary values in all of the runs. The first so many variables are the inputs'.
-pub fn candidates(
-    alloc: Global,
-    flops: &[Flop],
-    premise: &Premise<'_>,
-    aig: &Aig,
-    inputs: u32,
-) -> Result<Classes, NoMemory> {
+/// What runs are made of.
+#[derive(Clone, Copy)]
+pub struct Source<'a> {
+    pub flops: &'a [Flop],
+    pub premise: Premise<'a>,
+    /// The first so many variables are the inputs'.
+    pub inputs: u32,
+}
+
+/// Classes of nodes that have equal or complementary values in all of the runs.
+pub fn candidates(alloc: Global, source: &Source<'_>, aig: &Aig) -> Result<Classes, NoMemory> {
     let mut generator = Xoshiro256PlusPlus::seed_from_u64(1);
     let mut words = vec![in alloc; 0u64; 8 * (aig.vars() as usize)]?;
     let mut keys = vec![in alloc; 0u64; (aig.size() as usize).saturating_add(1)]?;
     let mut classes = Classes::new(alloc, aig.size())?;
-    start(&mut words, flops, &mut generator);
+    start(&mut words, source.flops, &mut generator);
     for cycle in 0..cycles(aig.size()) {
-        draw(alloc, &mut words, inputs, premise, &mut generator)?;
+        draw(alloc, &mut words, source, &mut generator)?;
         let table = played(alloc, aig, &words)?;
         if cycle == 0 {
             classes.set_phases(&table, aig.size());
         }
         mix(&mut keys, &classes, &table, aig.size());
-        carry(&mut words, flops, &table, aig.size());
+        carry(&mut words, source.flops, &table, aig.size());
     }
     classes.split_by(alloc, &keys)?;
     Ok(classes)
@@ -101,22 +104,21 @@ fn start(words: &mut [u64], flops: &[Flop], generator: &mut Xoshiro256PlusPlus) 
 }
 
 /// Gives inputs seeded words, and the premise's row in each run whose inputs don't meet it.
-fn draw(
+pub(crate) fn draw(
     alloc: Global,
     words: &mut [u64],
-    inputs: u32,
-    premise: &Premise<'_>,
+    source: &Source<'_>,
     generator: &mut Xoshiro256PlusPlus,
 ) -> Result<(), NoMemory> {
-    for v in 0..inputs {
+    for v in 0..source.inputs {
         put_block(words, v, drawn(generator));
     }
-    if premise.lit.0 == Lit::TRUE.0 {
+    if source.premise.lit.0 == Lit::TRUE.0 {
         return Ok(());
     }
-    let met = met_by(alloc, words, premise)?;
-    for v in 0..inputs {
-        if let Some(bit) = premise.row.get(v as usize) {
+    let met = met_by(alloc, words, &source.premise)?;
+    for v in 0..source.inputs {
+        if let Some(bit) = source.premise.row.get(v as usize) {
             put_block(words, v, block_where(block_of(words, v), met, *bit));
         }
     }
@@ -157,7 +159,7 @@ fn block_where(block: Block, met: Block, bit: bool) -> Block {
 }
 
 /// Gives flip-flops what they take over.
-fn carry(words: &mut [u64], flops: &[Flop], table: &SignatureTable, nodes: u32)
+pub(crate) fn carry(words: &mut [u64], flops: &[Flop], table: &SignatureTable, nodes: u32)
     requires { nodes ≤ length table.now }
 {
     for flop in flops {
