@@ -4,11 +4,17 @@
 
 pub mod case_split;
 mod columns;
+mod facts;
 mod first_nodes;
+mod guide;
 mod hints;
 mod models;
+mod stages;
 mod windows;
 
+pub use facts::{part_with_facts, plain_part};
+pub use guide::{Guide, Part};
 pub use hints::Hints;
 pub use models::Model;
+pub use stages::stage_of;
 pub use windows::{cut_of, small_cone_of, window_of};

@@ -1,17 +1,15 @@
 -- The roots of queries, three for each, and the literals that are made for them.
-use Rattle.std.proofs.Common.{◌≡◌, ℕ, zero, suc, ◌+◌, ◌*◌, ◌<◌, List, [], ◌∷◌, ◌++◌, length, take, get_or, slice_get, Some, refl, sym, ◌∙◌, ap, subst, arith, inl, inr, append_assoc}
-use Rattle.std.specs.Prelude.{◌⊎◌}
+use Rattle.std.proofs.Common.{◌≡◌, ℕ, zero, suc, ◌+◌, ◌*◌, ◌<◌, List, [], ◌∷◌, ◌++◌, length, take, get_or, slice_get, Some, refl, sym, ◌∙◌, ap, subst, arith, append_assoc}
 use Rattle.std.specs.List.{All, AllZip}
 use Rattle.std.proofs.lemmas.List.{take_more}
 use Rattle.std.proofs.lemmas.List.Elements.{All-nil, All-cons, All-head, All-tail, All-get_or}
 use Rattle.std.proofs.lemmas.Option.{none-some, same_Some, slice_get_within, get_or_from_slice_get}
 use Rattle.swept_queries.specs.sweep.aig.Lit.{Lit}
 use Rattle.swept_queries.specs.sweep.aig.Node.{Node}
-use Rattle.swept_queries.proofs.sweep.aig.Insert.{push-cases}
 use Rattle.swept_queries.specs.declared.sides.Sides.{Sides}
 use Rattle.swept_queries.specs.declared.sides.Known.{Known}
 use Rattle.swept_queries.specs.declared.sides.Known.TheVariants.{Nothing, Swept, Apart}
-use Rattle.swept_queries.specs.Roots.{zero_lit, three, roots_for, HasThree, IsMoved, AreMade}
+use Rattle.swept_queries.specs.Roots.{zero_lit, three, roots_for, HasThree}
 use Rattle.swept_queries.specs.InStead.{AreKnownWithin}
 
 roots_for-append : (xs ys : List Known) → roots_for (xs ++ ys) ≡ roots_for xs ++ roots_for ys

@@ -5,7 +5,7 @@ ghost use Rattle.swept_queries.specs.sweep.aig.Graph.{vars_of};
 ghost use Rattle.swept_queries.specs.InStead.{MayBeWithin, AreKnownWithin};
 
 use crate::choice::chosen;
-use crate::node_agreement::{Budget, Hints, Model, Proved, prove_wholly};
+use crate::node_agreement::{Budget, Guide, Hints, Model, Proved, prove_wholly};
 use crate::sides::{Known, Sides};
 use crate::sweep::{Aig, Ids, Lit, NoMemory};
 use crate::targets::{is_any_left, is_any_told, lits_of};
@@ -111,7 +111,8 @@ impl Looks {
             return Ok(None);
         }
         aig.keeps();
-        match prove_wholly(alloc, aig, Lit(2 * n), k, &mut self.budget)? {
+        let guide = self.hints.guide();
+        match prove_wholly(alloc, aig, &guide, &[], Lit(2 * n), k, &mut self.budget)? {
             Proved::Apart(model) => {
                 self.hints.refine(alloc, aig.nodes(), words, &model)?;
                 Ok(Some(model))

@@ -14,4 +14,4 @@ mod targets;
 mod words;
 
 pub use queries::{SweptQueries, sweep_queries};
-pub use sides::Sides;
+pub use sides::{Known, Sides};

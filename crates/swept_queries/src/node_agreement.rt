@@ -2,6 +2,7 @@
 //! tables and by searches, within a budget. What is answered holds under every assignment.
 
 mod budget;
+mod facts;
 mod models;
 mod proof;
 mod question;
@@ -12,7 +13,7 @@ mod table;
 pub use aig::lane_eval::root_classes::{SignatureTable, leads_of, signatures, variables};
 pub use budget::{Budget, Effort};
 pub use pair_decide::{Decision, Query, SameBy, decide};
-pub(crate) use proof::prove_wholly;
 pub use proof::{Proved, prove};
+pub(crate) use proof::{prove_by, prove_wholly};
 pub use signs::{signed, zero};
-pub use sweep_candidates::{Hints, Model};
+pub use sweep_candidates::{Guide, Hints, Model};

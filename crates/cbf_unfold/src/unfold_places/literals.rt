@@ -30,6 +30,15 @@ pub fn variable(
     aig.input(variable)
 }
 
+/// The literal of a latch's place, which is marked: proofs over the graph may end there.
+pub fn marked(aig: &mut Aig, lit: Lit) -> Result<Lit, NoMemory>
+    ensures same { aig.new ≡ aig.old }
+    ensures is { IfOk result (λ x. x ≡ lit) }
+{
+    aig.mark(lit)?;
+    Ok(lit)
+}
+
 /// The cover of the gate with this position, in this cycle, of literals of places that were met.
 pub fn gate_literal(
     alloc: Global,

@@ -6,7 +6,7 @@ ghost use Rattle.cbf_unfold.specs.Unfolded.{IsKnown};
 ghost use Rattle.cbf_unfold.specs.Building.{AreKnown, IsReady, HasGrown};
 
 use super::Unfolder;
-use crate::unfold_places::literals::{gate_literal, variable};
+use crate::unfold_places::literals::{gate_literal, marked, variable};
 use crate::unfold_places::memo::Place;
 use aig::{Aig, Lit};
 use base_tables::PlaceTable;
@@ -39,7 +39,7 @@ impl<'a> Unfolder<'a> {
                 variable(aig, places, number, self.cap() - place.0)
             }
             Driver::Gate(j) => gate_literal(alloc, net, self.memo(), aig, place.0, j),
-            Driver::Latch(j) => Ok(self.met((place.0 - 1, latch_of(net, j).next.0))),
+            Driver::Latch(j) => marked(aig, self.met((place.0 - 1, latch_of(net, j).next.0))),
         }
     }
 }

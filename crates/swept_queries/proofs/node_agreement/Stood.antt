@@ -1,7 +1,7 @@
 -- Literals that stand for others keep doing so, also with the other sign, and in ands.
-use Rattle.std.proofs.Common.{◌≡◌, ℕ, get_or, Result, Ok, Err, ◌*◌, ◌/◌, ◌%◌, ◌<◌, ◌≤◌, Bool, not, ◌&&◌, List, [], ◌∷◌, ◌++◌, length, slice_get, Some, refl, sym, ◌∙◌, ap, subst, arith, inl, inr}
+use Rattle.std.proofs.Common.{◌≡◌, ℕ, zero, suc, get_or, Result, Ok, Err, ◌*◌, ◌/◌, ◌%◌, ◌<◌, ◌≤◌, Bool, not, ◌&&◌, List, [], ◌∷◌, ◌++◌, length, slice_get, Some, refl, sym, ◌∙◌, ap, subst, arith, inl, inr}
 use Rattle.std.specs.Prelude.{◌⊎◌, IfOk}
-use Rattle.std.proofs.lemmas.Option.{slice_get-get_or}
+use Rattle.std.proofs.lemmas.Option.{slice_get-get_or, none-some}
 use Rattle.aig.specs.declared.node.Lit.{Lit}
 use Rattle.aig.specs.declared.node.Node.{Node}
 use Rattle.aig.specs.Graph.{flip}
@@ -71,3 +71,16 @@ local-at g small numbers lits p n d inside within is are = are p n (get_or lits 
 pub IfOk-both : {T E : Type 0} (r : Result T E) (P Q R : T → Type 0) → ((x : T) → P x → Q x → R x) → IfOk r P → IfOk r Q → IfOk r R
 IfOk-both (Ok x) P Q R f p q = f x p q
 IfOk-both (Err e) P Q R f p q = p
+
+-- a literal of the same value
+pub stands-same : (with : (ℕ → Bool) → ℕ → Bool) (g h : List Node) (x y z : ℕ) → ((a : ℕ → Bool) → value g a x ≡ value g a z) → StandsFor with g h x y → StandsFor with g h z y
+stands-same with g h x y z e s = record { within = s.within; same = λ a. s.same a ∙ e a }
+
+-- what is chosen for a node has its value
+pub chosen-same : (g : List Node) (lits : List Lit) (n : ℕ) (d : Lit) → n < length lits → AreChosen g lits → (a : ℕ → Bool) → value g a (get_or lits n d).0 ≡ value g a (2 * n)
+chosen-same g lits n d within are = (chosen-at g lits n d within are).same
+
+-- nothing is chosen yet
+pub chosen-none : (g : List Node) → AreChosen g []
+chosen-none g zero y at = absurd (none-some y at)
+chosen-none g (suc n) y at = absurd (none-some y at)

@@ -1,5 +1,5 @@
 -- What an answer over a part of a graph tells of the graph.
-use Rattle.std.proofs.Common.{◌≡◌, ◌≢◌, ℕ, ◌*◌, ◌<◌, Bool, false, List, length, get_or, slice_get, Option, Some, None, sym, ◌∙◌, ap, subst, arith}
+use Rattle.std.proofs.Common.{◌≡◌, ◌≢◌, ℕ, ◌<◌, Bool, false, List, length, get_or, Option, Some, None, sym, ◌∙◌, ap, subst, arith}
 use Rattle.std.specs.Prelude.{Contains, IfSome}
 use Rattle.std.specs.List.{AllPairs}
 use Rattle.std.proofs.lemmas.Option.{slice_get-get_or, slice_get_within}
@@ -9,7 +9,9 @@ use Rattle.aig.specs.declared.node.Node.TheVariants.{Input}
 use Rattle.aig.specs.Graph.{IsGraph}
 use Rattle.aig.specs.Values.{value}
 use Rattle.aig.proofs.Meaning.{value-node}
+use Rattle.aig.specs.lane_eval.Tables as table
 use Rattle.aig.specs.lane_eval.Tables.{assigned_to}
+use Rattle.aig.proofs.CoverMeaning.{value-one}
 use Rattle.aig.proofs.lane_eval.Numbered.{assigned_to-at}
 use Rattle.aig.specs.lane_eval.root_classes.Agreeing.{Agree}
 use Rattle.aig.specs.lane_eval.root_classes.Inputs.{inputs_of}
@@ -25,10 +27,10 @@ pub IfSome-then : {T : Type 0} (o : Option T) (P Q : T → Type 0) → ((x : T) 
 IfSome-then (Some x) P Q f h = f x h
 IfSome-then None P Q f h = tt
 
-module _ (g small : List Node) (graph : IsGraph g) (part : IsGraph small) (x k left right : ℕ) (one : StandsFor (by_nodes g) g small x left) (other : StandsFor (by_nodes g) g small k right) where
-  -- what agrees in the small graph does so in the graph
-  agree-there : Agree small left right → Agree g x k
-  agree-there agree a = sym (one.same a) ∙ agree (by_nodes g a) ∙ other.same a
+module _ (g small : List Node) (graph : IsGraph g) (part : IsGraph small) (x k left right care : ℕ) (one : StandsFor (by_nodes g) g small x left) (other : StandsFor (by_nodes g) g small k right) (holds : StandsFor (by_nodes g) g small 1 care) where
+  -- what agrees in the small graph under a care that always holds does so in the graph
+  agree-there : table.Agree small left right care → Agree g x k
+  agree-there agree a = sym (one.same a) ∙ agree (by_nodes g a) (holds.same a ∙ value-one g graph a) ∙ other.same a
 
   module _ (nodes : List ℕ) (bits : List Bool) (are : nodes ≡ inputs_of small) (each : length bits ≡ length nodes) (m : Model) (is : IsModelOf g nodes bits m) where
     vars-distinct : AllPairs (λ u v. u ≢ v) m.vars.items
@@ -60,7 +62,7 @@ module _ (g small : List Node) (graph : IsGraph g) (part : IsGraph small) (x k l
     differ-there apart = λ e.
         apart (sym (small-value left) ∙ one.same (assigned_to m.vars.items m.bits.items) ∙ e ∙ sym (other.same (assigned_to m.vars.items m.bits.items)) ∙ small-value right)
 
-  pub answer-told : (t : Tried) → IsAnswer small left right t → IsToldOf g x k t
+  pub answer-told : (t : Tried) → IsAnswer small left right care t → IsToldOf g x k t
   answer-told (tried.Same cost) agree = agree-there agree
   answer-told (tried.Differs nodes bits) (are, each, apart) = λ m is. differ-there nodes bits are each m is apart
   answer-told tried.Limit nothing = tt

@@ -4,6 +4,7 @@ use Rattle.circuit_theory.specs.Query.{bits_of}
 use Rattle.aig.specs.declared.node.Node.{Node}
 use Rattle.aig.specs.declared.node.Node.TheVariants.{Input}
 use Rattle.aig.specs.Values.{value}
+use Rattle.aig.specs.lane_eval.Tables as table
 use Rattle.aig.specs.lane_eval.Tables.{assigned_to}
 use Rattle.aig.specs.lane_eval.root_classes.Agreeing.{Agree}
 use Rattle.aig.specs.lane_eval.root_classes.Inputs.{inputs_of}
@@ -26,17 +27,17 @@ IsOutcome (answer.Same why) vars t = (cost : Cost) × (t ≡ tried.Same cost)
 IsOutcome (answer.Differs bits) vars t = t ≡ tried.Differs vars bits
 IsOutcome (answer.Limit proof) vars t = t ≡ tried.Limit
 
--- no number where the literals agree, or else that of an assignment under which they differ
-abbrev pub IsFound : List Node → ℕ → ℕ → List ℕ → Option ℕ → Type 0
-IsFound g x y vars None = Agree g x y
-IsFound g x y vars (Some number) = DifferAt g x y vars (bits_of number (length vars))
+-- no number where the literals agree wherever the care c holds, or else that of an assignment under which they differ
+abbrev pub IsFound : List Node → ℕ → ℕ → ℕ → List ℕ → Option ℕ → Type 0
+IsFound g x y c vars None = table.Agree g x y c
+IsFound g x y c vars (Some number) = DifferAt g x y vars (bits_of number (length vars))
 
--- the literals agree, or bits of all variables tell them apart, or nothing is told
-abbrev pub IsAnswer : List Node → ℕ → ℕ → Tried → Type 0
-IsAnswer g x y (tried.Same cost) = Agree g x y
-IsAnswer g x y (tried.Differs vars bits) = (vars ≡ inputs_of g) × (length bits ≡ length vars) × DifferAt g x y vars bits
-IsAnswer g x y tried.Limit = ⊤
-IsAnswer g x y tried.Open = ⊤
+-- the literals agree wherever the care c holds, or bits of all variables tell them apart, or nothing is told
+abbrev pub IsAnswer : List Node → ℕ → ℕ → ℕ → Tried → Type 0
+IsAnswer g x y c (tried.Same cost) = table.Agree g x y c
+IsAnswer g x y c (tried.Differs vars bits) = (vars ≡ inputs_of g) × (length bits ≡ length vars) × DifferAt g x y vars bits
+IsAnswer g x y c tried.Limit = ⊤
+IsAnswer g x y c tried.Open = ⊤
 
 -- each of these nodes is that of the variable of its place
 abbrev pub AreVariables : List Node → List ℕ → List ℕ → Type 0

@@ -36,6 +36,8 @@ pub struct Budget {
     pub(crate) searches: bool,
     /// How many attempts by cases failed or were left out one after the other.
     pub(crate) in_vain: u32,
+    /// How many attempts over stages failed or were left out one after the other.
+    stages: u32,
     /// How many nodes may still be walked.
     pub(crate) walks: u64,
 }
@@ -51,6 +53,7 @@ impl Budget {
             left: effort.conflicts,
             searches: effort.searches,
             in_vain: 0,
+            stages: 0,
             walks: WALKS_BESIDES.saturating_add(WALKS.saturating_mul(u64::from(nodes))),
         }
     }
@@ -64,6 +67,7 @@ impl Budget {
             left: 20_000,
             searches: true,
             in_vain: 0,
+            stages: 0,
             walks: u64::from(nodes).saturating_add(1 << 10),
         }
     }
@@ -90,6 +94,24 @@ impl Budget {
         } else {
             self.in_vain = self.in_vain.saturating_add(1);
             self.note_walk(u64::from(nodes / 16));
+        }
+    }
+
+    /// Whether the stage is tried: where that failed 16 times one after the other, one of 16 is.
+    pub(crate) fn may_try_stage(&mut self) -> bool {
+        let may = self.stages < 16 || self.stages % 16 == 0;
+        if !may {
+            self.note_stage(false);
+        }
+        may
+    }
+
+    /// Notes an attempt over a stage.
+    pub(crate) fn note_stage(&mut self, told: bool) {
+        if told {
+            self.stages = 0;
+        } else {
+            self.stages = self.stages.saturating_add(1);
         }
     }
 

@@ -1,6 +1,7 @@
 //! Proving that two literals of a graph agree.
 
 ghost use Rattle.std.specs.Prelude.{◌≡◌, ℕ, ◌*◌, ◌<◌, ◌≤◌, List, length, IfOk, IfSome};
+ghost use Rattle.swept_queries.specs.node_agreement.Standing.{AreChosen};
 ghost use Rattle.aig.specs.declared.node.Node.{Node};
 ghost use Rattle.aig.specs.lane_eval.root_classes.Agreeing.{Agree};
 ghost use Rattle.sweep_candidates.specs.declared.models.Model.{Model};
@@ -8,13 +9,16 @@ ghost use Rattle.swept_queries.specs.declared.node_agreement.proof.Proved.TheVar
 ghost use Rattle.swept_queries.specs.node_agreement.Answers.{DifferAt, IsToldOf, IsProved};
 
 use crate::node_agreement::budget::Budget;
+use crate::node_agreement::facts::care_of;
 use crate::node_agreement::models::model_of;
 use crate::node_agreement::question::{Tried, ask};
 use crate::node_agreement::small::{find, small_graph};
 use aig::lane_eval::root_classes::{Aig, Lit, NoMemory};
 use std::alloc::Global;
 use sweep_candidates::case_split::agree_by_cases;
-use sweep_candidates::{Model, cut_of, small_cone_of, window_of};
+use sweep_candidates::{
+    Guide, Model, Part, cut_of, part_with_facts, plain_part, small_cone_of, stage_of, window_of,
+};
 
 /// After how many steps windows end.
 const WINDOWS: [usize; 2] = [100, 300];
@@ -50,27 +54,38 @@ pub fn prove(
     ensures same { IfOk result (λ p. p ≡ proved.Same → Agree graph.now x.0 k.0) }
     ensures apart { IfOk result (λ p. (m : Model) → p ≡ proved.Apart m → DifferAt graph.now x.0 k.0 m.vars.items m.bits.items) }
 {
-    attempt(alloc, graph, levels, x, k, budget)
+    let guide = Guide {
+        levels,
+        leaves: &[],
+        merged: &[],
+    };
+    prove_by(alloc, graph, &guide, &[], x, k, budget)
 }
 
-/// The same as one relation.
-fn attempt(
+/// The same where more is known of the graph, and for each of its first nodes a literal of the same value.
+pub(crate) fn prove_by(
     alloc: Global,
     graph: &Aig,
-    levels: &[u32],
+    guide: &Guide,
+    chosen: &[Lit],
     x: Lit,
     k: Lit,
     budget: &mut Budget,
 ) -> Result<Proved, NoMemory>
+    requires chosen { AreChosen graph.now chosen.now }
     requires x { x.0 < 2 * length graph.now }
     requires k { k.0 < 2 * length graph.now }
     ensures { IfOk result (IsProved graph.now x.0 k.0) }
 {
-    let near = prove_nearby(alloc, graph, levels, x, k, budget)?;
+    let near = prove_nearby(alloc, graph, guide.levels, x, k, budget)?;
     if near.is_told() || !budget.may_search() {
         return Ok(near);
     }
-    prove_wholly(alloc, graph, x, k, budget)
+    let stage = prove_in_stage(alloc, graph, guide, chosen, x, k, budget)?;
+    if stage.is_told() || !budget.may_search() {
+        return Ok(stage);
+    }
+    prove_wholly(alloc, graph, guide, chosen, x, k, budget)
 }
 
 /// Tries it over a cut, by cases, and over windows. Where no conflicts are allowed there is none.
@@ -88,7 +103,7 @@ fn prove_nearby(
         return Ok(Proved::Open);
     }
     let cut = cut_of(alloc, graph, levels, x, k)?;
-    let told = prove_in(alloc, graph, cut.as_slice(), x, k, budget)?;
+    let told = prove_over(alloc, graph, cut, x, k, budget)?;
     if told.is_told() || !budget.may_search() {
         return Ok(told);
     }
@@ -136,7 +151,7 @@ fn prove_in_window(
 {
     for i in 0..WINDOWS.len() {
         let window = window_of(alloc, graph, levels, x, k, WINDOWS[i])?;
-        let told = prove_in(alloc, graph, window.as_slice(), x, k, budget)?;
+        let told = prove_over(alloc, graph, window, x, k, budget)?;
         if told.is_told() {
             return Ok(told);
         }
@@ -144,43 +159,90 @@ fn prove_in_window(
     Ok(Proved::Open)
 }
 
-/// Tries it over the whole cones. Where no conflicts are allowed these are looked at only if they are small.
-pub(crate) fn prove_wholly(
+/// Tries it over the stage round them, with what is known beside it. Where that failed 16 times one after the other, one of 16 is tried.
+fn prove_in_stage(
     alloc: Global,
     graph: &Aig,
+    guide: &Guide,
+    chosen: &[Lit],
     x: Lit,
     k: Lit,
     budget: &mut Budget,
 ) -> Result<Proved, NoMemory>
+    requires { AreChosen graph.now chosen.now }
+    ensures { IfOk result (IsProved graph.now x.0 k.0) }
+{
+    if budget.each == 0 || !budget.may_try_stage() {
+        return Ok(Proved::Open);
+    }
+    let Some(stage) = stage_of(alloc, graph, guide.leaves, x, k)? else {
+        return Ok(Proved::Open);
+    };
+    budget.note_walk(stage.len() as u64);
+    let part = part_with_facts(alloc, graph, guide, chosen, stage)?;
+    let told = prove_in(alloc, graph, &part, chosen, x, k, budget)?;
+    budget.note_stage(told.is_told());
+    Ok(told)
+}
+
+/// Tries it over the whole cones, with what is known beside them. Where no conflicts are allowed these are looked at only if they are small.
+pub(crate) fn prove_wholly(
+    alloc: Global,
+    graph: &Aig,
+    guide: &Guide,
+    chosen: &[Lit],
+    x: Lit,
+    k: Lit,
+    budget: &mut Budget,
+) -> Result<Proved, NoMemory>
+    requires chosen { AreChosen graph.now chosen.now }
     requires x { x.0 < 2 * length graph.now }
     requires k { k.0 < 2 * length graph.now }
     ensures { IfOk result (IsProved graph.now x.0 k.0) }
 {
     if budget.each == 0 {
         return match small_cone_of(alloc, graph, &[], x, k)? {
-            Some(cone) => prove_in(alloc, graph, cone.as_slice(), x, k, budget),
+            Some(cone) => prove_over(alloc, graph, cone, x, k, budget),
             None => Ok(Proved::Open),
         };
     }
     let cone = graph.cone(alloc, &[x, k])?;
     budget.note_cone(cone.len(), graph.size());
-    prove_in(alloc, graph, cone.as_slice(), x, k, budget)
+    let part = part_with_facts(alloc, graph, guide, chosen, cone.into_vec())?;
+    prove_in(alloc, graph, &part, chosen, x, k, budget)
 }
 
-/// Tries it over the small graph of these nodes. Where the literals differ there, so they do in the graph if its variables are the
-/// graph's own. A search that fails is paid for.
-fn prove_in(
+/// Tries it over the small graph of these nodes alone.
+fn prove_over(
     alloc: Global,
     graph: &Aig,
-    numbers: &[u32],
+    numbers: Vec<u32>,
     x: Lit,
     k: Lit,
     budget: &mut Budget,
 ) -> Result<Proved, NoMemory>
     ensures { IfOk result (IsProved graph.now x.0 k.0) }
 {
+    let part = plain_part(alloc, numbers);
+    prove_in(alloc, graph, &part, &[], x, k, budget)
+}
+
+/// Tries it over the small graph of this part, where its facts hold. Where the literals differ there, so they do in the graph if its variables are the
+/// graph's own. A search that fails is paid for.
+fn prove_in(
+    alloc: Global,
+    graph: &Aig,
+    part: &Part,
+    chosen: &[Lit],
+    x: Lit,
+    k: Lit,
+    budget: &mut Budget,
+) -> Result<Proved, NoMemory>
+    requires { AreChosen graph.now chosen.now }
+    ensures { IfOk result (IsProved graph.now x.0 k.0) }
+{
     let conflicts = budget.conflicts();
-    let tried = try_small(alloc, graph, numbers, x, k, conflicts)?;
+    let tried = try_small(alloc, graph, part, chosen, x, k, conflicts)?;
     budget.note(&tried, conflicts);
     match tried {
         Tried::Same(_) => Ok(Proved::Same),
@@ -202,24 +264,28 @@ fn apart_by(found: Option<Model>) -> Proved
     }
 }
 
-/// Tries to prove that two literals agree over the small graph of these nodes.
+/// Tries to prove that two literals agree over the small graph of this part, where its facts hold.
 fn try_small(
     alloc: Global,
     graph: &Aig,
-    numbers: &[u32],
+    part: &Part,
+    chosen: &[Lit],
     x: Lit,
     k: Lit,
     conflicts: u32,
 ) -> Result<Tried, NoMemory>
-    requires { conflicts ≤ 200000 }
+    requires chosen { AreChosen graph.now chosen.now }
+    requires conflicts { conflicts ≤ 200000 }
     ensures { IfOk result (IsToldOf graph.now x.0 k.0) }
 {
     graph.keeps();
-    let small = small_graph(alloc, graph, numbers)?;
+    let numbers = part.numbers.as_slice();
+    let mut small = small_graph(alloc, graph, numbers)?;
+    let care = care_of(&mut small, graph, part, chosen)?;
     small.graph.keeps();
     let lits = small.lits.as_slice();
     let (Some(left), Some(right)) = (find(numbers, lits, x), find(numbers, lits, k)) else {
         return Ok(Tried::Open);
     };
-    ask(alloc, &small.graph, left, right, conflicts)
+    ask(alloc, &small.graph, left, right, care, conflicts)
 }

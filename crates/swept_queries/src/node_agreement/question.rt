@@ -34,55 +34,51 @@ pub(crate) enum Tried {
     Open,
 }
 
-/// Tries to prove that two literals agree over all variables of the graph. Where a table of up to 24 variables takes no longer than so
-/// many conflicts, it follows a short search.
+/// Tries to prove that two literals agree where the care holds, over all variables of the graph. Where a table of up to 24 variables takes
+/// no longer than so many conflicts, it follows a short search.
 pub(crate) fn ask(
     alloc: Global,
     graph: &Aig,
     left: Lit,
     right: Lit,
+    care: Lit,
     conflicts: u32,
 ) -> Result<Tried, NoMemory>
     requires left { left.0 < 2 * length graph.now }
     requires right { right.0 < 2 * length graph.now }
+    requires care { care.0 < 2 * length graph.now }
     requires conflicts { conflicts ≤ 200000 }
-    ensures { IfOk result (IsAnswer graph.now left.0 right.0) }
+    ensures { IfOk result (IsAnswer graph.now left.0 right.0 care.0) }
 {
     let vars = variables(alloc, graph)?;
     let light = is_light(graph.size(), vars.len(), conflicts);
     let most = conflicts.min(if light { SHORT } else { u32::MAX });
-    let tried = ask_search(alloc, graph, left, right, vars, most)?;
+    let query = Query {
+        left,
+        right,
+        care,
+        vars,
+    };
+    let tried = ask_search(alloc, graph, query, most)?;
     if light && matches!(tried, Tried::Limit) {
-        return ask_table(alloc, graph, left, right);
+        return ask_table(alloc, graph, left, right, care);
     }
     Ok(tried)
 }
 
 /// Tries it by a table where the variables are at most 16, and else by a search, if that may have conflicts.
-fn ask_search(
-    alloc: Global,
-    graph: &Aig,
-    left: Lit,
-    right: Lit,
-    vars: Ids,
-    conflicts: u32,
-) -> Result<Tried, NoMemory>
-    requires left { left.0 < 2 * length graph.now }
-    requires right { right.0 < 2 * length graph.now }
-    requires vars { vars ≡ inputs_of graph.now }
+fn ask_search(alloc: Global, graph: &Aig, query: Query, conflicts: u32) -> Result<Tried, NoMemory>
+    requires left { query.left.0 < 2 * length graph.now }
+    requires right { query.right.0 < 2 * length graph.now }
+    requires care { query.care.0 < 2 * length graph.now }
+    requires vars { query.vars ≡ inputs_of graph.now }
     requires conflicts { conflicts ≤ 200000 }
-    ensures { IfOk result (IsAnswer graph.now left.0 right.0) }
+    ensures { IfOk result (IsAnswer graph.now query.left.0 query.right.0 query.care.0) }
 {
     graph.keeps();
-    if vars.len() > MAX_TABLE_VARIABLES && conflicts == 0 {
+    if query.vars.len() > MAX_TABLE_VARIABLES && conflicts == 0 {
         return Ok(Tried::Open);
     }
-    let query = Query {
-        left,
-        right,
-        care: Lit::TRUE,
-        vars,
-    };
     let decision = decide(alloc, graph, &query, conflicts)?;
     Ok(outcome_of(decision, query.vars))
 }

@@ -10,7 +10,7 @@ use aig::lane_eval::root_classes::{Aig, Lit, NoMemory, Node};
 use std::alloc::Global;
 
 /// The most nodes of a small graph.
-const MOST: u32 = 1 << 29;
+pub(crate) const MOST: u32 = 1 << 29;
 
 /// A small graph, and its literals of the first of some nodes.
 #[derive(Drop)]

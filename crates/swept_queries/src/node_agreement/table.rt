@@ -26,23 +26,25 @@ fn table_worth(nodes: u32, vars: usize) -> u32 {
     (u64::from(nodes).saturating_mul(assignments) >> 23).min(200_000) as u32
 }
 
-/// Tries all assignments of the graph's variables, if these are at most 24.
+/// Tries all assignments of the graph's variables where the care holds, if these are at most 24.
 pub(crate) fn ask_table(
     alloc: Global,
     graph: &Aig,
     left: Lit,
     right: Lit,
+    care: Lit,
 ) -> Result<Tried, NoMemory>
     requires left { left.0 < 2 * length graph.now }
     requires right { right.0 < 2 * length graph.now }
-    ensures { IfOk result (IsAnswer graph.now left.0 right.0) }
+    requires care { care.0 < 2 * length graph.now }
+    ensures { IfOk result (IsAnswer graph.now left.0 right.0 care.0) }
 {
     let vars = variables(alloc, graph)?;
     if vars.len() > WIDE {
         return Ok(Tried::Open);
     }
     graph.keeps();
-    let found = table_differs(alloc, graph, left, right, Lit::TRUE, &vars)?;
+    let found = table_differs(alloc, graph, left, right, care, &vars)?;
     match found {
         None => Ok(Tried::Same(Cost {
             conflicts: 0,
@@ -54,7 +56,7 @@ pub(crate) fn ask_table(
 
 /// That the literals differ where the variables have the number's low bits.
 fn differing_by(alloc: Global, vars: Ids, number: u32) -> Result<Tried, NoMemory>
-    ensures { IfOk result (λ t. (g : List Node) (x y : ℕ) → vars ≡ inputs_of g → IsFound g x y vars (Some number) → IsAnswer g x y t) }
+    ensures { IfOk result (λ t. (g : List Node) (x y c : ℕ) → vars ≡ inputs_of g → IsFound g x y c vars (Some number) → IsAnswer g x y c t) }
 {
     let bits = low_bits(alloc, vars.len(), number)?;
     Ok(Tried::Differs(vars, bits))

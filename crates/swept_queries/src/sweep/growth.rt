@@ -11,7 +11,7 @@ ghost use Rattle.swept_queries.specs.node_agreement.Standing.{StandsFor, AreStan
 ghost use Rattle.swept_queries.specs.sweep.Grown.{IsGrown};
 ghost use Rattle.swept_queries.specs.sweep.Swept.{HasNoOtherInputs};
 
-use crate::node_agreement::{Budget, Effort, Hints, Proved, prove, signed, zero};
+use crate::node_agreement::{Budget, Effort, Hints, Proved, prove_by, signed, zero};
 use aig::{Aig, Lit, NoMemory, Node};
 use std::alloc::Global;
 
@@ -61,11 +61,34 @@ pub(crate) fn grown(
 {
     old.keeps();
     let mut growth = begun(alloc, old, effort, words)?;
+    let marked = marked_in(alloc, old)?;
     for n in 1..old.size() {
         let role = roles.get(n as usize).copied().unwrap_or(Role::Outside);
-        growth.put(alloc, old, n, words, role)?;
+        let ends = marked.get(n as usize) == Some(&true);
+        growth.put_next(alloc, old, n, words, role, ends)?;
     }
     Ok(growth)
+}
+
+/// For each node whether it is marked, or nothing where none is.
+fn marked_in(alloc: Global, old: &Aig) -> Result<Vec<bool>, NoMemory> {
+    let marks = old.marks();
+    if marks.is_empty() {
+        return Ok(Vec::new(alloc));
+    }
+    let mut marked = vec![in alloc; false; old.size() as usize]?;
+    for i in 0..marks.len() {
+        let n = marks[i] as usize;
+        if n < marked.len() {
+            marked[n] = true;
+        }
+    }
+    Ok(marked)
+}
+
+/// Whether the node is one, and has operands.
+fn is_and(graph: &Aig, n: u32) -> bool {
+    n < graph.size() && matches!(graph.node(n), Node::And(_, _))
 }
 
 /// The graph of the constant.
@@ -89,6 +112,26 @@ fn begun(alloc: Global, old: &Aig, effort: Effort, words: &[u64]) -> Result<Grow
 }
 
 impl Growth {
+    /// Puts the literal for the next node of the old graph behind the others, and notes whether a stage ends there.
+    fn put_next(
+        &mut self,
+        alloc: Global,
+        old: &Aig,
+        n: u32,
+        words: &[u64],
+        role: Role,
+        ends: bool,
+    ) -> Result<(), NoMemory>
+        requires node { n < length old.now }
+        requires some { 0 < n }
+        requires grown { IsGrown old.now self.old n }
+        ensures { OnOk result (IsGrown old.now self.new (n + 1)) }
+    {
+        self.put(alloc, old, n, words, role)?;
+        self.note_end(ends)?;
+        Ok(())
+    }
+
     /// Puts the literal for the next node of the old graph behind the others. It may be one that was kept before only if the
     /// node is to be tried.
     fn put(
@@ -112,6 +155,23 @@ impl Growth {
         Ok(())
     }
 
+    /// Notes that a stage ends at the last literal, if it does: its node is marked. At a variable each cone ends anyway.
+    fn note_end(&mut self, ends: bool) -> Result<(), NoMemory>
+        ensures graph { self.new.graph ≡ self.old.graph }
+        ensures map { self.new.map.items ≡ self.old.map.items }
+        ensures chosen { self.new.chosen.items ≡ self.old.chosen.items }
+    {
+        if !ends {
+            return Ok(());
+        }
+        let y = self.map.last().copied().unwrap_or(Lit::FALSE);
+        if is_and(&self.graph, y.node()) {
+            self.graph.mark(y)?;
+            self.hints.note_leaf(y.node())?;
+        }
+        Ok(())
+    }
+
     /// Notes a kept literal for the node, if it is the next one.
     fn note(&mut self, alloc: Global, n: u32, words: &[u64], role: Role) -> Result<(), NoMemory>
         requires within { n < length self.old.graph }
@@ -129,7 +189,8 @@ impl Growth {
 
     /// A literal of the node's value: one that was kept before if it is proved to agree, and else the node's own.
     fn merged(&mut self, alloc: Global, n: u32, words: &[u64], role: Role) -> Result<Lit, NoMemory>
-        requires { n < length self.old.graph }
+        requires within { n < length self.old.graph }
+        requires chosen { AreChosen self.old.graph self.old.chosen.items }
         ensures graph { self.new.graph ≡ self.old.graph }
         ensures map { self.new.map.items ≡ self.old.map.items }
         ensures chosen { self.new.chosen.items ≡ self.old.chosen.items }
@@ -140,6 +201,7 @@ impl Growth {
         if role == Role::Tried
             && let Some(k) = self.agreeing(alloc, n, words)?
         {
+            self.hints.note_merged(n)?;
             return Ok(k);
         }
         if role != Role::Outside {
@@ -150,7 +212,8 @@ impl Growth {
 
     /// A literal that is proved to agree with the node. Some are tried, as long as they differ.
     fn agreeing(&mut self, alloc: Global, n: u32, words: &[u64]) -> Result<Option<Lit>, NoMemory>
-        requires { n < length self.old.graph }
+        requires within { n < length self.old.graph }
+        requires chosen { AreChosen self.old.graph self.old.chosen.items }
         ensures graph { self.new.graph ≡ self.old.graph }
         ensures map { self.new.map.items ≡ self.old.map.items }
         ensures chosen { self.new.chosen.items ≡ self.old.chosen.items }
@@ -168,7 +231,8 @@ impl Growth {
 
     /// Tries the node with the next literal that may agree with it. Where they differ that is noted.
     fn step(&mut self, alloc: Global, n: u32, words: &[u64]) -> Result<Step, NoMemory>
-        requires { n < length self.old.graph }
+        requires within { n < length self.old.graph }
+        requires chosen { AreChosen self.old.graph self.old.chosen.items }
         ensures graph { self.new.graph ≡ self.old.graph }
         ensures map { self.new.map.items ≡ self.old.map.items }
         ensures chosen { self.new.chosen.items ≡ self.old.chosen.items }
@@ -182,8 +246,9 @@ impl Growth {
         if k.0 >= own.0 {
             return Ok(Step::Stop);
         }
-        let levels = self.hints.levels();
-        match prove(alloc, &self.graph, levels, own, k, &mut self.budget)? {
+        let guide = self.hints.guide();
+        let chosen = self.chosen.as_slice();
+        match prove_by(alloc, &self.graph, &guide, chosen, own, k, &mut self.budget)? {
             Proved::Same => Ok(Step::Merge(k)),
             Proved::Apart(model) => {
                 let told = self.hints.refine(alloc, self.graph.nodes(), words, &model)?;

@@ -1,14 +1,18 @@
 -- What drives the signal says which literal its place has.
-use Rattle.std.proofs.Common.{◌∙◌, ◌-◌, ℕ, List, length, get_or, slice_get, Some, refl, sym, ap, subst, arith, ◌*◌, ◌<◌, IfOk}
+use Rattle.std.proofs.Common.{◌≡◌, ◌∙◌, ◌-◌, ℕ, List, length, get_or, slice_get, Some, refl, sym, ap, subst, arith, ◌*◌, ◌<◌, IfOk}
 use Rattle.std.specs.List.{Contains}
 use Rattle.std.proofs.lemmas.Option.{slice_get_within, slice_get-get_or}
+use Rattle.std.proofs.lemmas.Result.{IfOk-weaker}
 use Rattle.flat_net.specs.declared.parts.Driver.TheVariants as driver
 use Rattle.flat_net.specs.View.{NetView, circuit_of}
 use Rattle.flat_net.specs.Sound.{IsSound}
 use Rattle.aig.specs.declared.node.Lit.{Lit}
+use Rattle.aig.specs.declared.node.Node.{Node}
 use Rattle.flat_net.specs.Weights.{driver_weight, gate_weight, weight_at}
 use Rattle.cbf_unfold.specs.unfold_places.Places.{Steps}
 use Rattle.cbf_unfold.specs.unfold_places.Reach.{IsMet}
+use Rattle.cbf_unfold.specs.unfold_places.Growing.{HasGrown}
+use Rattle.cbf_unfold.specs.Unfolded.{IsKnown}
 use Rattle.cbf_unfold.specs.unfold_places.Literals.{IsGateLit}
 use Rattle.flat_net.proofs.Drivers.{driven_gate, driven_latch}
 use Rattle.cbf_unfold.proofs.unfold_places.PlaceLits.{gate_met, gate_counts}
@@ -107,7 +111,13 @@ returns-in-Latch c =
     let sound : IsSound u.net = subst IsSound c.net-net.ensures c.keeps.ensures.sound in
     let drives = ap (λ (n : NetView). slice_get n.drivers c.args.place.1) (sym c.net-net.ensures) ∙ c.driver.ensures ∙ ap Some c.in-Latch.is in
     let at = ap (λ (n : NetView). slice_get n.latches c.in-Latch.j) (sym c.net-net.ensures) ∙ c.latch_of.ensures.there in
+    let g : List Node = c.args.aig.now in
+    let known : List Node → Lit → Type 0 = λ h x. IsKnown u.net u.order u.cap h c.args.places.now c.args.place x.0 in
+    let here : known g c.met.result =
+    latch_is u sound c.keeps-2.ensures.unfolder.order c.args.place c.in-Latch.j c.latch_of.result.now c.met.result g c.args.places.now drives at c.requires.ready c.requires.known c.met.ensures in
     record {
-      known = latch_is u sound c.keeps-2.ensures.unfolder.order c.args.place c.in-Latch.j c.latch_of.result.now c.met.result c.args.aig.now c.args.places.now drives at c.requires.ready c.requires.known c.met.ensures;
-      grown = grown_none c.args.aig.now c.args.places.now c.args.places.now (weight_at u.net c.args.place.1) refl;
+      known = subst (λ (h : List Node). IfOk c.marked.result (known h)) (sym c.marked.ensures.same)
+          (IfOk-weaker c.marked.result (λ (x : Lit). x ≡ c.met.result) (known g) (λ x e. subst (known g) (sym e) here) c.marked.ensures.is);
+      grown = subst (λ (h : List Node). HasGrown g h c.args.places.now c.args.places.now (weight_at u.net c.args.place.1)) (sym c.marked.ensures.same)
+          (grown_none g c.args.places.now c.args.places.now (weight_at u.net c.args.place.1) refl);
     }

@@ -1,4 +1,4 @@
-use Rattle.std.proofs.Common.{◌≡◌, ◌%◌, arith}
+use Rattle.std.proofs.Common.{◌≡◌, ◌%◌}
 use Rattle.swept_queries.proofs.node_agreement.Stood.{stands-odd}
 use Rattle.swept_queries.proofs.node_agreement.signs.signed.Goals as goal
 
