@@ -6,3 +6,4 @@ pub mod Finds
 pub mod Lifted
 pub mod Means
 pub mod Complete
+pub mod ties

@@ -5,3 +5,4 @@ mod judging;
 mod report;
 
 pub use comparison::{TiesComparison, compare_ties};
+pub use judging::judge_ties;
