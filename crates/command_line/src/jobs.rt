@@ -1,6 +1,6 @@
 //! From the words to the job.
 
-ghost use Rattle.std.specs.Prelude.{◌≡◌, map, string_bytes, option_map, IfOk, IfSome, IfNone, IsErrOf, None, Some, Option, option_and_then, [], codes};
+ghost use Rattle.std.specs.Prelude.{◌≡◌, map, string_bytes, option_map, IfOk, IfSome, IfNone, IsErrOf, None, Some, Option, true, option_and_then, [], codes};
 ghost use Rattle.std.specs.Str.Parse.{digits_value, without_leading_plus};
 ghost use Rattle.clap.specs.Words.{fault_of, first_of, found_of, rows_of, subcommand_of, subcommand_rows_of, IsUnsignedIn};
 ghost use Rattle.clap.specs.ValueTests.{accepts};

@@ -6,4 +6,3 @@ pub mod Finds
 pub mod Lifted
 pub mod Means
 pub mod Complete
-pub mod ties

@@ -9,10 +9,10 @@ use Rattle.flat_net.specs.View.{NetView, circuit_of, ports_of}
 use Rattle.pair_decide.specs.declared.query.Proof.{Proof}
 use Rattle.job_base.specs.declared.finding.Judgement.{Judgement}
 use Rattle.pair_texts.proofs.assume_texts.Sequences.{run_meets, resets_where_met}
-use Rattle.signal_induct.specs.Tied.{first_apart}
+use Rattle.job_under.specs.signal_induct.Tied.{first_apart}
 use Rattle.restart.specs.Agreement.{Each}
 use Rattle.job_after.specs.Report.{begun_text}
-use Rattle.job_signals.specs.job_begun.Judged.{Begun, AreBegun}
+use Rattle.job_under.specs.job_begun.Judged.{Begun, AreBegun}
 use Rattle.job_under.specs.ties.Judged as ties
 use Rattle.job_after_under.specs.Runs.{AgreeBehindWhereMet, TiesHoldWhereMet}
 use Rattle.job_after_under.specs.ties.Judged.{AreJudgedBehind, AreJudged}

@@ -14,11 +14,11 @@ use Rattle.job_base.specs.declared.status.StatusName.{StatusName}
 use Rattle.job_base.specs.declared.status.StatusName.TheVariants as status
 use Rattle.job_base.specs.Written.{judgement_status, IsWrittenAs}
 use Rattle.pair_texts.proofs.assume_texts.Texts.{spelled}
-use Rattle.signal_induct.specs.Tied.{first_apart}
+use Rattle.job_under.specs.signal_induct.Tied.{first_apart}
 use Rattle.restart.specs.Agreement.{Each}
-use Rattle.job_signals.specs.Judged.{judgement_of}
-use Rattle.job_signals.specs.job_begun.Judged.{text_behind}
-use Rattle.job_signals.proofs.Means.{not_different, not_limit, not_done}
+use Rattle.job_under.specs.job_signals.Judged.{judgement_of}
+use Rattle.job_under.specs.job_begun.Judged.{text_behind}
+use Rattle.job_under.proofs.job_signals.Means.{not_different, not_limit, not_done}
 use Rattle.job_after_under.specs.Judged.{IsJudgedUndecided}
 use Rattle.job_after_under.specs.Found.{OfFour}
 use Rattle.job_after_under.specs.Answer.{AssumptionUndecided, OfFourTexts}

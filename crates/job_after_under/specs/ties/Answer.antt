@@ -10,10 +10,10 @@ use Rattle.job_base.specs.declared.status.StatusName.{StatusName}
 use Rattle.job_base.specs.declared.status.StatusName.TheVariants as status
 use Rattle.job_base.specs.sec_files.Stimuli.{IsStimulus}
 use Rattle.pair_texts.specs.assume_texts.Texts.{ThreeCircuits}
-use Rattle.signal_induct.specs.declared.induction.SignalInduction.{SignalInduction}
-use Rattle.signal_induct.specs.Tied.{first_apart, IsInductionWhere}
+use Rattle.job_under.specs.signal_induct.SignalInduction.{SignalInduction}
+use Rattle.job_under.specs.signal_induct.Tied.{first_apart, IsInductionWhere}
 use Rattle.restart.specs.Agreement.{Each}
-use Rattle.job_signals.specs.job_begun.Judged.{Begun, AreBegun, text_behind}
+use Rattle.job_under.specs.job_begun.Judged.{Begun, AreBegun, text_behind}
 use Rattle.job_under.specs.ties.Judged.{MeetsBeside, ties_text}
 use Rattle.job_under.specs.ties.Found.{TiesRefuse}
 use Rattle.job_after_under.specs.Answer.{AssumptionUndecided, OfFourTexts, CanJudgeBehind, IsAfterUnderAnswer}

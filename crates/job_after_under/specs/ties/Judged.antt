@@ -3,9 +3,9 @@ use Rattle.std.specs.Prelude.{◌≡◌, ◌⊎◌, ℕ, Bool, List, length, Non
 use Rattle.flat_net.specs.View.{NetView, circuit_of}
 use Rattle.pair_decide.specs.declared.query.Proof.{Proof}
 use Rattle.job_base.specs.declared.finding.Judgement.{Judgement}
-use Rattle.signal_induct.specs.Tied.{first_apart}
+use Rattle.job_under.specs.signal_induct.Tied.{first_apart}
 use Rattle.restart.specs.Agreement.{Each}
-use Rattle.job_signals.specs.job_begun.Judged.{Begun, AreBegun, text_behind}
+use Rattle.job_under.specs.job_begun.Judged.{Begun, AreBegun, text_behind}
 use Rattle.job_under.specs.ties.Judged.{AreJudgedTied}
 use Rattle.job_after_under.specs.Judged.{IsJudgedUndecided}
 use Rattle.job_after_under.specs.Runs.{AgreeBehindWhereMet, TiesHoldWhereMet}

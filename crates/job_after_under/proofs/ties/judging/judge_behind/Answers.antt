@@ -4,7 +4,7 @@ use Rattle.restart.specs.Behind.{IsBegun}
 use Rattle.job_after.specs.Report.{begun_text}
 use Rattle.job_after.specs.Ends.{FitsAfter}
 use Rattle.job_after.proofs.Starts.{comparable, long}
-use Rattle.job_signals.specs.job_begun.Judged.{Begun, AreBegun}
+use Rattle.job_under.specs.job_begun.Judged.{Begun, AreBegun}
 use Rattle.job_after_under.specs.declared.fault.Fault.TheVariants as fault
 use Rattle.job_after_under.specs.ties.Ends.{AreJudgedBy}
 use Rattle.job_after_under.proofs.Judges.{refused_by}
