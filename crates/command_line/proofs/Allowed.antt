@@ -11,7 +11,7 @@ use Rattle.sec_base.specs.declared.settings.Settings.{Settings}
 use Rattle.command_line.specs.declared.task.Task.{Task}
 use Rattle.command_line.specs.declared.task.Task.TheVariants as task
 use Rattle.command_line.specs.command_words.Command.{sec_app, most_conflicts, most_cycles, any_number}
-use Rattle.command_line.specs.Jobs.{task_in, check_in, compared_in, checked_in, begun_in, paired_in, stands_alone, graph_in, run_in, sim_in, replay_in, settle_in, gen_in, lrat_in, cert_in, induct_in, form_in, settings_in, conflicts_in, mode_in, mode_of, refuses_reset, number_of, is_set, with_word, last_in, inducted_in, tied_in, searched_in, renamed_in}
+use Rattle.command_line.specs.Jobs.{task_in, check_in, compared_in, checked_in, begun_in, paired_in, stands_alone, graph_in, run_in, sim_in, replayed_in, replay_in, settle_in, gen_in, lrat_in, cert_in, induct_in, form_in, settings_in, conflicts_in, mode_in, named_mode, mode_of, refuses_reset, number_of, is_set, with_word, last_in, inducted_in, tied_in, searched_in, renamed_in}
 use Rattle.command_line.specs.Allowed.{IsAllowed, JobsAreAllowed}
 
 some_is : {X : Type 0} {x y : X} → Some x ≡ Some y → x ≡ y
@@ -202,15 +202,23 @@ allowed_sim rows job e =
     let mode = and_then_some (λ m. run_in a.0 s.0 m power reset after) (mode_in rows) job s.2 in
     allowed_run a.0 s.0 mode.0 power reset after job mode.2
 
+allowed_replayed : (a b s : Text) (settles reset : Bool) (after : Option Text) (mode : Mode) (job : Task) → replayed_in a b s settles reset after mode ≡ Some job → IsAllowed job
+allowed_replayed a b s settles false None mode job e = let here : IsAllowed (task.Replay a b s mode settles) = tt in subst IsAllowed (some_is e) here
+allowed_replayed a b s settles false (Some rows) mode job e = absurd (cc)
+allowed_replayed a b s settles true None Plain job e = let here : IsAllowed (task.ReplayReset a b s settles) = tt in subst IsAllowed (some_is e) here
+allowed_replayed a b s settles true (Some rows) Plain job e = let here : IsAllowed (task.ReplayAfter a b s rows settles) = tt in subst IsAllowed (some_is e) here
+allowed_replayed a b s settles true after Event job e = absurd (cc)
+
 allowed_replay : (rows : List Row) (job : Task) → replay_in rows ≡ Some job → IsAllowed job
 allowed_replay rows job e =
     let settles : Bool = is_set (codes "settles") rows in
-    let a = and_then_some (λ x. with_word (codes "b") rows (λ y. with_word (codes "s") rows (λ z. option_map (λ m. task.Replay x y z m settles) (mode_in rows)))) (first_of (codes "a") rows) job e in
-    let b = and_then_some (λ y. with_word (codes "s") rows (λ z. option_map (λ m. task.Replay a.0 y z m settles) (mode_in rows))) (first_of (codes "b") rows) job a.2 in
-    let s = and_then_some (λ z. option_map (λ m. task.Replay a.0 b.0 z m settles) (mode_in rows)) (first_of (codes "s") rows) job b.2 in
-    let mode = map_some (λ m. task.Replay a.0 b.0 s.0 m settles) (mode_in rows) job s.2 in
-    let allowed_here : IsAllowed (task.Replay a.0 b.0 s.0 mode.0 settles) = tt in
-    subst IsAllowed mode.2 allowed_here
+    let reset : Bool = is_set (codes "reset") rows in
+    let after : Option Text = first_of (codes "after") rows in
+    let a = and_then_some (λ x. with_word (codes "b") rows (λ y. with_word (codes "s") rows (λ z. option_and_then (replayed_in x y z settles reset after) (named_mode rows)))) (first_of (codes "a") rows) job e in
+    let b = and_then_some (λ y. with_word (codes "s") rows (λ z. option_and_then (replayed_in a.0 y z settles reset after) (named_mode rows))) (first_of (codes "b") rows) job a.2 in
+    let s = and_then_some (λ z. option_and_then (replayed_in a.0 b.0 z settles reset after) (named_mode rows)) (first_of (codes "s") rows) job b.2 in
+    let mode = and_then_some (replayed_in a.0 b.0 s.0 settles reset after) (named_mode rows) job s.2 in
+    allowed_replayed a.0 b.0 s.0 settles reset after mode.0 job mode.2
 
 allowed_settle : (rows : List Row) (job : Task) → settle_in rows ≡ Some job → IsAllowed job
 allowed_settle rows job e =

@@ -7,6 +7,7 @@ use Rattle.std.specs.Str.{bytes_eq}
 use Rattle.std.specs.Str.Parse.{digits_value, without_leading_plus}
 use Rattle.std.proofs.lemmas.Slice.Eq.{bytes_eq-Decides}
 use Rattle.circuit_theory.specs.declared.Mode.{Mode}
+use Rattle.circuit_theory.specs.declared.Mode.TheVariants.{Plain, Event}
 use Rattle.sec_base.specs.declared.settings.Settings.{Settings}
 use Rattle.clap.specs.Facts.{explicit_source}
 use Rattle.clap.specs.Takes.{is_given}
@@ -17,8 +18,8 @@ use Rattle.clap.specs.Walk.{Row, Rule, Text, Walk, answers_to, finished, first_o
 use Rattle.clap.specs.Simple.{App, Shape, built, built_leaf, entered, help_shape, inherited, label_of, marked_built, names_of, rows_at, subcommand_of, with_leaf_noted}
 use Rattle.clap.specs.declared.builder.value_parser.ValueParser.{ValueParser}
 use Rattle.command_line.specs.command_words.Command.{sec_app, check_app, graph_app, sim_app, replay_app, settle_app, gen_app, lrat_app, cert_app, induct_app, most_conflicts, most_cycles, any_number}
-use Rattle.command_line.specs.Jobs.{begun_in, cert_in, check_in, checked_in, conflicts_in, form_in, gen_in, graph_in, induct_in, is_set, job_of, lrat_in, mode_in, number_of, paired_in, replay_in, settle_in, run_in, sim_in, stands_alone, task_in, tied_in, renamed_in}
-use Rattle.command_line.specs.Known.{HasFitMode, after_fits, cycles_fit, cycles_given, mode_fits, pair_fits, ties_fit, tied_fits, pairs_fit, run_fits, sim_fits}
+use Rattle.command_line.specs.Jobs.{begun_in, cert_in, check_in, checked_in, conflicts_in, form_in, gen_in, graph_in, induct_in, is_set, job_of, lrat_in, mode_in, named_mode, number_of, paired_in, replayed_in, replay_in, settle_in, run_in, sim_in, stands_alone, task_in, tied_in, renamed_in}
+use Rattle.command_line.specs.Known.{HasFitMode, after_fits, cycles_fit, cycles_given, mode_fits, pair_fits, ties_fit, tied_fits, pairs_fit, replay_fits, replayed_fits, run_fits, sim_fits}
 use Rattle.command_line.proofs.Taken.{else_first, else_next, EachRule, IsNotHelp, IsOwn, no_help_walk}
 use Rattle.command_line.proofs.Leaves.{IsRead, first_good, first_has, leaf_read, second_check}
 
@@ -119,12 +120,18 @@ sim_job rows a s ea es known = let both = both_hold (is_some (mode_in rows)) (si
     by None e h fits = absurd (true≢false (sym h))
     by (Some m) e h fits = rw (ea, es, e) (run_job a s m (first_of (codes "power") rows) (is_set (codes "reset") rows) (first_of (codes "after") rows) fits)
 
-replay_job : (rows : List Row) (a b s : Text) → first_of (codes "a") rows ≡ Some a → first_of (codes "b") rows ≡ Some b → first_of (codes "s") rows ≡ Some s → is_some (mode_in rows) ≡ true → is_some (replay_in rows) ≡ true
-replay_job rows a b s ea eb es mode = by (mode_in rows) refl mode
-  where
-    by : (m : Option Mode) → mode_in rows ≡ m → is_some m ≡ true → is_some (replay_in rows) ≡ true
-    by None e h = absurd (true≢false (sym h))
-    by (Some m) e h = rw (ea, eb, es, e) refl
+replayed_job : (a b s : Text) (settles reset : Bool) (after : Option Text) (mode : Option Mode) → replayed_fits reset after mode ≡ true → is_some (option_and_then (replayed_in a b s settles reset after) mode) ≡ true
+replayed_job a b s settles reset after None h = absurd (true≢false (sym h))
+replayed_job a b s settles false None (Some Plain) h = refl
+replayed_job a b s settles false (Some rows) (Some Plain) h = h
+replayed_job a b s settles true None (Some Plain) h = refl
+replayed_job a b s settles true (Some rows) (Some Plain) h = refl
+replayed_job a b s settles false None (Some Event) h = refl
+replayed_job a b s settles false (Some rows) (Some Event) h = absurd (true≢false (sym h))
+replayed_job a b s settles true after (Some Event) h = absurd (true≢false (sym h))
+
+replay_job : (rows : List Row) (a b s : Text) → first_of (codes "a") rows ≡ Some a → first_of (codes "b") rows ≡ Some b → first_of (codes "s") rows ≡ Some s → replay_fits rows ≡ true → is_some (replay_in rows) ≡ true
+replay_job rows a b s ea eb es fits = rw (ea, eb, es) (replayed_job a b s (is_set (codes "settles") rows) (is_set (codes "reset") rows) (first_of (codes "after") rows) (named_mode rows) fits)
 
 settle_job : (rows : List Row) (a b s : Text) → first_of (codes "a") rows ≡ Some a → first_of (codes "b") rows ≡ Some b → first_of (codes "s") rows ≡ Some s → is_some (mode_in rows) ≡ true → is_some (settle_in rows) ≡ true
 settle_job rows a b s ea eb es mode = by (mode_in rows) refl mode
@@ -209,7 +216,7 @@ sim_is words e help known =
     sim_job rows a.0 s.0 a.1 s.1 known
 
 replay_own : EachRule (IsOwn (part replay_app.top).rules) (part replay_app.top).rules
-replay_own = ((refl, omega arith), ((refl, omega arith), ((refl, omega arith), ((refl, omega arith), ((refl, omega arith), ((refl, tt), tt))))))
+replay_own = ((refl, omega arith), ((refl, omega arith), ((refl, omega arith), ((refl, omega arith), ((refl, omega arith), ((refl, omega arith), ((refl, omega arith), ((refl, tt), tt))))))))
 
 replay_is : IsJob (part replay_app.top)
 replay_is words e help known =

@@ -1,7 +1,7 @@
 -- Words that are written out, computed.
 use Rattle.std.proofs.Common.{refl}
 use Rattle.clap.proofs.OnLiterals.{clap_on_literals}
-use Rattle.command_line.specs.Known.{PairIsTaken, PairIsNoJob, PairsAreTaken, PairsAreNoJob, CheckIsTaken, GraphIsTaken, SimIsTaken, ReplayIsTaken, SettleIsTaken, GenIsTaken, LratIsTaken, CertIsTaken, InductIsTaken, ResetIsTaken, CyclesAreTaken, AfterIsTaken, AssumedIsTaken, CheckSettlesIsTaken, ReplaySettlesIsTaken, SettlesIsRefused, AssumedIsRefused, OtherModeIsNoJob, OtherFormIsNoJob, ResetIsNoJob, CyclesAreNoJob, AfterIsNoJob, SignalsAreTaken}
+use Rattle.command_line.specs.Known.{PairIsTaken, PairIsNoJob, PairsAreTaken, PairsAreNoJob, CheckIsTaken, GraphIsTaken, SimIsTaken, ReplayIsTaken, SettleIsTaken, GenIsTaken, LratIsTaken, CertIsTaken, InductIsTaken, ResetIsTaken, CyclesAreTaken, AfterIsTaken, AssumedIsTaken, CheckSettlesIsTaken, ReplaySettlesIsTaken, ReplayResetIsTaken, ReplayResetIsNoJob, SettlesIsRefused, AssumedIsRefused, OtherModeIsNoJob, OtherFormIsNoJob, ResetIsNoJob, CyclesAreNoJob, AfterIsNoJob, SignalsAreTaken}
 
 pub check_is_taken : CheckIsTaken
 unfolding clap_on_literals
@@ -66,6 +66,14 @@ assumed_is_taken = ((refl, refl), refl)
 pub replay_settles_is_taken : ReplaySettlesIsTaken
 unfolding clap_on_literals
 replay_settles_is_taken = ((refl, refl), refl)
+
+pub replay_reset_is_taken : ReplayResetIsTaken
+unfolding clap_on_literals
+replay_reset_is_taken = ((refl, refl), refl, (refl, refl), refl)
+
+pub replay_reset_is_no_job : ReplayResetIsNoJob
+unfolding clap_on_literals
+replay_reset_is_no_job = ((refl, refl), (refl, refl))
 
 pub settles_is_refused : SettlesIsRefused
 unfolding clap_on_literals

@@ -32,9 +32,13 @@ abbrev pub refuses_reset : List Row → Mode → Bool
 refuses_reset rows Plain = is_set (codes "expose") rows || is_set (codes "settles") rows
 refuses_reset rows Event = true
 
--- the mode that the words name, unless `--reset` stands beside what refuses it
+-- the mode that the words name
+abbrev pub named_mode : List Row → Option Mode
+named_mode rows = option_and_then mode_of (first_of (codes "mode") rows)
+
+-- the same, unless `--reset` stands beside what refuses it
 abbrev pub mode_in : List Row → Option Mode
-mode_in rows = option_and_then (λ mode. if is_set (codes "reset") rows && refuses_reset rows mode then None else Some mode) (option_and_then mode_of (first_of (codes "mode") rows))
+mode_in rows = option_and_then (λ mode. if is_set (codes "reset") rows && refuses_reset rows mode then None else Some mode) (named_mode rows)
 
 abbrev pub conflicts_in : List Row → Option ℕ
 conflicts_in rows = option_and_then (number_of most_conflicts) (first_of (codes "conflicts") rows)
@@ -115,9 +119,19 @@ sim_in rows =
     with_word (codes "a") rows (λ a. with_word (codes "s") rows (λ s.
     option_and_then (λ mode. run_in a s mode (first_of (codes "power") rows) (is_set (codes "reset") rows) (first_of (codes "after") rows)) (mode_in rows)))
 
+-- the replay of a stimulus on two circuits; with `--reset`, which doesn't stand beside the mode `event`, from their initial values, or behind
+-- the rows of another stimulus where that is named, which stands only beside `--reset`
+abbrev pub replayed_in : Text → Text → Text → Bool → Bool → Option Text → Mode → Option Task
+replayed_in a b s settles false None mode = Some (task.Replay a b s mode settles)
+replayed_in a b s settles false (Some rows) mode = None
+replayed_in a b s settles true None Plain = Some (task.ReplayReset a b s settles)
+replayed_in a b s settles true (Some rows) Plain = Some (task.ReplayAfter a b s rows settles)
+replayed_in a b s settles true after Event = None
+
 abbrev pub replay_in : List Row → Option Task
 replay_in rows =
-    with_word (codes "a") rows (λ a. with_word (codes "b") rows (λ b. with_word (codes "s") rows (λ s. option_map (λ mode. task.Replay a b s mode (is_set (codes "settles") rows)) (mode_in rows))))
+    with_word (codes "a") rows (λ a. with_word (codes "b") rows (λ b. with_word (codes "s") rows (λ s.
+    option_and_then (replayed_in a b s (is_set (codes "settles") rows) (is_set (codes "reset") rows) (first_of (codes "after") rows)) (named_mode rows))))
 
 abbrev pub settle_in : List Row → Option Task
 settle_in rows =

@@ -1,9 +1,10 @@
 -- Words that `clap` takes, with a mode that is known and nothing that refuses `--reset`.
 use Rattle.std.specs.Prelude.{◌≡◌, ◌||◌, ◌&&◌, not, Bool, true, false, Option, if◌then◌else◌, [], ◌∷◌, List, None, Some, is_some, codes, bytes_eq, IfSome}
+use Rattle.circuit_theory.specs.declared.Mode.{Mode}
 use Rattle.circuit_theory.specs.declared.Mode.TheVariants.{Plain, Event}
 use Rattle.clap.specs.Words.{Row, Text, fault_of, first_of, subcommand_of}
 use Rattle.command_line.specs.command_words.Command.{sec_app}
-use Rattle.command_line.specs.Jobs.{job_of, mode_in, form_in, is_set, stands_alone}
+use Rattle.command_line.specs.Jobs.{job_of, mode_in, named_mode, form_in, is_set, stands_alone}
 use Rattle.command_line.specs.declared.task.Task.TheVariants as task
 
 -- the cycles aren't given, or `--reset` is
@@ -38,6 +39,15 @@ run_fits reset after = not (is_some after) || reset
 abbrev pub sim_fits : List Row → Bool
 sim_fits rows = run_fits (is_set (codes "reset") rows) (first_of (codes "after") rows)
 
+-- the mode of `replay` is one of the two, and `--reset` isn't given and neither is `--after`, or the mode is plain
+abbrev pub replayed_fits : Bool → Option Text → Option Mode → Bool
+replayed_fits reset after None = false
+replayed_fits reset after (Some Plain) = run_fits reset after
+replayed_fits reset after (Some Event) = not (reset || is_some after)
+
+abbrev pub replay_fits : List Row → Bool
+replay_fits rows = replayed_fits (is_set (codes "reset") rows) (first_of (codes "after") rows) (named_mode rows)
+
 -- no assumption is given, or it stands beside `--signals`
 abbrev pub ties_fit : Bool → Option Text → Bool
 ties_fit signals assumed = not (is_some assumed) || signals
@@ -47,10 +57,10 @@ tied_fits rows = ties_fit (is_set (codes "signals") rows) (first_of (codes "assu
 
 -- The mode among the subcommand's matches is one of the two, and `--reset` may stand beside it; `gen`, `lrat` and `induct` have none, and
 -- `cert` has a form in its place. Nothing refuses the cycles of `check`, nor its stimulus, nor its one name, nor its pairs, nor the
--- stimulus behind whose rows `sim` begins, nor the assumption of `induct`.
+-- stimulus behind whose rows `sim` or `replay` begins, nor the assumption of `induct`.
 abbrev pub mode_fits : Text → List Row → Bool
 mode_fits name rows =
-    bytes_eq name (codes "gen") || (bytes_eq name (codes "lrat") || (if bytes_eq name (codes "induct") then tied_fits rows else if bytes_eq name (codes "cert") then is_some (form_in rows) else if bytes_eq name (codes "check") then is_some (mode_in rows) && (cycles_fit rows && (after_fits rows && (pair_fits rows && pairs_fit rows))) else if bytes_eq name (codes "sim") then is_some (mode_in rows) && sim_fits rows else is_some (mode_in rows)))
+    bytes_eq name (codes "gen") || (bytes_eq name (codes "lrat") || (if bytes_eq name (codes "induct") then tied_fits rows else if bytes_eq name (codes "cert") then is_some (form_in rows) else if bytes_eq name (codes "check") then is_some (mode_in rows) && (cycles_fit rows && (after_fits rows && (pair_fits rows && pairs_fit rows))) else if bytes_eq name (codes "sim") then is_some (mode_in rows) && sim_fits rows else if bytes_eq name (codes "replay") then replay_fits rows else is_some (mode_in rows)))
 
 -- the mode of the subcommand that the words name is one of the two, and nothing refuses `--reset`
 abbrev pub HasFitMode : List Text → Type 0
@@ -130,6 +140,14 @@ ReplaySettlesIsTaken =
     AreTaken (codes "replay" ∷ codes "a" ∷ codes "b" ∷ codes "s" ∷ codes "--settles" ∷ [])
     × (job_of (codes "replay" ∷ codes "--settles" ∷ codes "a" ∷ codes "b" ∷ codes "s" ∷ []) ≡ Some (task.Replay (codes "a") (codes "b") (codes "s") Plain true))
 
+-- words of `replay` with `--reset`, and what they ask for
+abbrev pub ReplayResetIsTaken : Type 0
+ReplayResetIsTaken =
+    AreTaken (codes "replay" ∷ codes "a" ∷ codes "b" ∷ codes "s" ∷ codes "--reset" ∷ codes "--settles" ∷ [])
+    × (job_of (codes "replay" ∷ codes "a" ∷ codes "b" ∷ codes "s" ∷ codes "--reset" ∷ codes "--settles" ∷ []) ≡ Some (task.ReplayReset (codes "a") (codes "b") (codes "s") true))
+    × AreTaken (codes "replay" ∷ codes "a" ∷ codes "b" ∷ codes "s" ∷ codes "--reset" ∷ codes "--after" ∷ codes "r" ∷ [])
+    × (job_of (codes "replay" ∷ codes "a" ∷ codes "b" ∷ codes "s" ∷ codes "--reset" ∷ codes "--after" ∷ codes "r" ∷ []) ≡ Some (task.ReplayAfter (codes "a") (codes "b") (codes "s") (codes "r") false))
+
 -- words that aren't taken: `--settles` behind `settle`, which tells that alone
 abbrev pub SettlesIsRefused : Type 0
 SettlesIsRefused = job_of (codes "settle" ∷ codes "a" ∷ codes "b" ∷ codes "s" ∷ codes "--settles" ∷ []) ≡ None
@@ -193,6 +211,12 @@ AfterIsNoJob =
     × AreNoJob (codes "check" ∷ codes "a" ∷ codes "b" ∷ codes "--reset" ∷ codes "--after" ∷ codes "s" ∷ codes "--assume" ∷ codes "c" ∷ [])
     × AreNoJob (codes "sim" ∷ codes "a" ∷ codes "s" ∷ codes "--after" ∷ codes "r" ∷ [])
     × AreNoJob (codes "induct" ∷ codes "a" ∷ codes "b" ∷ codes "--after" ∷ codes "s" ∷ codes "--assume" ∷ codes "c" ∷ [])
+
+-- since `--after` stands without `--reset`, or `--reset` with the mode `event`
+abbrev pub ReplayResetIsNoJob : Type 0
+ReplayResetIsNoJob =
+    AreNoJob (codes "replay" ∷ codes "a" ∷ codes "b" ∷ codes "s" ∷ codes "--after" ∷ codes "r" ∷ [])
+    × AreNoJob (codes "replay" ∷ codes "a" ∷ codes "b" ∷ codes "s" ∷ codes "--mode" ∷ codes "event" ∷ codes "--reset" ∷ [])
 
 -- words with `--pair`, and what they ask for
 abbrev pub PairIsTaken : Type 0

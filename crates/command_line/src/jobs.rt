@@ -5,8 +5,9 @@ ghost use Rattle.std.specs.Str.Parse.{digits_value, without_leading_plus};
 ghost use Rattle.clap.specs.Words.{fault_of, first_of, found_of, rows_of, subcommand_of, subcommand_rows_of, IsUnsignedIn};
 ghost use Rattle.clap.specs.ValueTests.{accepts};
 ghost use Rattle.clap.specs.declared.builder.value_parser.ValueParser.TheVariants as parser;
+ghost use Rattle.circuit_theory.specs.declared.Mode.TheVariants.{Plain};
 ghost use Rattle.command_line.specs.command_words.Command.{sec_app};
-ghost use Rattle.command_line.specs.Jobs.{job_of, task_in, check_in, compared_in, graph_in, run_in, sim_in, replay_in, settle_in, gen_in, lrat_in, cert_in, induct_in, form_in, mode_of, mode_in, refuses_reset, is_set, number_of, conflicts_in, settings_in, checked_in, paired_in, stands_alone, search_in, last_in, after_in, inducted_in, tied_in, searched_in, renamed_in};
+ghost use Rattle.command_line.specs.Jobs.{job_of, task_in, check_in, compared_in, graph_in, run_in, sim_in, replayed_in, replay_in, settle_in, gen_in, lrat_in, cert_in, induct_in, form_in, mode_of, named_mode, mode_in, refuses_reset, is_set, number_of, conflicts_in, settings_in, checked_in, paired_in, stands_alone, search_in, last_in, after_in, inducted_in, tied_in, searched_in, renamed_in};
 
 use crate::command_words::sec_command;
 use crate::task::Task;
@@ -20,7 +21,7 @@ use std::alloc::{AllocError, Global};
 #[derive(Clone, Copy)]
 pub enum WordsError {
     /// `clap`'s definition for the command doesn't take the words, the mode is neither `plain` nor `event`, `--reset` stands with
-    /// `event`, with `--expose` or with `--settles`, `--cycles` or `--after` of `check` or `sim` stands without
+    /// `event`, with `--expose` or with `--settles` of `check`, `--cycles` or `--after` of `check`, `sim` or `replay` stands without
     /// `--reset`, `--after` with `--assume` and without `--cycles`, `--assume` of `induct` without `--signals`, `--pair` with
     /// `--settles`, `--assume`, `--cycles` or `--after`, `--pairs` with one of these or with `--pair` or
     /// without `--expose`, or the form of a certificate is neither `cnf` nor `lrat`.
@@ -110,11 +111,18 @@ fn refuses_reset(matches: &ArgMatches<'_>, mode: Mode) -> bool
     }
 }
 
-/// The mode that the words name, unless `--reset` stands beside what refuses it.
+/// The mode that the words name.
+fn named_mode(matches: &ArgMatches<'_>) -> Option<Mode>
+    ensures { result ≡ named_mode (rows_of (found_of matches.now)) }
+{
+    mode_of(word(matches, "mode")?)
+}
+
+/// The same, unless `--reset` stands beside what refuses it.
 fn mode_in(matches: &ArgMatches<'_>) -> Option<Mode>
     ensures { result ≡ mode_in (rows_of (found_of matches.now)) }
 {
-    let mode = mode_of(word(matches, "mode")?)?;
+    let mode = named_mode(matches)?;
     if is_set(matches, "reset") && refuses_reset(matches, mode) {
         return None;
     }
@@ -505,19 +513,68 @@ fn replay_in(alloc: Global, matches: &ArgMatches<'_>) -> Result<Option<Task>, No
     let Some(s) = word(matches, "s") else {
         return Ok(None);
     };
-    let Some(mode) = mode_in(matches) else {
+    let Some(mode) = named_mode(matches) else {
         return Ok(None);
     };
     let settles = is_set(matches, "settles");
+    let reset = is_set(matches, "reset");
+    let rows = path_of(alloc, word(matches, "after"))?;
     let s = FilePath::from_str(alloc, s)?;
     let (a, b) = paths_of(alloc, a, b)?;
-    Ok(Some(Task::Replay {
-        a,
-        b,
-        s,
-        mode,
-        settles,
-    }))
+    Ok(replayed_in(a, b, s, settles, reset, rows, mode))
+}
+
+/// The replay of a stimulus; with `reset` from initial values, or behind the rows that are named, which stand only beside `reset`. That
+/// doesn't stand beside the mode `event`.
+fn replayed_in(
+    a: FilePath,
+    b: FilePath,
+    s: FilePath,
+    settles: bool,
+    reset: bool,
+    rows: Option<FilePath>,
+    mode: Mode,
+) -> Option<Task>
+    ensures { result ≡ replayed_in a b s settles reset rows mode }
+{
+    if !reset {
+        if rows.is_some() {
+            return None;
+        }
+        return Some(Task::Replay {
+            a,
+            b,
+            s,
+            mode,
+            settles,
+        });
+    }
+    match mode {
+        Mode::Plain => Some(replayed_from(a, b, s, settles, rows)),
+        Mode::Event => None,
+    }
+}
+
+/// The replay of a stimulus from initial values, or behind the rows that are named.
+fn replayed_from(
+    a: FilePath,
+    b: FilePath,
+    s: FilePath,
+    settles: bool,
+    rows: Option<FilePath>,
+) -> Task
+    ensures { Some result ≡ replayed_in a b s settles true rows Plain }
+{
+    match rows {
+        Some(rows) => Task::ReplayAfter {
+            a,
+            b,
+            s,
+            rows,
+            settles,
+        },
+        None => Task::ReplayReset { a, b, s, settles },
+    }
 }
 
 fn settle_in(alloc: Global, matches: &ArgMatches<'_>) -> Result<Option<Task>, NoMemory>

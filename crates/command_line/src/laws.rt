@@ -1,10 +1,10 @@
 //! What follows for the words. The functions do nothing: each contract is a law.
 
 ghost use Rattle.command_line.specs.Allowed.{JobsAreAllowed};
-ghost use Rattle.command_line.specs.Known.{TakenWordsAreJob, CheckIsTaken, GraphIsTaken, SimIsTaken, ReplayIsTaken, SettleIsTaken, GenIsTaken, LratIsTaken, CertIsTaken, InductIsTaken, ResetIsTaken, CyclesAreTaken, AfterIsTaken, AssumedIsTaken, CheckSettlesIsTaken, ReplaySettlesIsTaken, SettlesIsRefused, AssumedIsRefused, OtherModeIsNoJob, OtherFormIsNoJob, ResetIsNoJob, CyclesAreNoJob, AfterIsNoJob, SignalsAreTaken, PairIsTaken, PairIsNoJob, PairsAreTaken, PairsAreNoJob};
+ghost use Rattle.command_line.specs.Known.{TakenWordsAreJob, CheckIsTaken, GraphIsTaken, SimIsTaken, ReplayIsTaken, SettleIsTaken, GenIsTaken, LratIsTaken, CertIsTaken, InductIsTaken, ResetIsTaken, CyclesAreTaken, AfterIsTaken, AssumedIsTaken, CheckSettlesIsTaken, ReplaySettlesIsTaken, ReplayResetIsTaken, ReplayResetIsNoJob, SettlesIsRefused, AssumedIsRefused, OtherModeIsNoJob, OtherFormIsNoJob, ResetIsNoJob, CyclesAreNoJob, AfterIsNoJob, SignalsAreTaken, PairIsTaken, PairIsNoJob, PairsAreTaken, PairsAreNoJob};
 
 /// Words that `clap`'s definition for the command takes are a job wherever their mode is `plain` or `event` and `--reset` stands
-/// neither with `event` nor with `--expose` or `--settles`, and `--cycles` only with `--reset`, and `--after` only with `--cycles`, and `--pair` without `--settles`, `--assume`, `--cycles` and `--after`, or they name the subcommand `gen`, `lrat` or `induct`, which have no mode, or `cert` with
+/// neither with `event` nor with `--expose` or `--settles` of `check`, and `--cycles` only with `--reset`, and `--after` only with `--cycles`, and `--pair` without `--settles`, `--assume`, `--cycles` and `--after`, or they name the subcommand `gen`, `lrat` or `induct`, which have no mode, or `cert` with
 /// the form `cnf` or `lrat`. So `job` never refuses such words.
 pub fn taken_words_are_job()
     ensures { TakenWordsAreJob }
@@ -29,12 +29,13 @@ pub fn words_are_taken()
     ensures of_assumed { AssumedIsTaken }
 {}
 
-/// The same of `settle`, of `check` and `replay` with `--settles`, of `check` with `--cycles`, with `--after`, with `--pair` and with `--pairs`, and of
+/// The same of `settle`, of `check` and `replay` with `--settles`, of `replay` with `--reset`, of `check` with `--cycles`, with `--after`, with `--pair` and with `--pairs`, and of
 /// `induct` with `--signals`.
 pub fn further_words_are_taken()
     ensures of_settle { SettleIsTaken }
     ensures of_check { CheckSettlesIsTaken }
     ensures of_replay { ReplaySettlesIsTaken }
+    ensures of_replay_reset { ReplayResetIsTaken }
     ensures of_cycles { CyclesAreTaken }
     ensures of_after { AfterIsTaken }
     ensures of_signals { SignalsAreTaken }
@@ -56,6 +57,7 @@ pub fn taken_words_are_no_job()
     ensures of_clash { ResetIsNoJob }
     ensures of_cycles { CyclesAreNoJob }
     ensures of_after { AfterIsNoJob }
+    ensures of_replay { ReplayResetIsNoJob }
     ensures of_pair { PairIsNoJob }
     ensures of_pairs { PairsAreNoJob }
 {}

@@ -64,6 +64,22 @@ pub enum Task {
         mode: Mode,
         settles: bool,
     },
+    /// Run two circuits on a stimulus from their initial values and print where both are known and differ, and with `settles` how many
+    /// pairs are known in both.
+    ReplayReset {
+        a: FilePath,
+        b: FilePath,
+        s: FilePath,
+        settles: bool,
+    },
+    /// The same from what is known of both behind the rows of another stimulus, whatever they power up with.
+    ReplayAfter {
+        a: FilePath,
+        b: FilePath,
+        s: FilePath,
+        rows: FilePath,
+        settles: bool,
+    },
     /// Run two circuits on a stimulus and print since when each pair is settled in both.
     Settle {
         a: FilePath,
@@ -208,6 +224,19 @@ impl Drop for Task {
                 b: _,
                 s: _,
                 mode: _,
+                settles: _,
+            } => {}
+            Task::ReplayReset {
+                a: _,
+                b: _,
+                s: _,
+                settles: _,
+            } => {}
+            Task::ReplayAfter {
+                a: _,
+                b: _,
+                s: _,
+                rows: _,
                 settles: _,
             } => {}
             Task::Settle {

@@ -54,11 +54,29 @@ by_driver latches (Some (driver.Input i)) = None
 by_driver latches (Some (driver.Gate j)) = None
 by_driver latches None = None
 
-module _ (n : NetView) (columns : List ℕ) (rows : List (List Bool)) where
-  -- the run over so many rows
+-- nothing is known of any latch
+abbrev pub nothing : LatchAt → Option Bool
+nothing l = None
+
+-- a latch of the circuit is one of the net
+pub latch_of : (n : NetView) (name : List ℕ) (u next : ℕ) → IsLatch (circuit_of n) name u next → (j : ℕ) × (l : LatchAt) × (l.out.0 ≡ u) × (l.next.0 ≡ next) × (slice_get n.latches j ≡ Some l)
+latch_of n name u next h = go (equation_from n (latch_equation name u next) h)
+  where
+    parts : (l : LatchAt) → equation_of_latch l ≡ latch_equation name u next → (l.out.0 ≡ u) × (l.next.0 ≡ next)
+    parts l e = (cc, cc)
+
+    no_gate : (g : Gate) → equation_of_gate n.covers g ≡ latch_equation name u next → ⊥
+    no_gate g e = cc
+
+    go : OfGate n (latch_equation name u next) ⊎ OfLatch n (latch_equation name u next) → (j : ℕ) × (l : LatchAt) × (l.out.0 ≡ u) × (l.next.0 ≡ next) × (slice_get n.latches j ≡ Some l)
+    go (inl g) = absurd (no_gate g.gate g.is)
+    go (inr l) = let p = parts l.latch l.is in (l.j, l.latch, p.0, p.1, l.at)
+
+module _ (n : NetView) (columns : List ℕ) (rows : List (List Bool)) (first : LatchAt → Option Bool) where
+  -- the run over so many rows, in which this is known of each latch at first
   pub record Ran (count : ℕ) (latches values : List (Option Bool)) : Type 0 where
     pub run : ℕ → ℕ → Option Bool
-    pub power : (j : ℕ) (l : LatchAt) → slice_get n.latches j ≡ Some l → run 0 l.out.0 ≡ None
+    pub power : (j : ℕ) (l : LatchAt) → slice_get n.latches j ≡ Some l → run 0 l.out.0 ≡ first l
     pub inputs : (t i k : ℕ) (port : Port) → t < count → slice_get n.inputs i ≡ Some port → slice_get columns i ≡ Some k → run t port.signal.0 ≡ row_bit rows k t
     pub gates : (t j : ℕ) (g : Gate) → t < count → slice_get n.gates j ≡ Some g → run t g.out.0 ≡ cover_three (cover_of n.covers g) (map (λ (f : Signal). run t f.0) g.fanins)
     pub later : (t j : ℕ) (l : LatchAt) → t < count → slice_get n.latches j ≡ Some l → run (suc t) l.out.0 ≡ run t l.next.0
@@ -66,16 +84,16 @@ module _ (n : NetView) (columns : List ℕ) (rows : List (List Bool)) where
     pub last : (t p : ℕ) → count ≡ suc t → get_or values p None ≡ run t p
     pub none : count ≡ 0 → (p : ℕ) → get_or values p None ≡ None
 
-  pub ran_none : (latches values : List (Option Bool)) → ((j : ℕ) → get_or latches j None ≡ None) → ((p : ℕ) → get_or values p None ≡ None) → Ran 0 latches values
-  ran_none latches values no_latch nothing = record {
-    run = λ t p. None;
-    power = λ j l at. refl;
+  pub ran_none : IsSound n → (latches values : List (Option Bool)) → ((j : ℕ) (l : LatchAt) → slice_get n.latches j ≡ Some l → get_or latches j None ≡ first l) → ((p : ℕ) → get_or values p None ≡ None) → Ran 0 latches values
+  ran_none sound latches values begins no_value = record {
+    run = λ t p. by_driver latches (slice_get n.drivers p);
+    power = λ j l at. ap (by_driver latches) (sound.latches j l at).owner ∙ begins j l at;
     inputs = λ t i k port h at column. absurd (omega (arith, h));
     gates = λ t j g h at. absurd (omega (arith, h));
     later = λ t j l h at. absurd (omega (arith, h));
-    behind = λ j l at. no_latch j;
+    behind = λ j l at. sym (ap (by_driver latches) (sound.latches j l at).owner);
     last = λ t p e. absurd (omega (arith, e));
-    none = λ e p. nothing p;
+    none = λ e p. no_value p;
   }
 
   module _ (sound : IsSound n) (t : ℕ) (row : List Bool) (latches values others next : List (Option Bool)) (has : slice_get rows t ≡ Some row) (ran : Ran t latches others) (of : AreOfCycle n columns row latches values)
@@ -143,39 +161,43 @@ module _ (n : NetView) (columns : List ℕ) (rows : List (List Bool)) where
       none = λ e p. absurd (omega (arith, e));
     }
 
+    -- in the cycles before it is the run
+    pub ran_grown : (more : Ran (suc t) next values) × ((s p : ℕ) → s < t → more.run s p ≡ ran.run s p)
+    unfolding ran_more
+    ran_grown = (ran_more, before)
+
   -- over all rows
-  module _ (sound : IsSound n) (size : length columns ≡ length n.inputs) where
-    pub ran_all : (latches values : List (Option Bool)) → Ran (length rows) latches values → IsThreeRunTo n columns rows latches values
-    ran_all latches values ran = record {
+  module _ (sound : IsSound n) (latches values : List (Option Bool)) (ran : Ran (length rows) latches values) where
+    pub ran_inputs : (t p i : ℕ) → t < length rows → IsInputNumber (circuit_of n) columns p i → ran.run t p ≡ row_bit rows i t
+    ran_inputs t p i h number = let x = port_at n.inputs columns p i number in ap (ran.run t) (sym x.4) ∙ ran.inputs t x.0 i x.1 h x.2 x.3
+
+    pub ran_gates : (t out : ℕ) (fanins : List ℕ) (cover : Cover) → t < length rows → Contains (circuit_of n).equations (gate_equation out fanins cover) → ran.run t out ≡ cover_three cover (map (ran.run t) fanins)
+    ran_gates t out fanins cover h eq =
+        let g = gate_of_equation n sound out fanins cover eq in
+        ap (ran.run t) (sym g.out) ∙ (ran.gates t g.j g.gate h g.at
+        ∙ (ap (λ (k : Cover). cover_three k (map (λ (f : Signal). ran.run t f.0) g.gate.fanins)) g.cover_is
+        ∙ ap (cover_three cover) (sym (map-map (ran.run t) (λ (f : Signal). f.0) g.gate.fanins) ∙ ap (map (ran.run t)) g.fanins_are)))
+
+    pub ran_later : (t : ℕ) (name : List ℕ) (u next : ℕ) → t < length rows → IsLatch (circuit_of n) name u next → ran.run (suc t) u ≡ ran.run t next
+    ran_later t name u next h latch = let l = latch_of n name u next latch in ap (ran.run (suc t)) (sym l.2) ∙ (ran.later t l.0 l.1 h l.4 ∙ ap (ran.run t) l.3)
+
+    -- from nothing it is the one run
+    pub ran_all : ((l : LatchAt) → first l ≡ None) → IsThreeRunTo n columns rows latches values
+    ran_all unknown = record {
       run = ran.run;
       is_run = record {
-        power = λ name u next latch. let l = of_latch name u next latch in ap (ran.run 0) (sym l.2) ∙ ran.power l.0 l.1 l.4;
-        inputs = λ t p i h number. let x = port_at n.inputs columns p i number in ap (ran.run t) (sym x.4) ∙ ran.inputs t x.0 i x.1 h x.2 x.3;
-        gates = λ t out fanins cover h eq.
-            let g = gate_of_equation n sound out fanins cover eq in
-            ap (ran.run t) (sym g.out) ∙ (ran.gates t g.j g.gate h g.at
-            ∙ (ap (λ (k : Cover). cover_three k (map (λ (f : Signal). ran.run t f.0) g.gate.fanins)) g.cover_is
-            ∙ ap (cover_three cover) (sym (map-map (ran.run t) (λ (f : Signal). f.0) g.gate.fanins) ∙ ap (map (ran.run t)) g.fanins_are)));
-        later = λ t name u next h latch. let l = of_latch name u next latch in ap (ran.run (suc t)) (sym l.2) ∙ (ran.later t l.0 l.1 h l.4 ∙ ap (ran.run t) l.3);
+        power = λ name u next latch. let l = latch_of n name u next latch in ap (ran.run 0) (sym l.2) ∙ (ran.power l.0 l.1 l.4 ∙ unknown l.1);
+        inputs = ran_inputs;
+        gates = ran_gates;
+        later = ran_later;
       };
       behind = ran.behind;
       last = ran.last;
       none = ran.none;
     }
-      where
-        parts : (l : LatchAt) (name : List ℕ) (u next : ℕ) → equation_of_latch l ≡ latch_equation name u next → (l.out.0 ≡ u) × (l.next.0 ≡ next)
-        parts l name u next e = (cc, cc)
 
-        no_gate : (g : Gate) (name : List ℕ) (u next : ℕ) → equation_of_gate n.covers g ≡ latch_equation name u next → ⊥
-        no_gate g name u next e = cc
-
-        of_latch : (name : List ℕ) (u next : ℕ) → IsLatch (circuit_of n) name u next → (j : ℕ) × (l : LatchAt) × (l.out.0 ≡ u) × (l.next.0 ≡ next) × (slice_get n.latches j ≡ Some l)
-        of_latch name u next h = go (equation_from n (latch_equation name u next) h)
-          where
-            go : OfGate n (latch_equation name u next) ⊎ OfLatch n (latch_equation name u next) → (j : ℕ) × (l : LatchAt) × (l.out.0 ≡ u) × (l.next.0 ≡ next) × (slice_get n.latches j ≡ Some l)
-            go (inl g) = absurd (no_gate g.gate name u next g.is)
-            go (inr l) = let p = parts l.latch name u next l.is in (l.j, l.latch, p.0, p.1, l.at)
-
+module _ (n : NetView) (columns : List ℕ) (rows : List (List Bool)) where
+  module _ (sound : IsSound n) (size : length columns ≡ length n.inputs) where
     ports_long : (ports : List Port) → length (map named ports) ≡ length ports
     ports_long ports = length-map ports named
 

@@ -10,7 +10,7 @@ use flat_net::{Net, gate_of};
 
 /// Puts what is known of each signal in a cycle, by the row of the cycle, in which the inputs stand in these columns, and by what is known
 /// of the latches.
-pub(crate) fn compute(
+pub fn compute(
     net: &Net,
     columns: &[u32],
     row: &[bool],
@@ -88,7 +88,7 @@ fn gate_three(net: &Net, gate: u32, values: &[Option<bool>]) -> Option<bool>
 }
 
 /// Puts what is known of each latch in the next cycle: what is known of its data now.
-pub(crate) fn take_over(net: &Net, values: &[Option<bool>], latches: &mut [Option<bool>])
+pub fn take_over(net: &Net, values: &[Option<bool>], latches: &mut [Option<bool>])
     requires values { length values.now ≡ length net.now.drivers }
     requires latches { length latches.old ≡ length net.now.latches }
     ensures size { length latches.new ≡ length latches.old }

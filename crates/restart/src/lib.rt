@@ -9,7 +9,8 @@ mod sequence;
 mod start;
 mod three_run;
 
+pub use cycle::{compute, take_over};
 pub use report::{put_after, put_unknown};
 pub use sequence::shown_behind;
 pub use start::{begin, restart};
-pub use three_run::{known_behind, known_output};
+pub use three_run::{columns_of, known_behind, known_output};

@@ -81,7 +81,7 @@ fn value_of(net: &Net, values: &[Option<bool>], name: &[u8]) -> Option<bool>
 }
 
 /// For each input the column of its name, and one behind all where there is none.
-fn columns_of(alloc: Global, net: &Net, names: &NameTable) -> Result<Vec<u32>, NoMemory>
+pub fn columns_of(alloc: Global, net: &Net, names: &NameTable) -> Result<Vec<u32>, NoMemory>
     ensures { IfOk result (λ columns. AreColumnsOf net.now names.now columns.items) }
 {
     let mut columns = Vec::new(alloc);

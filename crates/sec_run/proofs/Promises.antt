@@ -17,6 +17,8 @@ use Rattle.job_circuit.proofs.CompleteReports.{graph_complete, sim_complete}
 use Rattle.job_circuit.proofs.SimBehindFinds.{sim_behind_means, sim_behind_complete}
 use Rattle.job_circuit.proofs.job_replay.Means.{replay_means}
 use Rattle.job_circuit.proofs.job_replay.CompleteReplays.{replay_complete}
+use Rattle.job_known.proofs.Means.{reset_means, behind_means}
+use Rattle.job_known.proofs.Complete.{reset_complete, behind_complete}
 use Rattle.job_check.proofs.check_meaning.Complete.{check_complete}
 use Rattle.job_check.proofs.check_meaning.Means.{check_means}
 use Rattle.job_pair.proofs.Means.{pair_means}
@@ -62,6 +64,8 @@ means held (Some (task.Graph a mode)) before now f proofs name found w = graph_m
 means held (Some (task.Sim a s mode power reset)) before now f proofs name found w = sim_means mode (held a) (held s) power reset before now f proofs name found w
 means held (Some (task.SimAfter a s rows power)) before now f proofs name found w = sim_behind_means (held a) (held rows) (held s) power before now f proofs name found w
 means held (Some (task.Replay a b s mode settles)) before now f proofs name found w = replay_means (report_with settles) mode (held a) (held b) (held s) before now f proofs name found w
+means held (Some (task.ReplayReset a b s settles)) before now f proofs name found w = reset_means settles (held a) (held b) (held s) before now f proofs name found w
+means held (Some (task.ReplayAfter a b s rows settles)) before now f proofs name found w = behind_means settles (held a) (held b) (held rows) (held s) before now f proofs name found w
 means held (Some (task.Settle a b s mode)) before now f proofs name found w = replay_means told.Settled mode (held a) (held b) (held s) before now f proofs name found w
 means held (Some (task.Gen seed regroup conflicts)) before now f proofs name found w = gen_means (record { seed = seed; regroup = regroup; conflicts = conflicts }) before now f proofs name found w
 means held (Some (task.Lrat f l)) before now found proofs name is w = lrat_means (held f) (held l) before now found proofs name is w
@@ -87,6 +91,8 @@ memory_means held (Some (task.Graph a mode)) before now proofs = tt
 memory_means held (Some (task.Sim a s mode power reset)) before now proofs = tt
 memory_means held (Some (task.SimAfter a s rows power)) before now proofs = tt
 memory_means held (Some (task.Replay a b s mode settles)) before now proofs = tt
+memory_means held (Some (task.ReplayReset a b s settles)) before now proofs = tt
+memory_means held (Some (task.ReplayAfter a b s rows settles)) before now proofs = tt
 memory_means held (Some (task.Settle a b s mode)) before now proofs = tt
 memory_means held (Some (task.Gen seed regroup conflicts)) before now proofs = tt
 memory_means held (Some (task.Lrat f l)) before now proofs = tt
@@ -111,6 +117,8 @@ fault_means held (Some (task.Graph a mode)) before now proofs = tt
 fault_means held (Some (task.Sim a s mode power reset)) before now proofs = tt
 fault_means held (Some (task.SimAfter a s rows power)) before now proofs = tt
 fault_means held (Some (task.Replay a b s mode settles)) before now proofs = tt
+fault_means held (Some (task.ReplayReset a b s settles)) before now proofs = tt
+fault_means held (Some (task.ReplayAfter a b s rows settles)) before now proofs = tt
 fault_means held (Some (task.Settle a b s mode)) before now proofs = tt
 fault_means held (Some (task.Gen seed regroup conflicts)) before now proofs = tt
 fault_means held (Some (task.Lrat f l)) before now proofs = tt
@@ -136,6 +144,8 @@ is_complete held (Some (task.Graph a mode)) f found = graph_complete mode (held 
 is_complete held (Some (task.Sim a s mode power reset)) f found = sim_complete mode (held a) (held s) power reset f found
 is_complete held (Some (task.SimAfter a s rows power)) f found = sim_behind_complete (held a) (held rows) (held s) power f found
 is_complete held (Some (task.Replay a b s mode settles)) f found = replay_complete (report_with settles) mode (held a) (held b) (held s) f found
+is_complete held (Some (task.ReplayReset a b s settles)) f found = reset_complete settles (held a) (held b) (held s) f found
+is_complete held (Some (task.ReplayAfter a b s rows settles)) f found = behind_complete settles (held a) (held b) (held rows) (held s) f found
 is_complete held (Some (task.Settle a b s mode)) f found = replay_complete told.Settled mode (held a) (held b) (held s) f found
 is_complete held (Some (task.Gen seed regroup conflicts)) f found = gen_complete (record { seed = seed; regroup = regroup; conflicts = conflicts }) f found
 is_complete held (Some (task.Lrat f l)) found is = lrat_complete (held f) (held l) found is
@@ -161,6 +171,8 @@ memory_is_complete held (Some (task.Graph a mode)) = λ can. tt
 memory_is_complete held (Some (task.Sim a s mode power reset)) = λ can. tt
 memory_is_complete held (Some (task.SimAfter a s rows power)) = λ can. inr refl
 memory_is_complete held (Some (task.Replay a b s mode settles)) = λ can. tt
+memory_is_complete held (Some (task.ReplayReset a b s settles)) = λ can. tt
+memory_is_complete held (Some (task.ReplayAfter a b s rows settles)) = λ can. tt
 memory_is_complete held (Some (task.Settle a b s mode)) = λ can. tt
 memory_is_complete held (Some (task.Gen seed regroup conflicts)) = tt
 memory_is_complete held (Some (task.Lrat f l)) = λ can. inr refl

@@ -17,6 +17,7 @@ use Rattle.job_circuit.specs.SimBehind.{IsSimBehindFound}
 use Rattle.job_circuit.specs.job_replay.Replays.{IsReplayFound}
 use Rattle.job_circuit.specs.declared.job_replay.replays.ReplayReport.TheVariants as told
 use Rattle.job_circuit.specs.job_replay.Told.{report_with}
+use Rattle.job_known.specs.Found.{IsResetFound, IsBehindFound}
 use Rattle.job_check.specs.check_meaning.check_found.Found.{IsFoundOf}
 use Rattle.job_pair.specs.Found.{check_of, IsPairFound}
 use Rattle.job_pair.specs.job_renamed.Found.{IsRenamedFound}
@@ -44,6 +45,8 @@ IsFoundOfJob held (task.Graph a mode) f = IsGraphFound mode (held a) f
 IsFoundOfJob held (task.Sim a s mode power reset) f = IsSimFound mode (held a) (held s) power reset f
 IsFoundOfJob held (task.SimAfter a s rows power) f = IsSimBehindFound (held a) (held rows) (held s) power f
 IsFoundOfJob held (task.Replay a b s mode settles) f = IsReplayFound (report_with settles) mode (held a) (held b) (held s) f
+IsFoundOfJob held (task.ReplayReset a b s settles) f = IsResetFound settles (held a) (held b) (held s) f
+IsFoundOfJob held (task.ReplayAfter a b s rows settles) f = IsBehindFound settles (held a) (held b) (held rows) (held s) f
 IsFoundOfJob held (task.Settle a b s mode) f = IsReplayFound told.Settled mode (held a) (held b) (held s) f
 IsFoundOfJob held (task.Gen seed regroup conflicts) f = IsGenFound (record { seed = seed; regroup = regroup; conflicts = conflicts }) f
 IsFoundOfJob held (task.Lrat f l) found = IsLratFound (held f) (held l) found

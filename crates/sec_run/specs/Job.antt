@@ -6,6 +6,7 @@ use Rattle.job_cert.specs.sec_files.Reading.{IsLoaded}
 use Rattle.job_circuit.specs.Reports.{graph_paths, sim_paths}
 use Rattle.job_circuit.specs.SimBehind.{behind_paths, LetsGoOn}
 use Rattle.job_circuit.specs.job_replay.Replays.{replay_paths}
+use Rattle.job_known.specs.Found.{known_paths}
 use Rattle.job_check.specs.check_meaning.check_found.Check.{check_paths}
 use Rattle.job_pair.specs.Found.{check_of}
 use Rattle.job_pair.specs.job_renamed.Found.{renamed_paths}
@@ -25,6 +26,8 @@ paths_of (task.Graph a mode) = graph_paths a
 paths_of (task.Sim a s mode power reset) = sim_paths a s
 paths_of (task.SimAfter a s rows power) = behind_paths a rows s
 paths_of (task.Replay a b s mode settles) = replay_paths a b s
+paths_of (task.ReplayReset a b s settles) = replay_paths a b s
+paths_of (task.ReplayAfter a b s rows settles) = known_paths a b rows s
 paths_of (task.Settle a b s mode) = replay_paths a b s
 paths_of (task.Gen seed regroup conflicts) = []
 paths_of (task.Lrat f l) = lrat_paths f l
@@ -54,6 +57,8 @@ GoesOn (task.Graph a mode) = IsLoaded
 GoesOn (task.Sim a s mode power reset) = IsLoaded
 GoesOn (task.SimAfter a s rows power) = LetsGoOn
 GoesOn (task.Replay a b s mode settles) = IsLoaded
+GoesOn (task.ReplayReset a b s settles) = IsLoaded
+GoesOn (task.ReplayAfter a b s rows settles) = LetsGoOn
 GoesOn (task.Settle a b s mode) = IsLoaded
 GoesOn (task.Gen seed regroup conflicts) = IsLoaded
 GoesOn (task.Lrat f l) = AreSpelled

@@ -12,6 +12,7 @@ use Rattle.job_circuit.specs.SimBehind.{SimBehindMeans, IsSimBehindComplete}
 use Rattle.job_circuit.specs.job_replay.Replays.{ReplayMeans, IsReplayComplete}
 use Rattle.job_circuit.specs.declared.job_replay.replays.ReplayReport.TheVariants as told
 use Rattle.job_circuit.specs.job_replay.Told.{report_with}
+use Rattle.job_known.specs.Answer.{ResetMeans, BehindMeans, IsResetComplete, IsBehindComplete}
 use Rattle.job_check.specs.check_meaning.Answer.{CheckMeans, IsCheckComplete}
 use Rattle.job_pair.specs.Answer.{PairMeans, IsPairComplete}
 use Rattle.job_pair.specs.Found.{check_of}
@@ -41,6 +42,8 @@ Means held (Some (task.Graph a mode)) before now proofs name = GraphMeans mode (
 Means held (Some (task.Sim a s mode power reset)) before now proofs name = SimMeans mode (held a) (held s) power reset before now proofs name
 Means held (Some (task.SimAfter a s rows power)) before now proofs name = SimBehindMeans (held a) (held rows) (held s) power before now name
 Means held (Some (task.Replay a b s mode settles)) before now proofs name = ReplayMeans (report_with settles) mode (held a) (held b) (held s) before now proofs name
+Means held (Some (task.ReplayReset a b s settles)) before now proofs name = ResetMeans settles (held a) (held b) (held s) before now name
+Means held (Some (task.ReplayAfter a b s rows settles)) before now proofs name = BehindMeans settles (held a) (held b) (held rows) (held s) before now name
 Means held (Some (task.Settle a b s mode)) before now proofs name = ReplayMeans told.Settled mode (held a) (held b) (held s) before now proofs name
 Means held (Some (task.Gen seed regroup conflicts)) before now proofs name = GenMeans (record { seed = seed; regroup = regroup; conflicts = conflicts }) before now proofs name
 Means held (Some (task.Lrat f l)) before now proofs name = LratMeans (held f) (held l) before now name
@@ -66,6 +69,8 @@ IsComplete held (Some (task.Graph a mode)) name = IsGraphComplete mode (held a) 
 IsComplete held (Some (task.Sim a s mode power reset)) name = IsSimComplete mode (held a) (held s) power name
 IsComplete held (Some (task.SimAfter a s rows power)) name = IsSimBehindComplete (held a) (held rows) (held s) power name
 IsComplete held (Some (task.Replay a b s mode settles)) name = IsReplayComplete (report_with settles) mode (held a) (held b) (held s) name
+IsComplete held (Some (task.ReplayReset a b s settles)) name = IsResetComplete settles (held a) (held b) (held s) name
+IsComplete held (Some (task.ReplayAfter a b s rows settles)) name = IsBehindComplete settles (held a) (held b) (held rows) (held s) name
 IsComplete held (Some (task.Settle a b s mode)) name = IsReplayComplete told.Settled mode (held a) (held b) (held s) name
 IsComplete held (Some (task.Gen seed regroup conflicts)) name = IsGenAnswer name
 IsComplete held (Some (task.Lrat f l)) name = IsLratComplete (held f) (held l) name

@@ -24,6 +24,7 @@ use job_check::{Comparison, check};
 use job_circuit::job_replay::{Replay, ReplayReport, replay_files};
 use job_circuit::{Simulation, SimulationBehind, simulate, simulate_behind, tell_graph};
 use job_gen::{Generation, compare_generated};
+use job_known::{KnownPaths, replay_behind, replay_from_reset};
 use job_pair::job_renamed::{RenamedComparison, compare_renamed};
 use job_pair::{PairComparison, compare_pair};
 use job_settles::check_settles;
@@ -144,6 +145,28 @@ fn find<S: Shelf>(alloc: Global, task: &Task, shelf: &mut S) -> Result<Finding, 
                 report: report_with(*settles),
             };
             replay_files(alloc, &replay, shelf)
+        }
+        Task::ReplayReset { a, b, s, settles } => {
+            let paths = KnownPaths {
+                left: a.as_str(),
+                right: b.as_str(),
+                stimulus: s.as_str(),
+            };
+            replay_from_reset(alloc, &paths, *settles, shelf)
+        }
+        Task::ReplayAfter {
+            a,
+            b,
+            s,
+            rows,
+            settles,
+        } => {
+            let paths = KnownPaths {
+                left: a.as_str(),
+                right: b.as_str(),
+                stimulus: s.as_str(),
+            };
+            replay_behind(alloc, &paths, rows.as_str(), *settles, shelf)
         }
         Task::Settle { a, b, s, mode } => {
             let replay = Replay {

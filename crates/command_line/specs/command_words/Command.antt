@@ -56,7 +56,7 @@ abbrev pub sim_app : App
 sim_app = fold with_rule (new_app (codes "sim")) (place (codes "a") ∷ place (codes "s") ∷ mode ∷ option (codes "power") ∷ flag (codes "reset") ∷ option (codes "after") ∷ [])
 
 abbrev pub replay_app : App
-replay_app = fold with_rule (new_app (codes "replay")) (place (codes "a") ∷ place (codes "b") ∷ place (codes "s") ∷ mode ∷ flag (codes "settles") ∷ [])
+replay_app = fold with_rule (new_app (codes "replay")) (place (codes "a") ∷ place (codes "b") ∷ place (codes "s") ∷ mode ∷ flag (codes "settles") ∷ flag (codes "reset") ∷ option (codes "after") ∷ [])
 
 abbrev pub settle_app : App
 settle_app = fold with_rule (new_app (codes "settle")) (place (codes "a") ∷ place (codes "b") ∷ place (codes "s") ∷ mode ∷ [])

@@ -87,12 +87,14 @@ const SIM: [Word<'static>; 6] = [
     Word::Option("after"),
 ];
 
-const REPLAY: [Word<'static>; 5] = [
+const REPLAY: [Word<'static>; 7] = [
     Word::Place("a"),
     Word::Place("b"),
     Word::Place("s"),
     MODE,
     Word::Flag("settles"),
+    Word::Flag("reset"),
+    Word::Option("after"),
 ];
 
 const SETTLE: [Word<'static>; 4] = [Word::Place("a"), Word::Place("b"), Word::Place("s"), MODE];

@@ -28,6 +28,7 @@ use Rattle.job_base.specs.sec_files.Loading.{Loads}
 use Rattle.job_base.specs.sec_files.Stimuli.{IsStimulus}
 use Rattle.job_circuit.specs.replay.replay_header.Header.{opened}
 use Rattle.job_after.specs.Answer.{IsWide, CanBeBegun}
+use Rattle.job_known.specs.Answer.{AreBeside, IsFor}
 use Rattle.job_signals.specs.job_begun.Found.{IsHeavy}
 use Rattle.pair_texts.specs.design_rows.NoFault.{has_no_fault}
 use Rattle.pair_texts.specs.design_rows.Designs.{one_model, same_cover, not_cover}
@@ -37,11 +38,11 @@ use Rattle.pair_texts.specs.design_rows.Texts.{late, early}
 use Rattle.pair_texts.proofs.design_rows.NoFaults.{tested_is_sound}
 use Rattle.pair_texts.proofs.design_rows.Examples.{at_top, flat_rank}
 use Rattle.pair_texts.proofs.design_rows.Tested.{PassesTests, tested_is_small}
-use Rattle.pair_texts.proofs.design_rows.Spelling.{Spells, PortsMatch, accepted, net_is_small, small_ports}
+use Rattle.pair_texts.proofs.design_rows.Spelling.{Spells, PortsMatch, accepted, net_is_small, match, small_ports}
 use Rattle.pair_texts.proofs.check_texts.Comparing.{broken}
 use Rattle.pair_texts.proofs.design_rows.SpelledTexts.{late_spells, early_spells}
 use Rattle.premise_rows.specs.job_rows.Replays.{both_and_none}
-use Rattle.premise_rows.specs.start_premises.Begun.{toggles, toggles_turned, one_reset, TextsCanBegin}
+use Rattle.premise_rows.specs.start_premises.Begun.{toggles, toggles_turned, one_reset, TextsCanBegin, TextsCanBeReplayed}
 use Rattle.premise_rows.proofs.block_premises.ByBlocks.{light}
 use Rattle.premise_rows.proofs.block_premises.NetWeights.{circuit_weight}
 use Rattle.premise_rows.proofs.job_rows.Replays.{Fitting, fits, one_byte, both_form}
@@ -203,3 +204,30 @@ texts_can_begin = record {
       tied late early both_and_none design.late design.early small_late small_early late_spells early_spells (codes "a" ∷ codes "b" ∷ []) ((true ∷ true ∷ []) ∷ (false ∷ false ∷ []) ∷ []) both_stimulus (λ own others. refl)
       (record { known = refl; complete = λ own others. refl }) refl 7 8 refl refl (omega arith) (omega arith);
 }
+
+-- a stimulus behind whose rows two circuits can begin is one that they can be run over
+stimulus_for : (x y z : List ℕ) → CanBeBegun IsWide x y z → IsFor x y z
+stimulus_for x y z can = record { names = can.names; rows = can.rows; stimulus = can.stimulus; fits = can.fits }
+
+beside : (x y : List ℕ) (m k : List BlifModel) (s t : Small) → Spells x m s → Spells y k t → PortsMatch s t → AreBeside x y
+beside x y m k s t p q same = record {
+  left = accepted x m s p;
+  right = accepted y k t q;
+  match = λ a b la lb. match s t a b (net_is_small x m s p a la) (net_is_small y k t q b lb) same;
+}
+
+toggles_beside : AreBeside toggles toggles_turned
+toggles_beside = beside toggles toggles_turned toggles_design turned_design (small_of (codes "q") 9) (small_of (codes "w") 12) toggles_spells turned_spells (λ own others. refl)
+
+retimed_beside : AreBeside late early
+retimed_beside = beside late early design.late design.early small_late small_early late_spells early_spells (λ own others. refl)
+
+pub texts_can_be_replayed : TextsCanBeReplayed
+texts_can_be_replayed =
+    let reset = stimulus_for toggles toggles_turned one_reset texts_can_begin.toggles_searched in
+    let both = stimulus_for late early both_and_none texts_can_begin.retimed_searched in
+    record {
+      toggles_from_reset = (toggles_beside, reset);
+      toggles_behind = (toggles_beside, reset, reset);
+      retimed_behind = (retimed_beside, both, both);
+    }

@@ -1,6 +1,7 @@
 -- Texts that meet the premise of what is promised of comparisons behind a reset sequence.
 use Rattle.std.specs.Prelude.{ℕ, List, Some, None, codes}
 use Rattle.job_after.specs.Answer.{IsWide, CanBeBegun, CanBeSearchedBehind}
+use Rattle.job_known.specs.Answer.{CanBeReplayedFrom, CanBeReplayedBehind}
 use Rattle.job_signals.specs.job_begun.Found.{IsHeavy}
 use Rattle.pair_texts.specs.design_rows.Texts.{late, early}
 use Rattle.premise_rows.specs.job_rows.Replays.{both_and_none}
@@ -25,3 +26,10 @@ pub record TextsCanBegin : Type 0 where
   pub retimed_searched : CanBeBegun IsWide late early both_and_none
   pub retimed_wholly : CanBeSearchedBehind None (Some late) (Some early) (Some both_and_none)
   pub retimed_tied : CanBeBegun IsHeavy late early both_and_none
+
+-- The same circuits over such stimuli: the toggles from their initial values over one cycle of reset, and over another one behind it, and the
+-- retiming over two cycles behind two.
+pub record TextsCanBeReplayed : Type 0 where
+  pub toggles_from_reset : CanBeReplayedFrom toggles toggles_turned one_reset
+  pub toggles_behind : CanBeReplayedBehind toggles toggles_turned one_reset one_reset
+  pub retimed_behind : CanBeReplayedBehind late early both_and_none both_and_none

@@ -1,5 +1,5 @@
-use Rattle.restart.proofs.Ran.{Ran}
+use Rattle.restart.proofs.Ran.{Ran, nothing}
 use Rattle.restart.proofs.three_run.run.Given as goal
 
 abbrev pub invariant-loop-row : goal.invariant-loop-row
-invariant-loop-row l = Ran l.net l.columns l.rows l.row-index l.latches l.values
+invariant-loop-row l = Ran l.net l.columns l.rows nothing l.row-index l.latches l.values

@@ -1,0 +1,9 @@
+pub mod Known
+pub mod Course
+pub mod Pairs
+pub mod Cycle
+pub mod Report
+pub mod Begins
+pub mod Judged
+pub mod Found
+pub mod Answer
