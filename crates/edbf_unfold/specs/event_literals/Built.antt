@@ -28,7 +28,7 @@ pub record IsWalked (u : EventUnfolderView) (w : EventGraphView) (frame : Frame)
   pub at : slice_get u.frames number ≡ Some frame
   pub begins : Contains table (number, s)
   pub each : length ways ≡ length table
-  pub few : length table ≤ 1 + 2 * cap
+  pub few : length table ≤ cap
   pub expanded : (i : ℕ) (p : ℕ × ℕ) (g : Ways) → slice_get table i ≡ Some p → slice_get ways i ≡ Some g → IsExpanded u.circuit u.frames w.children table p g
   pub met : (p : ℕ × ℕ) → Contains table p → IsMet u.memo p
   pub done : (p : ℕ × ℕ) → Contains table p → IsCounted u.frames counted p
