@@ -1,6 +1,6 @@
 -- What an unfolding and its care give together.
 use Rattle.std.proofs.lemmas.Option.{slice_get_within}
-use Rattle.std.proofs.Common.{◌≡◌, ◌∙◌, ◌+◌, ◌*◌, ◌<◌, ◌≤◌, ℕ, Bool, true, false, List, [], length, slice_get, Some, None, refl, sym, subst, arith}
+use Rattle.std.proofs.Common.{◌≡◌, ◌+◌, ◌<◌, ◌≤◌, ℕ, Bool, true, false, List, [], length, slice_get, Some, None, refl, sym, subst, arith}
 use Rattle.circuit_theory.specs.EventSizes.{Start}
 use Rattle.circuit_theory.specs.Frame.{NotPut}
 use Rattle.edbf_unfold.specs.event_literals.Sound.{IsSound}
@@ -9,9 +9,9 @@ use Rattle.edbf_unfold.proofs.event_literals.Places.{one_at}
 use Rattle.event_nodes.specs.Lit.{Lit}
 use Rattle.event_nodes.specs.Nodes.{EventGraphView, IsEventGraph, GrowsEvents}
 use Rattle.event_nodes.specs.View.{EventCircuitView, IsEventCircuit, side_of}
-use Rattle.event_nodes.specs.Visited.{CounterView, HoldsVisits, HoldsNodes, IsWeighed}
+use Rattle.event_nodes.specs.Visited.{CounterView, HoldsVisits, HoldsNodes}
 use Rattle.event_nodes.proofs.Growing.{grows_trans}
-use Rattle.event_nodes.proofs.Lists.{adds_none, adds_trans}
+use Rattle.event_nodes.proofs.Lists.{adds_none}
 use Rattle.edbf_unfold.specs.declared.event_literals.event_walk.frames.Frame.{Frame}
 use Rattle.edbf_unfold.specs.declared.event_literals.event_walk.frames.Put.TheVariants.{Free}
 use Rattle.edbf_unfold.specs.declared.event_literals.event_walk.frames.Ways.{Ways}

@@ -1,5 +1,5 @@
 -- What an unfolding of a signal has met, and what it asks for.
-use Rattle.std.specs.Prelude.{◌≡◌, ℕ, ◌+◌, ◌*◌, ◌<◌, ◌≤◌, List, length, slice_get, Some, All, Contains}
+use Rattle.std.specs.Prelude.{◌≡◌, ℕ, ◌<◌, ◌≤◌, List, length, slice_get, Some, All, Contains}
 use Rattle.circuit_theory.specs.EventSizes.{Start}
 use Rattle.event_nodes.specs.Nodes.{EventGraphView}
 use Rattle.event_nodes.specs.Visited.{CounterView, IsWeighed}

@@ -3,11 +3,10 @@ use Rattle.std.proofs.Common.{◌≡◌, ◌∙◌, ◌+◌, ◌-◌, ◌*◌, �
 use Rattle.std.specs.Prelude.{◌⊎◌}
 use Rattle.std.specs.List.{All, Contains, sum_by}
 use Rattle.std.proofs.lemmas.List.Sums.{sum_by_more}
-use Rattle.std.proofs.lemmas.List.Elements.{All-nil, All-cons, All-append, All-weaker}
+use Rattle.std.proofs.lemmas.List.Elements.{All-nil, All-append, All-weaker}
 use Rattle.std.proofs.lemmas.Option.{slice_get_within, get_or_from_slice_get, none-some}
 use Rattle.event_nodes.specs.flat_net.Signal.{Signal}
 use Rattle.event_nodes.specs.flat_net.LatchAt.{LatchAt}
-use Rattle.circuit_theory.proofs.Lists.{Contains-head}
 use Rattle.event_nodes.proofs.flat_net.Growth.{length-push, slice_get-append, slice_get-push_cases}
 use Rattle.event_nodes.proofs.flat_net.Nets.{some_at}
 use Rattle.event_nodes.proofs.flat_net.Places.{one_at}

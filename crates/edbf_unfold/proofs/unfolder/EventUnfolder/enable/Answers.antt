@@ -17,10 +17,7 @@ use Rattle.edbf_unfold.proofs.Caring.{enable_later}
 use Rattle.edbf_unfold.proofs.event_literals.event_walk.Stepping.{refused_memory, refused_ok}
 use Rattle.edbf_unfold.proofs.Finishing.{ready_less, unfolded_more, counting_same, finished_care, finished_count}
 use Rattle.edbf_unfold.proofs.event_literals.Going.{are_known_later}
-use Rattle.edbf_unfold.proofs.event_literals.Rooted.{next_within, enable_lit, walked_later, walked_met}
-use Rattle.event_nodes.proofs.Lists.{adds_none}
-use Rattle.event_nodes.specs.Lit.{Lit}
-use Rattle.edbf_unfold.specs.declared.event_literals.event_walk.frames.Frame.{Frame}
+use Rattle.edbf_unfold.proofs.event_literals.Rooted.{next_within, enable_lit, walked_met}
 use Rattle.edbf_unfold.proofs.unfolder.EventUnfolder.enable.Goals as goal
 
 pub unfold_in-requires-clause-signal : goal.unfold_in-requires-clause-signal
