@@ -102,8 +102,8 @@ fn differing(alloc: Global, searched: &Searched) -> Result<Option<NameTable>, No
     };
     let word = word_name(first.as_slice());
     let mut names = NameTable::new(alloc);
-    for result in searched.pairs.as_slice() {
-        add_differing(alloc, &mut names, result, word)?;
+    for pair in searched.pairs.as_slice() {
+        add_differing(alloc, &mut names, pair, word)?;
     }
     Ok(Some(names))
 }
@@ -112,10 +112,10 @@ fn differing(alloc: Global, searched: &Searched) -> Result<Option<NameTable>, No
 fn add_differing(
     alloc: Global,
     names: &mut NameTable,
-    result: &PairResult,
+    pair: &PairResult,
     word: &[u8],
 ) -> Result<(), NoMemory> {
-    if let (PairName::Output(name), PairAnswer::Different) = (&result.name, result.answer) {
+    if let (PairName::Output(name), PairAnswer::Different) = (&pair.name, pair.answer) {
         if word_name(name.as_slice()) == word {
             names.add(alloc, name.as_slice())?;
         }
