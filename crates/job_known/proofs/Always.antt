@@ -54,11 +54,12 @@ of_pair t name (Some l) (Some r) d h = go (differ l r) refl h
 -- of a cycle
 of_cycle : (t : ℕ) (x y : ℕ → Option Bool) (pairs : List (NamedPair ℕ ℕ)) (d : Difference) → Contains (differences_in t x y pairs) d → (p : NamedPair ℕ ℕ) × Contains pairs p × IsOf t p.name (x p.left) (y p.right) d
 of_cycle t x y [] d h = absurd (none_of d h)
-of_cycle t x y (p ∷ pairs) d h = go (Contains-append_cases (difference_of t p.name (x p.left) (y p.right)) (differences_in t x y pairs) d h)
+of_cycle t x y (p ∷ pairs) d h = go (Contains-append_cases (difference_of t p.name (x p.left) (y p.right)) (differences_in t x y pairs) d h) (λ k. of_cycle t x y pairs d k)
   where
-    go : Contains (difference_of t p.name (x p.left) (y p.right)) d ⊎ Contains (differences_in t x y pairs) d → (q : NamedPair ℕ ℕ) × Contains (p ∷ pairs) q × IsOf t q.name (x q.left) (y q.right) d
-    go (inl k) = (p, Contains-head p pairs, of_pair t p.name (x p.left) (y p.right) d k)
-    go (inr k) = let r = of_cycle t x y pairs d k in (r.0, Contains-tail p r.0 pairs r.1, r.2)
+    go : Contains (difference_of t p.name (x p.left) (y p.right)) d ⊎ Contains (differences_in t x y pairs) d →
+        (Contains (differences_in t x y pairs) d → (q : NamedPair ℕ ℕ) × Contains pairs q × IsOf t q.name (x q.left) (y q.right) d) → (q : NamedPair ℕ ℕ) × Contains (p ∷ pairs) q × IsOf t q.name (x q.left) (y q.right) d
+    go (inl k) later = (p, Contains-head p pairs, of_pair t p.name (x p.left) (y p.right) d k)
+    go (inr k) later = let r = later k in (r.0, Contains-tail p r.0 pairs r.1, r.2)
 
 -- of the first cycles
 of_cycles : (v w : ℕ → ℕ → Option Bool) (pairs : List (NamedPair ℕ ℕ)) (n : ℕ) (d : Difference) → Contains (differences_of v w pairs n) d →

@@ -1,5 +1,5 @@
 -- The cycles of two runs, one after the other.
-use Rattle.std.proofs.Common.{◌≡◌, ℕ, zero, suc, ◌+◌, ◌<◌, Bool, true, false, cond, List, [], ◌∷◌, ◌++◌, map, length, replicate, get_or, slice_get, refl, sym, ap, ◌∙◌, subst, arith, Option, Some, None}
+use Rattle.std.proofs.Common.{◌≡◌, ℕ, zero, suc, ◌+◌, ◌<◌, ◌≤◌, Bool, true, false, cond, List, [], ◌∷◌, ◌++◌, map, length, replicate, get_or, slice_get, refl, sym, ap, ◌∙◌, subst, arith, Option, Some, None}
 use Rattle.std.specs.Prelude.{◌||◌}
 use Rattle.std.proofs.lemmas.Option.{get_or_from_slice_get}
 use Rattle.flat_net.specs.declared.parts.LatchAt.{LatchAt}
@@ -156,3 +156,12 @@ module _ (a b : NetView) (sound_a : IsSound a) (sound_b : IsSound b) (left_colum
         shown = subst (λ (v : ℕ → ℕ → Option Bool). AreShown v r.0.run (map places_of pairs) (length rows) found) (sym l.1)
             (subst (λ (w : ℕ → ℕ → Option Bool). AreShown at.left_side.ran.run w (map places_of pairs) (length rows) found) (sym r.1) at.shown);
       }
+
+-- no more cycles are counted than there are
+pub cycles_few : (v w : ℕ → ℕ → Option Bool) (pairs : List (NamedPair ℕ ℕ)) (n : ℕ) → cycles_of v w pairs n ≤ n
+cycles_few v w pairs zero = omega arith
+cycles_few v w pairs (suc n) = go (some_known (v n) (w n) pairs) (cycles_few v w pairs n)
+  where
+    go : (b : Bool) → cycles_of v w pairs n ≤ n → cond b (suc (cycles_of v w pairs n)) (cycles_of v w pairs n) ≤ suc n
+    go true h = omega (arith, h)
+    go false h = omega (arith, h)

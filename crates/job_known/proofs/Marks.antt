@@ -25,18 +25,12 @@ module _ (x y : ℕ → Option Bool) where
       ∙ ap (λ (qs : List (NamedPair ℕ ℕ)). front ++ differences_in t x y qs) (sym (taken pairs i p within is))))
 
   -- it is marked
-  pub marked_more : (pairs : List (NamedPair ℕ ℕ)) (seen : List Bool) (j : ℕ) (p : NamedPair ℕ ℕ) → slice_get pairs j ≡ Some p → length seen ≡ length pairs →
-      set (marked x y (take j pairs) seen) j (get_or (marked x y (take j pairs) seen) j false || both_known (x p.left) (y p.right)) ≡ marked x y (take (suc j) pairs) seen
+  pub marked_more : (pairs : List SignalPair) (seen : List Bool) (j : ℕ) (p : SignalPair) → slice_get pairs j ≡ Some p → length seen ≡ length pairs →
+      set (marked x y (map places_of (take j pairs)) seen) j (get_or (marked x y (map places_of (take j pairs)) seen) j false || both_known (x p.left.0) (y p.right.0)) ≡ marked x y (map places_of (take (suc j) pairs)) seen
   marked_more [] seen j p h e = absurd (none-some p h)
   marked_more (q ∷ pairs) [] j p h e = absurd (omega (arith, e))
-  marked_more (q ∷ pairs) (s ∷ seen) zero p h e = ap (λ (r : NamedPair ℕ ℕ). (s || both_known (x r.left) (y r.right)) ∷ seen) (sym (same_Some q p h))
-  marked_more (q ∷ pairs) (s ∷ seen) (suc j) p h e = ap (λ (bits : List Bool). (s || both_known (x q.left) (y q.right)) ∷ bits) (marked_more pairs seen j p h (omega (arith, e)))
-
-  -- there is a mark for each pair
-  pub marked_long : (pairs : List (NamedPair ℕ ℕ)) (seen : List Bool) → length seen ≡ length pairs → length (marked x y pairs seen) ≡ length pairs
-  marked_long [] seen e = e
-  marked_long (p ∷ pairs) [] e = e
-  marked_long (p ∷ pairs) (s ∷ seen) e = ap suc (marked_long pairs seen (omega (arith, e)))
+  marked_more (q ∷ pairs) (s ∷ seen) zero p h e = ap (λ (r : SignalPair). (s || both_known (x r.left.0) (y r.right.0)) ∷ seen) (sym (same_Some q p h))
+  marked_more (q ∷ pairs) (s ∷ seen) (suc j) p h e = ap (λ (bits : List Bool). (s || both_known (x q.left.0) (y q.right.0)) ∷ bits) (marked_more pairs seen j p h (omega (arith, e)))
 
   -- marks by a test, and by it or what is known
   pub marked_by : (f : NamedPair ℕ ℕ → Bool) (pairs : List (NamedPair ℕ ℕ)) → marked x y pairs (map f pairs) ≡ map (λ (p : NamedPair ℕ ℕ). f p || both_known (x p.left) (y p.right)) pairs

@@ -1,6 +1,6 @@
 //! What two circuits show of their pairs of outputs, as far as it is known.
 
-ghost use Rattle.std.specs.Prelude.{◌≡◌, ◌<◌, ◌^◌, ◌+◌, ◌++◌, [], None, false, length, map, replicate, slice_index_or, IfOk, OnOk};
+ghost use Rattle.std.specs.Prelude.{◌≡◌, ◌||◌, ◌<◌, ◌^◌, ◌+◌, ◌++◌, [], None, false, length, map, replicate, slice_index_or, IfOk, OnOk};
 ghost use Rattle.sec_setup.specs.ports.Pairs.{places_of};
 ghost use Rattle.job_known.specs.Course.{IsFirst, IsSized, Steps};
 ghost use Rattle.job_known.specs.Pairs.{both_known, difference_of, differences_in, some_known, ShowsKnown};
@@ -52,6 +52,13 @@ fn both_known(left: Option<bool>, right: Option<bool>) -> bool
         Some(_) => right.is_some(),
         None => false,
     }
+}
+
+/// The mark, or whether both values are known.
+fn or_known(mark: bool, left: Option<bool>, right: Option<bool>) -> bool
+    ensures { result ≡ (mark || both_known left right) }
+{
+    mark || both_known(left, right)
 }
 
 fn copy_name(name: &PairName) -> Result<PairName, NoMemory>
@@ -118,8 +125,9 @@ fn mark_known(
     ensures { seen.new ≡ marked (λ s. slice_index_or left.now s None) (λ s. slice_index_or right.now s None) (map places_of pairs.now) seen.old }
 {
     for (j, pair) in pairs.iter().enumerate() {
-        let both = both_known(known_of(left, pair.left), known_of(right, pair.right));
-        seen[j] = seen[j] || both;
+        let a = known_of(left, pair.left);
+        let b = known_of(right, pair.right);
+        seen[j] = or_known(seen[j], a, b);
     }
 }
 

@@ -16,7 +16,7 @@ use Rattle.flat_net.specs.View.{NetView, cover_of}
 use Rattle.flat_net.proofs.Places.{one_at}
 use Rattle.cycle_sim.proofs.Lists.{set_here, set_there, below_or_here}
 use Rattle.circuit_laws.specs.start_laws.Known.{cover_three}
-use Rattle.restart.specs.Cycle.{HasInputs, HasLatches, HasGates}
+use Rattle.restart.specs.Cycle.{HasInputs, HasLatches}
 
 -- a value that is read with None elsewhere stands there
 pub read_some : (values : List (Option Bool)) (p : ℕ) (bit : Bool) → get_or values p None ≡ Some bit → slice_get values p ≡ Some (Some bit)

@@ -1,5 +1,5 @@
 -- The three-valued run grows by one cycle at a time; what it has is known.
-use Rattle.std.proofs.Common.{◌≡◌, ◌∙◌, ℕ, zero, suc, ◌+◌, ◌-◌, ◌<◌, ◌≤◌, Bool, List, [], ◌∷◌, map, length, get_or, slice_get, refl, sym, ap, subst, arith, inl, inr, ◌⊎◌, Option, Some, None}
+use Rattle.std.proofs.Common.{◌≡◌, ◌∙◌, ℕ, zero, suc, ◌-◌, ◌<◌, Bool, List, [], map, length, get_or, slice_get, refl, sym, ap, subst, arith, inl, inr, ◌⊎◌, Option, Some, None}
 use Rattle.std.specs.List.{Contains}
 use Rattle.std.proofs.lemmas.List.{length-map}
 use Rattle.std.proofs.lemmas.Option.{get_or_from_slice_get, slice_get_within, slice_get-get_or}
@@ -7,7 +7,7 @@ use Rattle.circuit_theory.specs.Circuit.{Gate as gate_equation, Latch as latch_e
 use Rattle.circuit_theory.specs.Cover.{Cover}
 use Rattle.circuit_theory.specs.Tree.{IsInputNumber}
 use Rattle.circuit_theory.proofs.Lists.{map_same, map-map}
-use Rattle.circuit_laws.specs.start_laws.Known.{IsKnown, IsThreeRun, cover_three, row_bit}
+use Rattle.circuit_laws.specs.start_laws.Known.{IsKnown, cover_three, row_bit}
 use Rattle.circuit_laws.proofs.start_laws.Three.{three_known, latch_known}
 use Rattle.cycle_sim.proofs.Lists.{map_is}
 use Rattle.flat_net.specs.declared.signals.Signal.{Signal}
@@ -20,7 +20,7 @@ use Rattle.flat_net.specs.Sound.{IsSound}
 use Rattle.flat_net.specs.View.{NetView, circuit_of, cover_of, named, equation_of_gate, equation_of_latch}
 use Rattle.flat_net.proofs.Drivers.{gate_of_equation}
 use Rattle.flat_net.proofs.Nets.{OfGate, OfLatch, equation_from, latch_stands, sound_is_net}
-use Rattle.restart.specs.Behind.{AreColumnsOf, AreKnownLatches, AreKnownBehind, IsThreeRunTo}
+use Rattle.restart.specs.Behind.{AreColumnsOf, AreKnownBehind, IsThreeRunTo}
 use Rattle.restart.specs.Cycle.{AreOfCycle, TakesOver}
 use Rattle.restart.proofs.Begun.{port_at}
 

@@ -1,5 +1,5 @@
 -- The gate that the loop is at is written to its own signal.
-use Rattle.std.proofs.Common.{◌≡◌, ◌<◌, map, get_or, length, subst, ap, arith, None}
+use Rattle.std.proofs.Common.{◌≡◌, map, get_or, length, subst, ap, arith, None}
 use Rattle.std.specs.Prelude.{IfSome}
 use Rattle.std.proofs.lemmas.Option.{slice_get_within}
 use Rattle.flat_net.specs.declared.signals.Signal.{Signal}

@@ -1,5 +1,5 @@
 -- The input that the loop is at is written to its own signal.
-use Rattle.std.proofs.Common.{◌≡◌, ◌<◌, length, ap, arith}
+use Rattle.std.proofs.Common.{length, ap, arith}
 use Rattle.std.proofs.lemmas.Option.{slice_get_within}
 use Rattle.cycle_sim.proofs.Lists.{item_at, input_within}
 use Rattle.restart.proofs.Bits.{inputs_more, column_at}

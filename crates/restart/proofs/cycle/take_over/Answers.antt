@@ -1,5 +1,5 @@
 -- The latch that the loop is at takes over what is known of its data.
-use Rattle.std.proofs.Common.{◌≡◌, ◌<◌, length, sym, ◌∙◌, ap, arith}
+use Rattle.std.proofs.Common.{◌≡◌, length, ap, arith}
 use Rattle.std.proofs.lemmas.Option.{slice_get_within}
 use Rattle.cycle_sim.proofs.Lists.{item_at}
 use Rattle.restart.proofs.Bits.{taken_more}
