@@ -8,7 +8,7 @@ use Rattle.job_after.specs.Report.{after_text}
 use Rattle.job_after.specs.Ends.{FitsAfter, header_fault, search_fault}
 use Rattle.job_after.proofs.Starts.{comparable, long}
 use Rattle.job_after.proofs.Zeros.{stays}
-use Rattle.job_after.proofs.Others.{shown_anyhow}
+use Rattle.job_after.proofs.LeftOut.{shown_anyhow}
 use Rattle.job_after.proofs.Deepest.{decided}
 use Rattle.job_after.proofs.Searched.{refused_by, unfit, refused, endless, judged_by}
 use Rattle.job_after.proofs.judging.judge_after.Goals as goal

@@ -1,4 +1,3 @@
-use Rattle.std.proofs.Common.{◌×◌}
 use Rattle.flat_net.specs.Comparable.{IsComparable}
 use Rattle.job_after.proofs.others.shown_in_others.Given as goal
 

@@ -1,5 +1,5 @@
 -- What the sequence shows that was found at first.
-use Rattle.job_after.proofs.Others.{shown_as_found}
+use Rattle.job_after.proofs.LeftOut.{shown_as_found}
 use Rattle.job_after.proofs.shown.shown_of.Goals as goal
 
 pub returns-then-is_some-clause-shown : goal.returns-then-is_some-clause-shown

@@ -1,6 +1,6 @@
 -- What a sequence shows that was found, and nets without some outputs.
 use Rattle.std.specs.Prelude.{IfSome}
-use Rattle.std.proofs.Common.{ℕ, Bool, not, List, length, ◌×◌, Option, Some, None}
+use Rattle.std.proofs.Common.{ℕ, Bool, not, List, length, Option, Some, None}
 use Rattle.base_tables.specs.Table.{is_among}
 use Rattle.flat_net.specs.Comparable.{IsComparable}
 use Rattle.flat_net.specs.View.{NetView}
