@@ -2,6 +2,7 @@ pub mod Marks
 pub mod Cycles
 pub mod Holds
 pub mod Always
+pub mod Judging
 pub mod Unread
 pub mod Finds
 pub mod Means

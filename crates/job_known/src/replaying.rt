@@ -140,6 +140,8 @@ pub(crate) fn judge_behind(
     let pairs = output_pairs(alloc, &a, &b)?;
     let mut text = Vec::new(alloc);
     begin_both(alloc, &mut a, &mut b, before, &mut text)?;
+    a.keeps();
+    b.keeps();
     let found = found_over(alloc, &a, &b, pairs.as_slice(), stimulus)?;
     let rows = stimulus.rows.len() as u64;
     let judged = told(alloc, text, settles, rows, &found)?;

@@ -1,0 +1,111 @@
+-- What is judged of two nets, by what they show.
+use Rattle.std.specs.Prelude.{◌≡◌, ◌<◌, ℕ, Bool, List, [], length, map, Option, Result, Ok, Err, IsErrAnd}
+use Rattle.std.proofs.Common.{sym, ap, subst, inl, inr}
+use Rattle.std.specs.List.{All, Contains}
+use Rattle.flat_net.specs.Sound.{IsSound}
+use Rattle.flat_net.specs.View.{NetView, circuit_of}
+use Rattle.sec_setup.specs.Matching.{InterfacesMatch}
+use Rattle.sec_setup.specs.declared.ports.pairs.SignalPair.{SignalPair}
+use Rattle.sec_setup.specs.ports.Pairs.{NamedPair, places_of, named_pairs}
+use Rattle.restart.specs.Behind.{IsBegun}
+use Rattle.job_circuit.specs.declared.replay.replay_header.error.ReplayError.{ReplayError}
+use Rattle.job_circuit.specs.declared.replay.replay_header.error.ReplayError.TheVariants as header
+use Rattle.job_after.specs.declared.fault.AfterFault.{AfterFault}
+use Rattle.job_after.specs.declared.fault.AfterFault.TheVariants as fault
+use Rattle.job_after.specs.declared.judging.Judged.{Judged}
+use Rattle.job_after.specs.Ends.{FitsAfter, header_fault}
+use Rattle.job_after.specs.Report.{begun_text}
+use Rattle.job_known.specs.declared.known_pairs.KnownReplay.{KnownReplay}
+use Rattle.job_known.specs.Cycle.{AreWithin}
+use Rattle.job_known.specs.Pairs.{ShowsKnown, ReadsFromReset, ReadsBehind, DifferAlways}
+use Rattle.job_known.specs.Judged.{MatchesAfter, IsTold, IsReplayedFrom, IsReplayedBehind, ReplaysFrom, ReplaysBehind}
+use Rattle.job_known.proofs.Always.{differ_from_reset, differ_behind, places_within}
+
+-- what is true of an error is true of the result that it is
+pub refused_by : (Of : Result Judged AfterFault → Type 0) (r : Result Judged AfterFault) (e : AfterFault) → IsErrAnd r (λ x. x ≡ e) → Of (Err e) → Of r
+refused_by Of (Ok x) e h p = absurd h
+refused_by Of (Err x) e h p = subst (λ (y : AfterFault). Of (Err y)) (sym h) p
+
+module _ (settles : Bool) (a b : NetView) (names : List (List ℕ)) (rows : List (List Bool)) where
+  -- the interfaces don't match
+  pub unlike : (e : AfterFault) → MatchesAfter a b (Err e) → ReplaysFrom settles a b names rows (Err e)
+  unlike (fault.Unknown name) h = absurd h
+  unlike (fault.Missing name) h = absurd h
+  unlike (fault.Interface name) h = h
+  unlike (fault.Cyclic side latches) h = absurd h
+  unlike (fault.TooLarge side) h = absurd h
+  unlike fault.NoMemory h = tt
+
+  -- the stimulus doesn't fit
+  pub unfit : InterfacesMatch a b → (e : ReplayError) → FitsAfter a b names (Err e) → ReplaysFrom settles a b names rows (Err (header_fault e))
+  unfit matches (header.Unknown name) h = (matches, h)
+  unfit matches (header.Missing name) h = (matches, h)
+  unfit matches header.NoMemory h = tt
+
+  module _ (wide : All (λ (row : List Bool). length row ≡ length names) rows) where
+    -- both are run
+    pub replayed_from : IsSound a → IsSound b → InterfacesMatch a b → FitsAfter a b names (Ok tt) → (pairs : List SignalPair) → map places_of pairs ≡ named_pairs [] (circuit_of a) (circuit_of b) → AreWithin (length a.drivers) (length b.drivers) pairs →
+        (found : KnownReplay) → ShowsKnown a b (map places_of pairs) names rows found → (j : Judged) → IsTold settles [] (length rows) found j → IsReplayedFrom settles a b names rows j
+    replayed_from sound_a sound_b matches fits pairs named within found shows j told =
+        let always = differ_from_reset names rows wide a b sound_a sound_b (map places_of pairs) (places_within (length a.drivers) (length b.drivers) pairs within) found shows in
+        record {
+          matches = matches;
+          fits = fits;
+          found = found;
+          shows = subst (λ (ps : List (NamedPair ℕ ℕ)). ShowsKnown a b ps names rows found) named shows;
+          always = subst (λ (ps : List (NamedPair ℕ ℕ)). DifferAlways (ReadsFromReset a names rows) (ReadsFromReset b names rows) 0 ps found.differences) named always;
+          told = told;
+        }
+
+    module _ (first : List (List ℕ)) (before : List (List Bool)) where
+      -- the interfaces don't match
+      pub unlike_behind : (e : AfterFault) → MatchesAfter a b (Err e) → ReplaysBehind settles a b first before names rows (Err e)
+      unlike_behind (fault.Unknown name) h = absurd h
+      unlike_behind (fault.Missing name) h = absurd h
+      unlike_behind (fault.Interface name) h = h
+      unlike_behind (fault.Cyclic side latches) h = absurd h
+      unlike_behind (fault.TooLarge side) h = absurd h
+      unlike_behind fault.NoMemory h = tt
+
+      -- the first stimulus doesn't fit
+      pub unfit_first : InterfacesMatch a b → (e : ReplayError) → FitsAfter a b first (Err e) → ReplaysBehind settles a b first before names rows (Err (header_fault e))
+      unfit_first matches (header.Unknown name) h = (matches, inl h)
+      unfit_first matches (header.Missing name) h = (matches, inl h)
+      unfit_first matches header.NoMemory h = tt
+
+      -- the first one fits, and the other doesn't
+      pub unfit_behind : InterfacesMatch a b → FitsAfter a b first (Ok tt) → (e : ReplayError) → FitsAfter a b names (Err e) → ReplaysBehind settles a b first before names rows (Err (header_fault e))
+      unfit_behind matches fits (header.Unknown name) h = (matches, inr (fits, h))
+      unfit_behind matches fits (header.Missing name) h = (matches, inr (fits, h))
+      unfit_behind matches fits header.NoMemory h = tt
+
+      module _ (l r : NetView) (left_known right_known : List (Option Bool)) (left : IsBegun a first before left_known l) (right : IsBegun b first before right_known r) where
+        -- a net that begins has the net's signals
+        pub begun_within : (pairs : List SignalPair) → AreWithin (length a.drivers) (length b.drivers) pairs → AreWithin (length l.drivers) (length r.drivers) pairs
+        begun_within pairs within =
+            subst (λ (m : ℕ). AreWithin m (length r.drivers) pairs) (sym (ap (λ (n : NetView). length n.drivers) left.is)) (
+            subst (λ (k : ℕ). AreWithin (length a.drivers) k pairs) (sym (ap (λ (n : NetView). length n.drivers) right.is)) within
+            )
+
+        -- both are run behind the rows
+        pub replayed_behind : All (λ (row : List Bool). length row ≡ length first) before → IsSound l → IsSound r → InterfacesMatch a b → FitsAfter a b first (Ok tt) → FitsAfter a b names (Ok tt) → (pairs : List SignalPair) →
+            map places_of pairs ≡ named_pairs [] (circuit_of a) (circuit_of b) → AreWithin (length a.drivers) (length b.drivers) pairs → (found : KnownReplay) → ShowsKnown l r (map places_of pairs) names rows found → (j : Judged) →
+            IsTold settles (begun_text l r (length before) left_known right_known) (length rows) found j → IsReplayedBehind settles a b first before names rows j
+        replayed_behind first_wide sound_l sound_r matches fits_first fits pairs named within found shows j told =
+            let always = differ_from_reset names rows wide l r sound_l sound_r (map places_of pairs) (places_within (length l.drivers) (length r.drivers) pairs (begun_within pairs within)) found shows in
+            let behind = differ_behind names rows wide first before first_wide a b l r left_known right_known left right (map places_of pairs) found.differences always in
+            record {
+              matches = matches;
+              fits_first = fits_first;
+              fits = fits;
+              left_known = left_known;
+              right_known = right_known;
+              left = l;
+              right = r;
+              left_begun = left;
+              right_begun = right;
+              found = found;
+              shows = subst (λ (ps : List (NamedPair ℕ ℕ)). ShowsKnown l r ps names rows found) named shows;
+              always = subst (λ (ps : List (NamedPair ℕ ℕ)). DifferAlways (ReadsBehind a first before names rows) (ReadsBehind b first before names rows) (length before) ps found.differences) named behind;
+              told = told;
+            }
