@@ -21,27 +21,7 @@ use Rattle.job_known.specs.Pairs.{ShowsKnown, ReadsFromReset, ReadsBehind, Diffe
 use Rattle.job_known.specs.Judged.{MatchesAfter, IsTold, IsReplayedFrom, IsReplayedBehind, ReplaysFrom, ReplaysBehind}
 use Rattle.job_known.proofs.Always.{differ_from_reset, differ_behind, places_within}
 
--- what is true of an error is true of the result that it is
-pub refused_by : (Of : Result Judged AfterFault → Type 0) (r : Result Judged AfterFault) (e : AfterFault) → IsErrAnd r (λ x. x ≡ e) → Of (Err e) → Of r
-refused_by Of (Ok x) e h p = absurd h
-refused_by Of (Err x) e h p = subst (λ (y : AfterFault). Of (Err y)) (sym h) p
-
 module _ (settles : Bool) (a b : NetView) (names : List (List ℕ)) (rows : List (List Bool)) where
-  -- the interfaces don't match
-  pub unlike : (e : AfterFault) → MatchesAfter a b (Err e) → ReplaysFrom settles a b names rows (Err e)
-  unlike (fault.Unknown name) h = absurd h
-  unlike (fault.Missing name) h = absurd h
-  unlike (fault.Interface name) h = h
-  unlike (fault.Cyclic side latches) h = absurd h
-  unlike (fault.TooLarge side) h = absurd h
-  unlike fault.NoMemory h = tt
-
-  -- the stimulus doesn't fit
-  pub unfit : InterfacesMatch a b → (e : ReplayError) → FitsAfter a b names (Err e) → ReplaysFrom settles a b names rows (Err (header_fault e))
-  unfit matches (header.Unknown name) h = (matches, h)
-  unfit matches (header.Missing name) h = (matches, h)
-  unfit matches header.NoMemory h = tt
-
   module _ (wide : All (λ (row : List Bool). length row ≡ length names) rows) where
     -- both are run
     pub replayed_from : IsSound a → IsSound b → InterfacesMatch a b → FitsAfter a b names (Ok tt) → (pairs : List SignalPair) → map places_of pairs ≡ named_pairs [] (circuit_of a) (circuit_of b) → AreWithin (length a.drivers) (length b.drivers) pairs →
@@ -58,27 +38,6 @@ module _ (settles : Bool) (a b : NetView) (names : List (List ℕ)) (rows : List
         }
 
     module _ (first : List (List ℕ)) (before : List (List Bool)) where
-      -- the interfaces don't match
-      pub unlike_behind : (e : AfterFault) → MatchesAfter a b (Err e) → ReplaysBehind settles a b first before names rows (Err e)
-      unlike_behind (fault.Unknown name) h = absurd h
-      unlike_behind (fault.Missing name) h = absurd h
-      unlike_behind (fault.Interface name) h = h
-      unlike_behind (fault.Cyclic side latches) h = absurd h
-      unlike_behind (fault.TooLarge side) h = absurd h
-      unlike_behind fault.NoMemory h = tt
-
-      -- the first stimulus doesn't fit
-      pub unfit_first : InterfacesMatch a b → (e : ReplayError) → FitsAfter a b first (Err e) → ReplaysBehind settles a b first before names rows (Err (header_fault e))
-      unfit_first matches (header.Unknown name) h = (matches, inl h)
-      unfit_first matches (header.Missing name) h = (matches, inl h)
-      unfit_first matches header.NoMemory h = tt
-
-      -- the first one fits, and the other doesn't
-      pub unfit_behind : InterfacesMatch a b → FitsAfter a b first (Ok tt) → (e : ReplayError) → FitsAfter a b names (Err e) → ReplaysBehind settles a b first before names rows (Err (header_fault e))
-      unfit_behind matches fits (header.Unknown name) h = (matches, inr (fits, h))
-      unfit_behind matches fits (header.Missing name) h = (matches, inr (fits, h))
-      unfit_behind matches fits header.NoMemory h = tt
-
       module _ (l r : NetView) (left_known right_known : List (Option Bool)) (left : IsBegun a first before left_known l) (right : IsBegun b first before right_known r) where
         -- a net that begins has the net's signals
         pub begun_within : (pairs : List SignalPair) → AreWithin (length a.drivers) (length b.drivers) pairs → AreWithin (length l.drivers) (length r.drivers) pairs

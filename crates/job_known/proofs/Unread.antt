@@ -23,7 +23,7 @@ use Rattle.job_circuit.specs.job_replay.Replays.{replay_paths}
 use Rattle.job_after.specs.declared.fault.AfterFault.{AfterFault}
 use Rattle.job_after.specs.declared.judging.Judged.{Judged}
 use Rattle.job_after.specs.Answer.{IsUnreadRefusal, IsUnread}
-use Rattle.job_known.specs.Found.{IsKnownRefusal, IsKnownFound, OfReset, IsResetFound, known_paths, IsUnreadBehind, IsBehindFound}
+use Rattle.job_known.specs.Found.{IsKnownRefusal, IsKnownFound, OfReset, IsResetFound, known_paths, IsUnreadBehind, OfBehind, IsBehindFound}
 
 module _ (Unread : Refusal → Type 0) (Of : Result Judged AfterFault → Type 0) (left right stimulus : Option (List ℕ)) (so : (r : Refusal) → IsUnreadRefusal left right stimulus r → Unread r) where
   refused_so : (r : Refusal) → IsUnreadRefusal left right stimulus r → IsKnownRefusal Unread Of r
@@ -80,7 +80,7 @@ module _ (settles : Bool) (held : Held) (earlier now : List ℕ → ℕ) (left r
   -- one of the first three isn't loaded
   pub four_end : (r : Result Finding Stop) → EndsBy (IsUnread (held left) (held right) (held before)) (ReadFailed held earlier now (replay_paths left right before)) r →
       EndsBy (IsBehindFound settles (held left) (held right) (held before) (held stimulus)) Failed r
-  four_end (Ok f) h = found_so (IsUnreadBehind (held left) (held right) (held before) (held stimulus)) _ (held left) (held right) (held before) (λ r k. inl k) f h
+  four_end (Ok f) h = found_so (IsUnreadBehind (held left) (held right) (held before) (held stimulus)) (OfBehind settles (held left) (held right) (held before) (held stimulus)) (held left) (held right) (held before) (λ r k. inl k) f h
   four_end (Err stop.ReadFault) h = three_failed h
   four_end (Err stop.NoMemory) h = tt
 
