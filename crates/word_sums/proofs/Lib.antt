@@ -1,0 +1,4 @@
+pub mod Congruent
+pub mod RowLemmas
+pub mod SumLemmas
+pub mod TwinWords

@@ -1,0 +1,15 @@
+//! Words of literals that are sums and products of others in another shape: whether two words spell one number under every assignment,
+//! by rewriting their difference as a sum of literals.
+#![tactic(auto)]
+
+mod adders;
+mod coefficients;
+mod cut_lists;
+mod cuts;
+mod rewriting;
+mod vanishing;
+mod words;
+
+pub use cuts::Cut;
+pub use vanishing::Term;
+pub use words::{MAX_WORD, Words, same_words};
