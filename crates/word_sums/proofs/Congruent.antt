@@ -32,8 +32,8 @@ pub cong-below : {x y : ℕ} → AreCongruent x y → x < 2 ^ 64 → y < 2 ^ 64 
 cong-below c p q = omega (arith, c.same, p, q)
 
 -- a sum with one term more, so many times
-pub cong-term : {s t u : ℕ} (n x y c b w : ℕ) → AreCongruent t (s + n * x) → AreCongruent w (n * c) → AreCongruent u (t + w * b) → y ≡ x + c * b → AreCongruent u (s + n * y)
-cong-term n x y c b w before times after e =
+pub cong-term : {t u : ℕ} (s n x y c b w : ℕ) → AreCongruent t (s + n * x) → AreCongruent w (n * c) → AreCongruent u (t + w * b) → y ≡ x + c * b → AreCongruent u (s + n * y)
+cong-term s n x y c b w before times after e =
     let more = cong-mul b times in
     record {
       left = before.left + more.left + after.left;
@@ -42,9 +42,9 @@ cong-term n x y c b w before times after e =
     }
 
 -- both words with one bit more: the left one is added so many times as its weight says, and the right one as its negative
-pub cong-words : {s t u v : ℕ} (n p x y x' y' b c w m : ℕ) → AreCongruent w (n * p) → AreCongruent (t + n * y) (s + n * x) → AreCongruent u (t + w * b) → AreCongruent v (u + m * c) →
+pub cong-words : {u v : ℕ} (s t n p x y x' y' b c w m : ℕ) → AreCongruent w (n * p) → AreCongruent (t + n * y) (s + n * x) → AreCongruent u (t + w * b) → AreCongruent v (u + m * c) →
     AreCongruent (m + w) 0 → x' ≡ x + p * b → y' ≡ y + p * c → AreCongruent (v + n * y') (s + n * x')
-cong-words n p x y x' y' b c w m weight before first second negative e f =
+cong-words s t n p x y x' y' b c w m weight before first second negative e f =
     let at_left = cong-mul b weight in
     let at_right = cong-mul c weight in
     let none = cong-mul c negative in

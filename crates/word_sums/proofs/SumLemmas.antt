@@ -45,7 +45,9 @@ terms-more f ts i d inside = ap (terms_number f) (take_more ts i d inside) ∙ t
 -- one bit more
 pub word-append : (bs : List Bool) (b : Bool) → word_number (bs ++ b ∷ []) ≡ word_number bs + 2 ^ length bs * bit_number b
 word-append [] b = omega arith
-word-append (c ∷ bs) b = omega (arith, word-append bs b, ap (λ (z : ℕ). z * bit_number b) (pow-suc 2 (length bs)))
+word-append (c ∷ bs) b =
+    let twice : 2 ^ length (c ∷ bs) * bit_number b ≡ (2 ^ length bs * 2) * bit_number b = ap (λ (z : ℕ). z * bit_number b) (pow-suc 2 (length bs)) in
+    omega (arith, word-append bs b)
 
 pub bits-append : (f : ℕ → Bool) (xs ys : List Lit) → word_bits f (xs ++ ys) ≡ word_bits f xs ++ word_bits f ys
 bits-append f [] ys = refl
@@ -68,7 +70,9 @@ bit-one false true e = absurd (omega (arith, e))
 -- a word's number is below the power of 2 of its length
 pub word-below : (bs : List Bool) → word_number bs < 2 ^ length bs
 word-below [] = omega arith
-word-below (b ∷ bs) = omega (arith, word-below bs, bit-small b, pow-suc 2 (length bs))
+word-below (b ∷ bs) =
+    let twice : 2 ^ length (b ∷ bs) ≡ 2 ^ length bs * 2 = pow-suc 2 (length bs) in
+    omega (arith, word-below bs, bit-small b)
 
 -- words of one length that spell one number are one
 pub word-one : (bs cs : List Bool) → length bs ≡ length cs → word_number bs ≡ word_number cs → bs ≡ cs
@@ -107,7 +111,7 @@ pub add-step : (f : ℕ → Bool) (old now new : List ℕ) (ts : List Term) (i :
     AreCongruent (sum_number f 0 new) (sum_number f 0 old + times * terms_number f (take (i + 1) ts))
 add-step f old now new ts i d times w inside is before after =
     let t = get_or ts i d in
-    cong-term times (terms_number f (take i ts)) (terms_number f (take (i + 1) ts)) t.coefficient (bit_number (f t.lit.0)) w before is after (terms-more f ts i d inside)
+    cong-term (sum_number f 0 old) times (terms_number f (take i ts)) (terms_number f (take (i + 1) ts)) t.coefficient (bit_number (f t.lit.0)) w before is after (terms-more f ts i d inside)
 
 -- twice the weight for the next place
 pub weight-step : (times w i : ℕ) → AreCongruent w (times * 2 ^ i) → AreCongruent ((w + w) % 2 ^ 64) (times * 2 ^ (i + 1))
@@ -123,7 +127,7 @@ pub words-step : (f : ℕ → Bool) (old now between new : List ℕ) (left right
     AreCongruent (sum_number f 0 new) (sum_number f 0 between + negative * bit_number (f (get_or right i e).0)) →
     AreCongruent (sum_number f 0 new + times * word_number (word_bits f (take (i + 1) right))) (sum_number f 0 old + times * word_number (word_bits f (take (i + 1) left)))
 words-step f old now between new left right i d e times weight negative in_left in_right is none before first second =
-    cong-words times (2 ^ i) (word_number (word_bits f (take i left))) (word_number (word_bits f (take i right))) (word_number (word_bits f (take (i + 1) left))) (word_number (word_bits f (take (i + 1) right)))
+    cong-words (sum_number f 0 old) (sum_number f 0 now) times (2 ^ i) (word_number (word_bits f (take i left))) (word_number (word_bits f (take i right))) (word_number (word_bits f (take (i + 1) left))) (word_number (word_bits f (take (i + 1) right)))
     (bit_number (f (get_or left i d).0)) (bit_number (f (get_or right i e).0)) weight negative is before first second (cong-trans (cong-sym (cong-mod (negative + weight))) (cong-is none)) (word-more f left i d in_left) (word-more f right i e in_right)
 
 -- no literal has a coefficient at first

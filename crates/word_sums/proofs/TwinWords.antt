@@ -1,6 +1,6 @@
 -- Words of literals made again in another graph.
-use Rattle.std.proofs.Common.{◌≡◌, ℕ, zero, suc, ◌*◌, ◌/◌, ◌<◌, Bool, List, [], ◌∷◌, ◌++◌, ◌+◌, ◌≤◌, length, get_or, map, take, slice_get, Some, refl, sym, ap, ◌∙◌, subst, arith}
-use Rattle.std.proofs.lemmas.List.{get_or-map, length-map, map_more, take_all}
+use Rattle.std.proofs.Common.{◌≡◌, ℕ, zero, suc, ◌*◌, ◌/◌, ◌<◌, Bool, List, [], ◌∷◌, length, get_or, map, slice_get, Some, Result, Ok, Err, IfOk, refl, sym, ap, ◌∙◌, subst, arith}
+use Rattle.std.proofs.lemmas.List.{get_or-map, length-map}
 use Rattle.std.proofs.lemmas.Option.{none-some, same_Some}
 use Rattle.aig.specs.declared.node.Lit.{Lit}
 use Rattle.aig.specs.declared.node.Node.{Node}
@@ -49,11 +49,7 @@ module _ (own g : List Node) (lits : List Lit) (are : AreTwins own g lits) (each
       (a : ℕ → Bool) → word_bits (value g a) s ≡ word_bits (value own a) xs
   copied-bits slice xs ys s e f d within a = ap (word_bits (value g a)) (copied slice xs ys s e f d) ∙ twin-bits a xs within
 
--- one literal more is copied
-pub copied-more : (t : Lit → Lit) (xs old new : List Lit) (i : ℕ) (d y : Lit) → i < length xs → old ≡ map t (take i xs) → y ≡ t (get_or xs i d) → new ≡ old ++ y ∷ [] → new ≡ map t (take (i + 1) xs)
-copied-more t xs old new i d y inside before is pushed =
-    pushed ∙ ap (λ (zs : List Lit). zs ++ y ∷ []) before ∙ ap (λ (z : Lit). map t (take i xs) ++ z ∷ []) is ∙ sym (map_more t xs i d inside)
-
--- all are copied
-pub copied-all : (t : Lit → Lit) (xs new : List Lit) (i : ℕ) → length xs ≤ i → new ≡ map t (take i xs) → new ≡ map t xs
-copied-all t xs new i over e = e ∙ ap (map t) (take_all i xs over)
+-- what follows from what holds of a result's value
+pub if-ok : {T E : Type 0} (r : Result T E) (P Q : T → Type 0) → ((x : T) → P x → Q x) → IfOk r P → IfOk r Q
+if-ok (Ok x) P Q follows p = follows x p
+if-ok (Err e) P Q follows p = tt

@@ -1,9 +1,6 @@
 -- One term more.
-use Rattle.std.proofs.Common.{◌*◌, ◌∙◌, length, take, ap, subst, arith}
-use Rattle.std.proofs.lemmas.List.{take_all}
-use Rattle.word_sums.specs.declared.vanishing.Term.{Term}
-use Rattle.word_sums.specs.Sums.{sum_number, terms_number, AreCongruent}
-use Rattle.word_sums.proofs.Congruent.{cong-is, cong-mod, cong-trans}
+use Rattle.std.proofs.Common.{◌*◌, get_or}
+use Rattle.word_sums.proofs.Congruent.{cong-mod}
 use Rattle.word_sums.proofs.SumLemmas.{add-step}
 use Rattle.word_sums.proofs.coefficients.add_terms.Goals as goal
 

@@ -1,9 +1,6 @@
 -- One node more.
-use Rattle.word_sums.proofs.Congruent.{cong-refl, cong-trans}
+use Rattle.word_sums.proofs.Congruent.{cong-trans}
 use Rattle.word_sums.proofs.rewriting.clear_complements.Goals as goal
-
-pub loop-n-init : goal.loop-n-init
-loop-n-init c = λ a. cong-refl _
 
 pub loop-n-preserved : goal.loop-n-preserved
 loop-n-preserved c = λ a. cong-trans (c.clear_complement.ensures.sum a) (c.loop-n.invariant a)
