@@ -19,8 +19,3 @@ value-plain g a x plain = by (parity x)
     by : (x % 2 ≡ 0) ⊎ (x % 2 ≡ 1) → value g a x ≡ value g a (2 * (x / 2))
     by (inl even) = let is : x ≡ 2 * (x / 2) = omega (arith, even) in ap (value g a) is
     by (inr odd) = absurd (plain odd)
-
--- a bit is 0 or 1
-pub by-bit : {P : Type 0} (b : Bool) → (b ≡ false → P) → (b ≡ true → P) → P
-by-bit false no yes = no refl
-by-bit true no yes = yes refl

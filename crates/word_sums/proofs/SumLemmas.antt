@@ -132,7 +132,7 @@ words-step f old now between new left right i d e times weight negative in_left 
 
 -- no literal has a coefficient at first
 pub sum-zeros : (f : ℕ → Bool) (n : ℕ) → sum_number f 0 (replicate n 0) ≡ 0
-sum-zeros f n = sum-none f 0 (replicate n 0) (λ k inside. get_or-replicate n k 0 0 (omega (arith, inside, length-replicate n 0)))
+sum-zeros f n = sum-none f 0 (replicate n 0) (λ k inside. get_or-replicate n k 0 0 (omega (arith, inside, length-replicate {A = ℕ} n 0)))
 
 -- Both words are put where nothing was, so many times that the number at the place behind the highest is 2^64, and what is left comes to 0.
 pub words-same : (f : ℕ → Bool) (left right : List Lit) (times s t u : ℕ) → length left ≡ length right → times * 2 ^ length left ≡ 2 ^ 64 → 0 < times → s ≡ 0 → u ≡ 0 →

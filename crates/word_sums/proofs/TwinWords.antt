@@ -1,5 +1,5 @@
 -- Words of literals made again in another graph.
-use Rattle.std.proofs.Common.{◌≡◌, ℕ, zero, suc, ◌*◌, ◌/◌, ◌<◌, Bool, List, [], ◌∷◌, length, get_or, map, slice_get, Some, Result, Ok, Err, IfOk, refl, sym, ap, ◌∙◌, subst, arith}
+use Rattle.std.proofs.Common.{◌≡◌, ℕ, zero, suc, ◌*◌, ◌/◌, ◌<◌, Bool, List, [], ◌∷◌, length, get_or, map, slice_get, Option, Some, None, IfNone, refl, sym, ap, ◌∙◌, subst, arith}
 use Rattle.std.proofs.lemmas.List.{get_or-map, length-map}
 use Rattle.std.proofs.lemmas.Option.{none-some, same_Some}
 use Rattle.aig.specs.declared.node.Lit.{Lit}
@@ -49,7 +49,7 @@ module _ (own g : List Node) (lits : List Lit) (are : AreTwins own g lits) (each
       (a : ℕ → Bool) → word_bits (value g a) s ≡ word_bits (value own a) xs
   copied-bits slice xs ys s e f d within a = ap (word_bits (value g a)) (copied slice xs ys s e f d) ∙ twin-bits a xs within
 
--- what follows from what holds of a result's value
-pub if-ok : {T E : Type 0} (r : Result T E) (P Q : T → Type 0) → ((x : T) → P x → Q x) → IfOk r P → IfOk r Q
-if-ok (Ok x) P Q follows p = follows x p
-if-ok (Err e) P Q follows p = tt
+-- what holds if there is no value, where there is none
+pub if-none : {X : Type 0} (o : Option X) (P : Type 0) → o ≡ None → IfNone o P → P
+if-none None P e p = p
+if-none (Some x) P e p = absurd (none-some x (sym e))

@@ -4,8 +4,8 @@ use Rattle.aig.specs.declared.node.Lit.{Lit}
 use Rattle.aig.specs.declared.node.Node.{Node}
 use Rattle.aig.specs.Values.{value, assigned}
 use Rattle.aig.specs.lane_eval.root_classes.Agreeing.{Agree}
-use Rattle.word_sums.specs.declared.words.Words.{Words}
-use Rattle.word_sums.specs.declared.words.Words.TheVariants.{Same, Differ, Open}
+use Rattle.word_sums.specs.declared.answer.Words.{Words}
+use Rattle.word_sums.specs.declared.answer.Words.TheVariants.{Same, Differ, Open}
 
 -- the literals at each place have one value under every assignment
 abbrev pub AgreeEach : List Node → List Lit → List Lit → Type 0

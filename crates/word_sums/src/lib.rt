@@ -3,13 +3,14 @@
 #![tactic(auto)]
 
 mod adders;
+mod answer;
 mod coefficients;
 mod cut_lists;
 mod cuts;
+mod difference;
 mod rewriting;
 mod vanishing;
 mod words;
 
-pub use cuts::Cut;
-pub use vanishing::Term;
-pub use words::{MAX_WORD, Words, same_words};
+pub use answer::Words;
+pub use words::{MAX_WORD, same_words};

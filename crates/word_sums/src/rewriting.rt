@@ -1,6 +1,6 @@
 //! The difference of two words, rewritten by identities of few literals until none is left.
 
-ghost use Rattle.std.specs.Prelude.{◌≡◌, ℕ, ◌*◌, ◌^◌, ◌<◌, ◌≤◌, Bool, length, All, IfOk, IsTrue};
+ghost use Rattle.std.specs.Prelude.{◌≡◌, ℕ, ◌*◌, ◌^◌, ◌<◌, ◌≤◌, Bool, length, All, IfOk, IfNone, IsTrue};
 ghost use Rattle.aig.specs.Values.{value};
 ghost use Rattle.word_sums.specs.Sums.{sum_number, word_bits, KeepsSum};
 
@@ -19,39 +19,60 @@ pub(crate) struct Rule {
     pub(crate) terms: [Term; 6],
 }
 
+/// How many nodes that are left are told at most.
+const TRIES: usize = 64;
+
 /// -1 modulo 2^64.
 pub(crate) const MINUS_ONE: u64 = u64::MAX;
 
-/// Whether two words of one length, 1 to 64 bits, are shown to have equal bits under every assignment. The rules are used once each, from
-/// the last to the first. It gives up where more than so many terms are left.
-pub(crate) fn are_shown_same(
+/// None where two words of one length, 1 to 64 bits, are shown to have equal bits under every assignment; else node 0 and some of the nodes
+/// that are left of their difference. The rules are used once each, from the last to the first. It gives up where more than so many terms
+/// are left.
+pub(crate) fn left_over(
     alloc: Global,
     graph: &Aig,
     left: &[Lit],
     right: &[Lit],
     rules: &[Rule],
     terms: usize,
-) -> Result<bool, NoMemory>
+) -> Result<Option<Vec<u32>>, NoMemory>
     requires left { All (λ l. l.0 < 2 * length graph.now) left.now }
     requires right { All (λ l. l.0 < 2 * length graph.now) right.now }
     requires lengths { length left.now ≡ length right.now }
     requires some { 0 < length left.now }
     requires few { length left.now ≤ 64 }
-    ensures { IfOk result (λ same. IsTrue same → (a : ℕ → Bool) → word_bits (value graph.now a) left.now ≡ word_bits (value graph.now a) right.now) }
+    ensures { IfOk result (λ rest. IfNone rest ((a : ℕ → Bool) → word_bits (value graph.now a) left.now ≡ word_bits (value graph.now a) right.now)) }
 {
     graph.keeps();
     let mut coefficients = vec![in alloc; 0u64; 2 * (graph.size() as usize)]?;
-    Ok(cancel_out(
+    let same = cancel_out(
         graph,
         coefficients.as_mut_slice(),
         left,
         right,
         rules,
         terms,
-    ))
+    );
+    if same {
+        return Ok(None);
+    }
+    let nodes = nodes_of(alloc, coefficients.as_slice())?;
+    Ok(Some(nodes))
 }
 
-/// The same where no literal has a coefficient yet. What is left has one then.
+/// Node 0, and behind it the first nodes of which a literal has a coefficient.
+fn nodes_of(alloc: Global, coefficients: &[u64]) -> Result<Vec<u32>, NoMemory> {
+    let mut nodes = Vec::new(alloc);
+    nodes.push(0u32)?;
+    for x in 2..coefficients.len() {
+        if coefficients[x] != 0 && x / 2 < NO_LEAF as usize && nodes.len() < TRIES {
+            nodes.push((x / 2) as u32)?;
+        }
+    }
+    Ok(nodes)
+}
+
+/// Whether nothing is left of the difference of both words, where no literal has a coefficient yet. What is left has one then.
 fn cancel_out(
     graph: &Aig,
     coefficients: &mut [u64],

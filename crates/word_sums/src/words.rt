@@ -1,32 +1,24 @@
 //! Two words of literals, told to be the same or not.
 
-ghost use Rattle.std.specs.Prelude.{◌≡◌, ◌*◌, ◌<◌, ◌≤◌, length, map, All, IfOk, IsTrue};
+ghost use Rattle.std.specs.Prelude.{◌≡◌, ◌*◌, ◌<◌, ◌≤◌, length, map, All, IfOk};
 ghost use Rattle.aig.specs.graph_copy.graph_clone.Twins.{twin_in};
-ghost use Rattle.word_sums.specs.Words.{IsTold, AgreeEach};
+ghost use Rattle.word_sums.specs.Words.{IsTold};
 
 use crate::adders::rules_of;
-use crate::rewriting::are_shown_same;
+use crate::answer::Words;
+use crate::difference::difference;
+use crate::rewriting::left_over;
 use aig::graph_copy::graph_clone::{copy_graph, literal_for};
-use aig::{Aig, Bits, Lit, NoMemory};
+use aig::{Aig, Lit, NoMemory};
 use std::alloc::Global;
 
 /// The greatest number of bits of a word.
 pub const MAX_WORD: usize = 64;
 
-/// What is told of two words.
-#[derive(Drop)]
-pub enum Words {
-    /// The literals at each place have one value under every assignment.
-    Same,
-    /// Under this assignment the literals at some place differ: variable v has the bit at place v.
-    Differ(Bits),
-    /// Nothing is told.
-    Open,
-}
-
 /// Whether two words of one length, with the lowest bit first, spell one number under every assignment: their difference is rewritten by
-/// half and full adders, with coefficients modulo 2^n for words of n bits, until no literal is left. Words of no bit or of more than 64
-/// are left open, and so is a difference of more than so many terms. It works on a copy of the graph.
+/// half and full adders, with coefficients modulo 2^n for words of n bits, until no literal is left. Where some are, some
+/// assignments are tried. Words of no bit or of more than 64 are left open, and so is a difference of more than so many terms. It works on a
+/// copy of the graph.
 pub fn same_words(
     alloc: Global,
     graph: &Aig,
@@ -42,40 +34,41 @@ pub fn same_words(
     if left.is_empty() || left.len() > MAX_WORD {
         return Ok(Words::Open);
     }
-    if are_same(alloc, graph, left, right, terms)? {
-        return Ok(Words::Same);
-    }
-    Ok(Words::Open)
+    told(alloc, graph, left, right, terms)
 }
 
-/// Whether copies of the words, of 1 to 64 bits, are shown to be the same.
-fn are_same(
+/// The same of words of 1 to 64 bits.
+fn told(
     alloc: Global,
     graph: &Aig,
     left: &[Lit],
     right: &[Lit],
     terms: usize,
-) -> Result<bool, NoMemory>
+) -> Result<Words, NoMemory>
     requires left { All (λ l. l.0 < 2 * length graph.now) left.now }
     requires right { All (λ l. l.0 < 2 * length graph.now) right.now }
     requires lengths { length left.now ≡ length right.now }
     requires some { 0 < length left.now }
     requires few { length left.now ≤ 64 }
-    ensures { IfOk result (λ same. IsTrue same → AgreeEach graph.now left.now right.now) }
+    ensures { IfOk result (IsTold graph.now left.now right.now) }
 {
     let mut copy = copy_graph(alloc, graph)?;
     let own_left = copies_of(alloc, copy.lits.as_slice(), left)?;
     let own_right = copies_of(alloc, copy.lits.as_slice(), right)?;
     let rules = rules_of(alloc, &mut copy.aig)?;
     copy.aig.keeps();
-    are_shown_same(
+    let rest = left_over(
         alloc,
         &copy.aig,
         own_left.as_slice(),
         own_right.as_slice(),
         rules.as_slice(),
         terms,
-    )
+    )?;
+    match rest {
+        None => Ok(Words::Same),
+        Some(nodes) => difference(alloc, graph, left, right, &copy.aig, nodes.as_slice()),
+    }
 }
 
 /// The same words in the new graph.

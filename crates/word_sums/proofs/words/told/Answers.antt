@@ -5,25 +5,25 @@ use Rattle.aig.specs.Values.{value}
 use Rattle.aig.specs.graph_copy.graph_clone.Twins.{AreTwins}
 use Rattle.aig.proofs.graph_copy.graph_clone.Twins.{twins_grow}
 use Rattle.word_sums.specs.Sums.{word_bits}
-use Rattle.word_sums.proofs.TwinWords.{bits-at, copied-within, copied-bits, if-ok}
-use Rattle.word_sums.proofs.words.are_same.Goals as goal
+use Rattle.word_sums.proofs.TwinWords.{bits-at, copied-within, copied-bits, if-none}
+use Rattle.word_sums.proofs.words.told.Goals as goal
 
-pub are_shown_same-requires-clause-left : goal.are_shown_same-requires-clause-left
-are_shown_same-requires-clause-left c =
+pub left_over-requires-clause-left : goal.left_over-requires-clause-left
+left_over-requires-clause-left c =
     let h = c.rules_of.new.graph in
     let lits = c.in_ok-copy.copy.lits.items in
     copied-within c.args.graph.now h lits (twins_grow c.args.graph.now c.in_ok-copy.copy.aig h c.keeps.ensures.graph c.rules_of.ensures lits c.in_ok-copy.ensures.twins) c.in_ok-copy.ensures.each c.as_slice.result.now c.args.left.now
     c.in_ok-own_left.own_left.items c.as_slice-3.result.now c.as_slice.ensures.value c.in_ok-own_left.ensures c.as_slice-3.ensures.value c.requires.left
 
-pub are_shown_same-requires-clause-right : goal.are_shown_same-requires-clause-right
-are_shown_same-requires-clause-right c =
+pub left_over-requires-clause-right : goal.left_over-requires-clause-right
+left_over-requires-clause-right c =
     let h = c.rules_of.new.graph in
     let lits = c.in_ok-copy.copy.lits.items in
     copied-within c.args.graph.now h lits (twins_grow c.args.graph.now c.in_ok-copy.copy.aig h c.keeps.ensures.graph c.rules_of.ensures lits c.in_ok-copy.ensures.twins) c.in_ok-copy.ensures.each c.as_slice-2.result.now c.args.right.now
     c.in_ok-own_right.own_right.items c.as_slice-4.result.now c.as_slice-2.ensures.value c.in_ok-own_right.ensures c.as_slice-4.ensures.value c.requires.right
 
-pub returns : goal.returns
-returns c =
+pub returns-in-None : goal.returns-in-None
+returns-in-None c =
     let own = c.args.graph.now in
     let h = c.rules_of.new.graph in
     let lits = c.in_ok-copy.copy.lits.items in
@@ -32,4 +32,5 @@ returns c =
     copied-bits own h lits are c.in_ok-copy.ensures.each c.as_slice.result.now c.args.left.now c.in_ok-own_left.own_left.items c.as_slice-3.result.now c.as_slice.ensures.value c.in_ok-own_left.ensures c.as_slice-3.ensures.value c.requires.left in
     let right : (a : ℕ → Bool) → word_bits (value h a) c.as_slice-4.result.now ≡ word_bits (value own a) c.args.right.now =
     copied-bits own h lits are c.in_ok-copy.ensures.each c.as_slice-2.result.now c.args.right.now c.in_ok-own_right.own_right.items c.as_slice-4.result.now c.as_slice-2.ensures.value c.in_ok-own_right.ensures c.as_slice-4.ensures.value c.requires.right in
-    if-ok c.are_shown_same.result _ _ (λ same told yes i x y at also a. bits-at (value own a) c.args.left.now c.args.right.now (sym (left a) ∙ told yes a ∙ right a) i x y at also) c.are_shown_same.ensures
+    λ i x y at also a.
+    bits-at (value own a) c.args.left.now c.args.right.now (sym (left a) ∙ if-none c.in_ok-rest.rest _ c.in-None.is c.in_ok-rest.ensures a ∙ right a) i x y at also
