@@ -80,12 +80,7 @@ fn make_carry(graph: &mut Aig, cut: Cut, n: u32) -> Result<(), NoMemory>
 }
 
 /// The node's rule: by a full adder whose carry the graph had, else by a half adder, else by the and.
-fn rule_of(
-    graph: &mut Aig,
-    cuts: &[Cut],
-    n: u32,
-    known: u32,
-) -> Result<Option<Rule>, NoMemory>
+fn rule_of(graph: &mut Aig, cuts: &[Cut], n: u32, known: u32) -> Result<Option<Rule>, NoMemory>
     ensures { Grows graph.old graph.new }
 {
     let full = full_rule(graph, cuts, n, known)?;
@@ -100,12 +95,7 @@ fn rule_of(
 }
 
 /// By a cut of three leaves over which the node is their sum or carry. The carry has a number below the one that is given.
-fn full_rule(
-    graph: &mut Aig,
-    cuts: &[Cut],
-    n: u32,
-    known: u32,
-) -> Result<Option<Rule>, NoMemory>
+fn full_rule(graph: &mut Aig, cuts: &[Cut], n: u32, known: u32) -> Result<Option<Rule>, NoMemory>
     ensures { Grows graph.old graph.new }
 {
     for k in 0..CUTS as u32 {
@@ -118,12 +108,7 @@ fn full_rule(
 }
 
 /// The same of one cut.
-fn full_rule_by(
-    graph: &mut Aig,
-    cut: Cut,
-    n: u32,
-    known: u32,
-) -> Result<Option<Rule>, NoMemory>
+fn full_rule_by(graph: &mut Aig, cut: Cut, n: u32, known: u32) -> Result<Option<Rule>, NoMemory>
     ensures { Grows graph.old graph.new }
 {
     let table = values(graph, cut, n);
@@ -139,12 +124,7 @@ fn full_rule_by(
 }
 
 /// By a cut of two leaves: their sum, or else an and with a complemented operand.
-fn half_rule(
-    graph: &mut Aig,
-    cuts: &[Cut],
-    n: u32,
-    sum: bool,
-) -> Result<Option<Rule>, NoMemory>
+fn half_rule(graph: &mut Aig, cuts: &[Cut], n: u32, sum: bool) -> Result<Option<Rule>, NoMemory>
     ensures { Grows graph.old graph.new }
 {
     for k in 0..CUTS as u32 {
@@ -157,12 +137,7 @@ fn half_rule(
 }
 
 /// The same of one cut.
-fn half_rule_by(
-    graph: &mut Aig,
-    cut: Cut,
-    n: u32,
-    sum: bool,
-) -> Result<Option<Rule>, NoMemory>
+fn half_rule_by(graph: &mut Aig, cut: Cut, n: u32, sum: bool) -> Result<Option<Rule>, NoMemory>
     ensures { Grows graph.old graph.new }
 {
     let table = values(graph, cut, n);

@@ -150,7 +150,13 @@ fn replace(graph: &Aig, coefficients: &mut [u64], rule: &Rule)
     if own == 0 {
         return;
     }
-    cancel(graph, coefficients, rule.cut, &rule.terms, own.wrapping_neg());
+    cancel(
+        graph,
+        coefficients,
+        rule.cut,
+        &rule.terms,
+        own.wrapping_neg(),
+    );
 }
 
 /// Replaces the complement of each node, and drops the constant 0.
