@@ -1,5 +1,5 @@
 -- Sums of literals: one coefficient changed, one term more, none left; and the numbers of words.
-use Rattle.std.proofs.Common.{◌≡◌, ℕ, zero, suc, ◌+◌, ◌*◌, ◌%◌, ◌^◌, ◌<◌, ◌≤◌, Bool, true, false, List, [], ◌∷◌, ◌++◌, length, get_or, set, take, replicate, refl, sym, ap, ◌∙◌, subst, arith, add-one}
+use Rattle.std.proofs.Common.{◌≡◌, ℕ, zero, suc, ◌+◌, ◌*◌, ◌%◌, ◌^◌, ◌<◌, ◌≤◌, Bool, true, false, List, [], ◌∷◌, ◌++◌, length, get_or, set, take, replicate, refl, sym, ap, ◌∙◌, subst, arith}
 use Rattle.std.proofs.Math.Nat.{pow-suc, mul-le-mul_left, eq_of_mul-eq-mul_left}
 use Rattle.std.proofs.lemmas.List.{take_more, length-take-le, get_or-replicate, length-replicate}
 use Rattle.std.proofs.lemmas.Nat.{pow-add}

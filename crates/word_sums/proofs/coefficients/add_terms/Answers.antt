@@ -1,5 +1,4 @@
 -- One term more.
-use Rattle.std.proofs.Common.{◌*◌, get_or}
 use Rattle.word_sums.proofs.Congruent.{cong-mod}
 use Rattle.word_sums.proofs.SumLemmas.{add-step}
 use Rattle.word_sums.proofs.coefficients.add_terms.Goals as goal

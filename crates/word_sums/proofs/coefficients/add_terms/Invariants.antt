@@ -1,5 +1,5 @@
 -- The terms so far are added.
-use Rattle.std.proofs.Common.{◌≡◌, ℕ, ◌+◌, ◌*◌, Bool, length, take}
+use Rattle.std.proofs.Common.{ℕ, ◌+◌, ◌*◌, Bool, take}
 use Rattle.word_sums.specs.Sums.{sum_number, terms_number, AreCongruent}
 use Rattle.word_sums.proofs.coefficients.add_terms.Given as goal
 

@@ -1,5 +1,5 @@
 -- The low bits of both words are put.
-use Rattle.std.proofs.Common.{◌≡◌, ℕ, ◌+◌, ◌*◌, ◌^◌, Bool, length, take}
+use Rattle.std.proofs.Common.{ℕ, ◌+◌, ◌*◌, ◌^◌, Bool, take}
 use Rattle.word_sums.specs.Sums.{sum_number, word_number, word_bits, AreCongruent}
 use Rattle.word_sums.proofs.coefficients.put_words.Given as goal
 

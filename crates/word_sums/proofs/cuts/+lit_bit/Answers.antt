@@ -1,6 +1,5 @@
 -- The bit is a leaf's, the constant's, or that of the and of both operands.
-use Rattle.std.proofs.Common.{◌≡◌, ℕ, ◌*◌, ◌∙◌, Bool, sym, ap}
-use Rattle.std.specs.Prelude.{◌&&◌}
+use Rattle.std.proofs.Common.{ℕ, ◌*◌, ◌∙◌, sym, ap}
 use Rattle.aig.specs.Values.{value}
 use Rattle.word_sums.proofs.cuts.+lit_bit.Goals as goal
 

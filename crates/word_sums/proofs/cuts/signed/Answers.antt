@@ -1,5 +1,5 @@
 -- The complement of the node's bit.
-use Rattle.std.proofs.Common.{◌≡◌, ◌%◌, ◌∙◌, sym, ap, true≢false}
+use Rattle.std.proofs.Common.{◌∙◌, sym, ap, true≢false}
 use Rattle.std.specs.Prelude.{not}
 use Rattle.word_sums.proofs.RowLemmas.{value-odd, value-plain}
 use Rattle.word_sums.proofs.cuts.signed.Goals as goal

@@ -1,5 +1,5 @@
 -- The literals have two values.
-use Rattle.std.proofs.Common.{List, length, ap, ◌∙◌, arith}
+use Rattle.std.proofs.Common.{List, ap, ◌∙◌, arith}
 use Rattle.aig.specs.declared.node.Node.{Node}
 use Rattle.aig.specs.Values.{node_bits, assigned}
 use Rattle.word_sums.proofs.DifferLemmas.{differ-here, beq-apart}

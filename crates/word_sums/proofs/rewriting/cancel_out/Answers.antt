@@ -1,5 +1,4 @@
 -- Nothing is left of the difference.
-use Rattle.std.proofs.Common.{ℕ, ◌≡◌, ◌*◌, ◌^◌, ◌∙◌, sym, ap, subst, arith}
 use Rattle.aig.specs.Values.{value}
 use Rattle.word_sums.specs.Sums.{sum_number}
 use Rattle.word_sums.proofs.Congruent.{cong-trans}

@@ -1,5 +1,4 @@
 -- The nodes so far keep the sum.
-use Rattle.std.proofs.Common.{ℕ}
 use Rattle.word_sums.specs.Sums.{KeepsSum}
 use Rattle.word_sums.proofs.rewriting.clear_complements.Given as goal
 

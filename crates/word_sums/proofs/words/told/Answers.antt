@@ -1,6 +1,5 @@
 -- The copies have the values of the words, also in the graph that has grown.
-use Rattle.std.proofs.Common.{◌≡◌, ℕ, ◌*◌, ◌<◌, Bool, List, length, get_or, sym, ap, ◌∙◌, subst}
-use Rattle.aig.specs.declared.node.Lit.{Lit}
+use Rattle.std.proofs.Common.{◌≡◌, ℕ, Bool, sym, ◌∙◌}
 use Rattle.aig.specs.Values.{value}
 use Rattle.aig.specs.graph_copy.graph_clone.Twins.{AreTwins}
 use Rattle.aig.proofs.graph_copy.graph_clone.Twins.{twins_grow}
