@@ -128,7 +128,9 @@ fn half_rule(graph: &mut Aig, cuts: &[Cut], n: u32, sum: bool) -> Result<Option<
     ensures { Grows graph.old graph.new }
 {
     for k in 0..CUTS as u32 {
-        let found = half_rule_by(graph, cut_at(cuts, n, k), n, sum)?;
+        // An and is taken by the cut that lies deepest.
+        let place = if sum { k } else { CUTS as u32 - 1 - k };
+        let found = half_rule_by(graph, cut_at(cuts, n, place), n, sum)?;
         if found.is_some() {
             return Ok(found);
         }

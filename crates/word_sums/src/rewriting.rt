@@ -26,8 +26,8 @@ const TRIES: usize = 64;
 pub(crate) const MINUS_ONE: u64 = u64::MAX;
 
 /// None where two words of one length, 1 to 64 bits, are shown to have equal bits under every assignment; else node 0 and some of the nodes
-/// that are left of their difference. The rules are used once each, from the last to the first. It gives up where more than so many terms
-/// are left.
+/// that are left of their difference. The rules are used once each, from the last to the first. It gives up where about so many terms are
+/// left.
 pub(crate) fn left_over(
     alloc: Global,
     graph: &Aig,

@@ -17,8 +17,8 @@ pub const MAX_WORD: usize = 64;
 
 /// Whether two words of one length, with the lowest bit first, spell one number under every assignment: their difference is rewritten by
 /// half and full adders, with coefficients modulo 2^n for words of n bits, until no literal is left. Where some are, some
-/// assignments are tried. Words of no bit or of more than 64 are left open, and so is a difference of more than so many terms. It works on a
-/// copy of the graph.
+/// assignments are tried. Words of no bit or of more than 64 are left open, and so is a difference of about so many terms or more. It works
+/// on a copy of the graph.
 pub fn same_words(
     alloc: Global,
     graph: &Aig,
