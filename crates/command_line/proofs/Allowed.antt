@@ -264,7 +264,7 @@ allowed_tied : (signals : Bool) (a b : Text) (n : ℕ) (assumed after : Option T
 allowed_tied signals a b n None after h job e = subst IsAllowed (some_is e) (allowed_inducted signals a b n after h)
 allowed_tied false a b n (Some c) after h job e = absurd (cc)
 allowed_tied true a b n (Some c) None h job e = let here : IsAllowed (task.InductUnder a b c n) = h in subst IsAllowed (some_is e) here
-allowed_tied true a b n (Some c) (Some s) h job e = absurd (cc)
+allowed_tied true a b n (Some c) (Some s) h job e = let here : IsAllowed (task.InductAfterUnder a b c s n) = h in subst IsAllowed (some_is e) here
 
 allowed_induct : (rows : List Row) (job : Task) → induct_in rows ≡ Some job → IsAllowed job
 allowed_induct rows job e =

@@ -159,11 +159,11 @@ cert_job rows a b pair n ea eb ep en passes form = by (form_in rows) refl form
     by None e h = absurd (true≢false (sym h))
     by (Some f) e h = rw (ea, eb, ep, e, conflicts) refl
 
-tied_job : (signals : Bool) (a b : Text) (n : ℕ) (assumed after : Option Text) → ties_fit signals assumed after ≡ true → is_some (tied_in signals a b n assumed after) ≡ true
+tied_job : (signals : Bool) (a b : Text) (n : ℕ) (assumed after : Option Text) → ties_fit signals assumed ≡ true → is_some (tied_in signals a b n assumed after) ≡ true
 tied_job signals a b n None after h = refl
 tied_job false a b n (Some c) after h = h
 tied_job true a b n (Some c) None h = refl
-tied_job true a b n (Some c) (Some s) h = h
+tied_job true a b n (Some c) (Some s) h = refl
 
 induct_job : (rows : List Row) (a b n : Text) → first_of (codes "a") rows ≡ Some a → first_of (codes "b") rows ≡ Some b → first_of (codes "conflicts") rows ≡ Some n → value_kinds false most_conflicts n ≡ [] → tied_fits rows ≡ true → is_some (induct_in rows) ≡ true
 induct_job rows a b n ea eb en passes fits = rw (ea, eb, conflicts) (tied_job (is_set (codes "signals") rows) a b (digits_value 10 (without_leading_plus n)) (first_of (codes "assume") rows) (first_of (codes "after") rows) fits)

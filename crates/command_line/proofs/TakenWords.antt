@@ -41,7 +41,7 @@ induct_is_taken = (refl, refl)
 
 pub signals_are_taken : SignalsAreTaken
 unfolding clap_on_literals
-signals_are_taken = ((refl, refl), refl, (refl, refl), refl, (refl, refl), refl)
+signals_are_taken = ((refl, refl), refl, (refl, refl), refl, (refl, refl), refl, (refl, refl), refl)
 
 pub check_settles_is_taken : CheckSettlesIsTaken
 unfolding clap_on_literals
@@ -117,4 +117,4 @@ pairs_are_no_job = ((refl, refl), (refl, refl), (refl, refl), (refl, refl))
 
 pub after_is_no_job : AfterIsNoJob
 unfolding clap_on_literals
-after_is_no_job = ((refl, refl), (refl, refl), (refl, refl), (refl, refl))
+after_is_no_job = ((refl, refl), (refl, refl), (refl, refl), (refl, refl), (refl, refl))

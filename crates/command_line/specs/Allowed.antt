@@ -32,6 +32,7 @@ IsAllowed (task.Induct a b conflicts) = conflicts ≤ MAX_CONFLICTS
 IsAllowed (task.InductSignals a b conflicts) = conflicts ≤ MAX_CONFLICTS
 IsAllowed (task.InductUnder a b c conflicts) = conflicts ≤ MAX_CONFLICTS
 IsAllowed (task.InductAfter a b s signals conflicts) = conflicts ≤ MAX_CONFLICTS
+IsAllowed (task.InductAfterUnder a b c s conflicts) = conflicts ≤ MAX_CONFLICTS
 
 -- a job of words is allowed
 abbrev pub JobsAreAllowed : Type 0

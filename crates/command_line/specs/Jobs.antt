@@ -164,12 +164,12 @@ inducted_in false a b conflicts None = task.Induct a b conflicts
 inducted_in true a b conflicts None = task.InductSignals a b conflicts
 inducted_in signals a b conflicts (Some s) = task.InductAfter a b s signals conflicts
 
--- The same under an assumption where one is named, which stands only beside `--signals`, and not beside a stimulus.
+-- the same under an assumption where one is named, which stands only beside `--signals`
 abbrev pub tied_in : Bool → Text → Text → ℕ → Option Text → Option Text → Option Task
 tied_in signals a b conflicts None after = Some (inducted_in signals a b conflicts after)
 tied_in false a b conflicts (Some c) after = None
 tied_in true a b conflicts (Some c) None = Some (task.InductUnder a b c conflicts)
-tied_in true a b conflicts (Some c) (Some s) = None
+tied_in true a b conflicts (Some c) (Some s) = Some (task.InductAfterUnder a b c s conflicts)
 
 abbrev pub induct_in : List Row → Option Task
 induct_in rows =

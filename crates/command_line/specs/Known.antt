@@ -48,16 +48,16 @@ replayed_fits reset after (Some Event) = not (reset || is_some after)
 abbrev pub replay_fits : List Row → Bool
 replay_fits rows = replayed_fits (is_set (codes "reset") rows) (first_of (codes "after") rows) (named_mode rows)
 
--- No assumption is given, or it stands beside `--signals` and without a stimulus.
-abbrev pub ties_fit : Bool → Option Text → Option Text → Bool
-ties_fit signals assumed after = not (is_some assumed) || (signals && not (is_some after))
+-- no assumption is given, or it stands beside `--signals`
+abbrev pub ties_fit : Bool → Option Text → Bool
+ties_fit signals assumed = not (is_some assumed) || signals
 
 abbrev pub tied_fits : List Row → Bool
-tied_fits rows = ties_fit (is_set (codes "signals") rows) (first_of (codes "assume") rows) (first_of (codes "after") rows)
+tied_fits rows = ties_fit (is_set (codes "signals") rows) (first_of (codes "assume") rows)
 
 -- The mode among the subcommand's matches is one of the two, and `--reset` may stand beside it; `gen`, `lrat` and `induct` have none, and
 -- `cert` has a form in its place. Nothing refuses the cycles of `check`, nor its stimulus, nor its one name, nor its pairs, nor the
--- stimulus behind whose rows `sim` or `replay` begins, nor the stimulus or the assumption of `induct`.
+-- stimulus behind whose rows `sim` or `replay` begins, nor the assumption of `induct`.
 abbrev pub mode_fits : Text → List Row → Bool
 mode_fits name rows =
     bytes_eq name (codes "gen") || (bytes_eq name (codes "lrat") || (if bytes_eq name (codes "induct") then tied_fits rows else if bytes_eq name (codes "cert") then is_some (form_in rows) else if bytes_eq name (codes "check") then is_some (mode_in rows) && (cycles_fit rows && (after_fits rows && (pair_fits rows && pairs_fit rows))) else if bytes_eq name (codes "sim") then is_some (mode_in rows) && sim_fits rows else if bytes_eq name (codes "replay") then replay_fits rows else is_some (mode_in rows)))
@@ -111,6 +111,8 @@ SignalsAreTaken =
     × (job_of (codes "induct" ∷ codes "a" ∷ codes "b" ∷ codes "--signals" ∷ codes "--after" ∷ codes "s" ∷ []) ≡ Some (task.InductAfter (codes "a") (codes "b") (codes "s") true 20000))
     × AreTaken (codes "induct" ∷ codes "a" ∷ codes "b" ∷ codes "--signals" ∷ codes "--assume" ∷ codes "c" ∷ [])
     × (job_of (codes "induct" ∷ codes "a" ∷ codes "b" ∷ codes "--signals" ∷ codes "--assume" ∷ codes "c" ∷ []) ≡ Some (task.InductUnder (codes "a") (codes "b") (codes "c") 20000))
+    × AreTaken (codes "induct" ∷ codes "a" ∷ codes "b" ∷ codes "--signals" ∷ codes "--after" ∷ codes "s" ∷ codes "--assume" ∷ codes "c" ∷ [])
+    × (job_of (codes "induct" ∷ codes "a" ∷ codes "b" ∷ codes "--assume" ∷ codes "c" ∷ codes "--signals" ∷ codes "--after" ∷ codes "s" ∷ []) ≡ Some (task.InductAfterUnder (codes "a") (codes "b") (codes "c") (codes "s") 20000))
 
 -- words with `--reset`, and what they ask for
 abbrev pub ResetIsTaken : Type 0
@@ -201,13 +203,14 @@ AfterIsTaken =
     × (job_of (codes "sim" ∷ codes "a" ∷ codes "s" ∷ codes "--reset" ∷ codes "--after" ∷ codes "r" ∷ []) ≡ Some (task.SimAfter (codes "a") (codes "s") (codes "r") None))
     × (job_of (codes "check" ∷ codes "a" ∷ codes "b" ∷ codes "--reset" ∷ codes "--cycles" ∷ codes "20" ∷ codes "--after" ∷ codes "s" ∷ codes "--assume" ∷ codes "c" ∷ []) ≡ Some (task.AfterUnder (codes "a") (codes "b") (codes "c") (codes "s") 20 20000))
 
--- since `--after` stands without `--reset`, or with `--assume` and without `--cycles`
+-- since `--after` stands without `--reset`, or with `--assume` and without `--cycles`, or behind `induct` without `--signals`
 abbrev pub AfterIsNoJob : Type 0
 AfterIsNoJob =
     AreNoJob (codes "check" ∷ codes "a" ∷ codes "b" ∷ codes "--after" ∷ codes "s" ∷ [])
     × AreNoJob (codes "check" ∷ codes "a" ∷ codes "b" ∷ codes "--cycles" ∷ codes "20" ∷ codes "--after" ∷ codes "s" ∷ [])
     × AreNoJob (codes "check" ∷ codes "a" ∷ codes "b" ∷ codes "--reset" ∷ codes "--after" ∷ codes "s" ∷ codes "--assume" ∷ codes "c" ∷ [])
     × AreNoJob (codes "sim" ∷ codes "a" ∷ codes "s" ∷ codes "--after" ∷ codes "r" ∷ [])
+    × AreNoJob (codes "induct" ∷ codes "a" ∷ codes "b" ∷ codes "--after" ∷ codes "s" ∷ codes "--assume" ∷ codes "c" ∷ [])
 
 -- since `--after` stands without `--reset`, or `--reset` with the mode `event`
 abbrev pub ReplayResetIsNoJob : Type 0

@@ -1,6 +1,6 @@
 //! From the words to the job.
 
-ghost use Rattle.std.specs.Prelude.{◌≡◌, map, string_bytes, option_map, IfOk, IfSome, IfNone, IsErrOf, None, Some, Option, option_and_then, [], codes, true};
+ghost use Rattle.std.specs.Prelude.{◌≡◌, map, string_bytes, option_map, IfOk, IfSome, IfNone, IsErrOf, None, Some, Option, true, option_and_then, [], codes};
 ghost use Rattle.std.specs.Str.Parse.{digits_value, without_leading_plus};
 ghost use Rattle.clap.specs.Words.{fault_of, first_of, found_of, rows_of, subcommand_of, subcommand_rows_of, IsUnsignedIn};
 ghost use Rattle.clap.specs.ValueTests.{accepts};
@@ -684,7 +684,7 @@ fn induct_in(alloc: Global, matches: &ArgMatches<'_>) -> Result<Option<Task>, No
     Ok(Some(inducted_in(signals, a, b, conflicts, after)))
 }
 
-/// The comparison by ties of signals under an assumption. It stands only beside `--signals`, and not beside a stimulus.
+/// The comparison by ties of signals under an assumption, behind the rows of a stimulus where one is named. It stands only beside `--signals`.
 fn tied_under(
     alloc: Global,
     signals: bool,
@@ -696,12 +696,35 @@ fn tied_under(
 ) -> Result<Option<Task>, NoMemory>
     ensures { IfOk result (λ task. task ≡ tied_in signals a.now b.now conflicts (Some assumed.now) (option_map (λ w. w.now) after.entry)) }
 {
-    if !signals || after.is_some() {
+    if !signals {
         return Ok(None);
     }
+    let after = path_of(alloc, after)?;
     let c = FilePath::from_str(alloc, assumed)?;
     let (a, b) = paths_of(alloc, a, b)?;
-    Ok(Some(Task::InductUnder { a, b, c, conflicts }))
+    Ok(Some(assumed_ties(a, b, c, conflicts, after)))
+}
+
+/// That comparison of these files.
+fn assumed_ties(
+    a: FilePath,
+    b: FilePath,
+    c: FilePath,
+    conflicts: u32,
+    after: Option<FilePath>,
+) -> Task
+    ensures { Some result ≡ tied_in true a b conflicts (Some c) after }
+{
+    match after {
+        Some(s) => Task::InductAfterUnder {
+            a,
+            b,
+            c,
+            s,
+            conflicts,
+        },
+        None => Task::InductUnder { a, b, c, conflicts },
+    }
 }
 
 /// The induction over these files, by ties of signals where `--signals` stands, and behind the rows of a stimulus where one is named.

@@ -166,6 +166,15 @@ pub enum Task {
         signals: bool,
         conflicts: u32,
     },
+    /// Compare them by ties of signals behind the rows of a stimulus, whatever they power up with, in the runs whose inputs make the output of a
+    /// fourth file's circuit 1 in each cycle there.
+    InductAfterUnder {
+        a: FilePath,
+        b: FilePath,
+        c: FilePath,
+        s: FilePath,
+        conflicts: u32,
+    },
 }
 
 /// It is let go by one call: an owner isn't taken apart field by field at each way out.
@@ -298,6 +307,13 @@ impl Drop for Task {
                 b: _,
                 s: _,
                 signals: _,
+                conflicts: _,
+            } => {}
+            Task::InductAfterUnder {
+                a: _,
+                b: _,
+                c: _,
+                s: _,
                 conflicts: _,
             } => {}
         }

@@ -1,6 +1,6 @@
 -- What an unfolding and its care give together.
 use Rattle.std.proofs.lemmas.Option.{slice_get_within}
-use Rattle.std.proofs.Common.{◌≡◌, ◌∙◌, ◌+◌, ◌*◌, ◌<◌, ◌≤◌, ℕ, Bool, true, false, List, [], length, slice_get, Some, None, refl, sym, subst, arith}
+use Rattle.std.proofs.Common.{◌≡◌, ◌+◌, ◌<◌, ◌≤◌, ℕ, Bool, true, false, List, [], length, slice_get, Some, None, refl, sym, subst, arith}
 use Rattle.circuit_theory.specs.EventSizes.{Start}
 use Rattle.circuit_theory.specs.Frame.{NotPut}
 use Rattle.edbf_unfold.specs.event_literals.Sound.{IsSound}
@@ -9,9 +9,9 @@ use Rattle.edbf_unfold.proofs.event_literals.Places.{one_at}
 use Rattle.event_nodes.specs.Lit.{Lit}
 use Rattle.event_nodes.specs.Nodes.{EventGraphView, IsEventGraph, GrowsEvents}
 use Rattle.event_nodes.specs.View.{EventCircuitView, IsEventCircuit, side_of}
-use Rattle.event_nodes.specs.Visited.{CounterView, HoldsVisits, HoldsNodes, IsWeighed}
+use Rattle.event_nodes.specs.Visited.{CounterView, HoldsVisits, HoldsNodes}
 use Rattle.event_nodes.proofs.Growing.{grows_trans}
-use Rattle.event_nodes.proofs.Lists.{adds_none, adds_trans}
+use Rattle.event_nodes.proofs.Lists.{adds_none}
 use Rattle.edbf_unfold.specs.declared.event_literals.event_walk.frames.Frame.{Frame}
 use Rattle.edbf_unfold.specs.declared.event_literals.event_walk.frames.Put.TheVariants.{Free}
 use Rattle.edbf_unfold.specs.declared.event_literals.event_walk.frames.Ways.{Ways}
@@ -39,15 +39,6 @@ ready_less u w c cap room less r few = record {
   few = r.few;
 }
 
--- what one unfolding leaves is enough for another
-pub ready_next : (u v : EventUnfolderView) (w x : EventGraphView) (c d : CounterView) (room : ℕ) → IsReadyFor u w c room (9 * room + 4) → HasUnfolded u v w x room → IsCountedOn u.circuit.net x.children c d → IsReadyFor v x d room room
-ready_next u v w x c d room r h on = record {
-  small = r.small;
-  has = record { frames = omega (arith, r.has.frames, h.few_frames); nodes = omega (arith, r.has.nodes, h.nodes); places = omega (arith, r.has.places, h.places) };
-  weighed = subst (λ (e : EventCircuitView). IsWeighed e.net d) (sym h.circuit) on.weighed;
-  few = on.few;
-}
-
 -- more graph behind an unfolding
 pub unfolded_more : (u v : EventUnfolderView) (w x y : EventGraphView) (room more all : ℕ) → HasUnfolded u v w x room → HasGrown x y more → room + more ≤ all → HasUnfolded u v w y all
 unfolded_more u v w x y room more all a b few = record {
@@ -56,18 +47,6 @@ unfolded_more u v w x y room more all a b few = record {
   frames = a.frames;
   few_frames = omega (arith, a.few_frames, few);
   memo = a.memo;
-  nodes = omega (arith, a.nodes, b.nodes, few);
-  places = omega (arith, a.places, b.places, few);
-}
-
--- two unfoldings, one after the other
-pub unfolded_trans : (u v t : EventUnfolderView) (w x y : EventGraphView) (room more all : ℕ) → HasUnfolded u v w x room → HasUnfolded v t x y more → room + more + 1 ≤ all → HasUnfolded u t w y all
-unfolded_trans u v t w x y room more all a b few = record {
-  circuit = b.circuit ∙ a.circuit;
-  grows = grows_trans w x y a.grows b.grows;
-  frames = adds_trans (λ (f : Frame). Unit {0}) u.frames v.frames t.frames a.frames b.frames;
-  few_frames = omega (arith, a.few_frames, b.few_frames, few);
-  memo = adds_trans (λ (e : (ℕ × ℕ) × Lit). Unit {0}) u.memo v.memo t.memo a.memo b.memo;
   nodes = omega (arith, a.nodes, b.nodes, few);
   places = omega (arith, a.places, b.places, few);
 }

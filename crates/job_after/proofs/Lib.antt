@@ -6,5 +6,6 @@ pub mod Lifted
 pub mod Means
 pub mod Complete
 pub mod Zeros
+pub mod LeftOut
 pub mod Deepest
 pub mod Acyclic

@@ -7,6 +7,8 @@ use Rattle.restart.proofs.Again.{shown_again}
 use Rattle.flat_net.specs.declared.parts.LatchAt.{LatchAt}
 use Rattle.flat_net.specs.View.{NetView}
 use Rattle.restart.specs.Behind.{init_of, begun_latches, begun, IsBegun}
+use Rattle.cycle_search.specs.declared.found.Searched.{Searched}
+use Rattle.job_after.specs.Shown.{IsShownBy}
 
 begun_again : (ls : List LatchAt) (first last : List (Option Bool)) → length last ≡ length ls → begun_latches (begun_latches ls first) last ≡ begun_latches ls last
 begun_again [] first last size = refl
@@ -27,8 +29,13 @@ pub back : (n m k : NetView) (first last : List (Option Bool)) → length last �
 back n m k first last size one two is = two ∙ (ap (λ (x : NetView). begun x last) one ∙ (set_back n first last size ∙ is))
 
 -- what is shown of nets with other initial values is shown of the nets
-pub shown_before : (a b l r : NetView) (left right : List (Option Bool)) (names : List (List ℕ)) (rows : List (List Bool)) (shown : Option Witness) → l ≡ begun a left → r ≡ begun b right →
-    IfSome shown (λ w. IsShownBehind l r names rows w) → IfSome shown (λ w. IsShownBehind a b names rows w)
-shown_before a b l r left right names rows None left_is right_is told = tt
-shown_before a b l r left right names rows (Some w) left_is right_is told =
-    shown_again a b left right names rows w (subst (λ (n : NetView). IsShownBehind n (begun b right) names rows w) left_is (subst (λ (n : NetView). IsShownBehind l n names rows w) right_is told))
+pub shown_before : (Finds : Searched → Type 0) (a b l r : NetView) (left right : List (Option Bool)) (names : List (List ℕ)) (rows : List (List Bool)) (shown : Option Witness) → l ≡ begun a left → r ≡ begun b right →
+    IfSome shown (IsShownBy Finds l r names rows) → IfSome shown (IsShownBy Finds a b names rows)
+shown_before Finds a b l r left right names rows None left_is right_is told = tt
+shown_before Finds a b l r left right names rows (Some w) left_is right_is told = record {
+  shown = shown_again a b left right names rows w
+      (subst (λ (n : NetView). IsShownBehind n (begun b right) names rows w) left_is (subst (λ (n : NetView). IsShownBehind l n names rows w) right_is told.shown));
+  searched = told.searched;
+  finds = told.finds;
+  goes_on = told.goes_on;
+}

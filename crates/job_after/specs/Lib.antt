@@ -1,5 +1,6 @@
 pub mod Report
 pub mod Judged
+pub mod Shown
 pub mod Ends
 pub mod Answer
 pub mod Read

@@ -8,7 +8,8 @@ ghost use Rattle.job_after.specs.Judged.{judgement_of, proofs_of};
 use crate::after_report::{After, report};
 use crate::fault::AfterFault;
 use crate::last::last_cycle;
-use crate::shown::{Start, shown_of};
+use crate::searching::Start;
+use crate::shown::shown_of;
 use base_tables::NameTable;
 use circuit_report::sim_report::Misfit;
 use cycle_search::{SearchVerdict, Searched, search_cycles};
@@ -61,7 +62,7 @@ pub(crate) fn judge_after(
         cycles,
         conflicts,
     };
-    let shown = shown_of(alloc, &mut a, &mut b, &start, &searched)?;
+    let shown = shown_of(alloc, &mut a, &mut b, &start, &start, &searched)?;
     let after = After {
         rows: stimulus.rows.len() as u64,
         left: &left,

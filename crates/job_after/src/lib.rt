@@ -6,7 +6,9 @@ mod comparison;
 mod fault;
 mod judging;
 mod last;
+mod others;
 mod reading;
+mod searching;
 mod shown;
 
 pub use after_report::{put_after_verdict, put_begun};
@@ -14,4 +16,5 @@ pub use comparison::{AfterComparison, compare_after};
 pub use fault::AfterFault;
 pub use judging::{Judged, after_end, judgement_of, match_header, proofs_of};
 pub use reading::{AfterPaths, ReadFiles, read_files};
-pub use shown::{Start, or_zero, shown_by};
+pub use searching::{NetSearch, Start};
+pub use shown::shown_of;

@@ -5,48 +5,36 @@ ghost use Rattle.flat_net.specs.Comparable.{IsComparable};
 ghost use Rattle.restart.specs.Behind.{begun};
 ghost use Rattle.restart.specs.Sequence.{IsShownBehind};
 ghost use Rattle.job_after.specs.Judged.{GoesOnAsFound};
+ghost use Rattle.job_after.specs.Shown.{IsShownBy};
 
-use base_tables::NameTable;
-use cycle_search::{SearchError, SearchVerdict, Searched, search_cycles};
+use crate::others::shown_in_others;
+use crate::searching::{NetSearch, Start};
+use cycle_search::{SearchVerdict, Searched};
 use flat_net::Net;
 use obligations::outcome::{PairName, Witness};
 use restart::{restart, shown_behind};
-use sec_base::{MAX_CONFLICTS, NoMemory};
+use sec_base::NoMemory;
 use std::alloc::Global;
-use witness_report::Stimulus;
-
-/// Where a search begins, and how far it goes: the stimulus, with the table of its names, and what is known of both circuits' latches
-/// behind its rows.
-#[derive(Clone, Copy)]
-pub struct Start<'a> {
-    pub header: &'a NameTable,
-    pub stimulus: &'a Stimulus,
-    pub left: &'a [Option<bool>],
-    pub right: &'a [Option<bool>],
-    /// The last cycle behind the rows that is to be compared; the first one is 0.
-    pub cycles: u32,
-    /// The greatest number of conflicts of each query, 0 to 200,000.
-    pub conflicts: u32,
-}
 
 /// The difference that is shown where this was found, if one is. Where the sequence that was found shows none, since a latch that isn't known
-/// has a part in it, another one is looked for, where each such latch begins with 0. Afterwards both nets are as before.
-pub(crate) fn shown_of(
+/// has a part in it, another one is looked for, where each such latch begins with 0, first in all outputs and then in fewer. Afterwards both
+/// nets are as before.
+pub fn shown_of<S: NetSearch>(
     alloc: Global,
     a: &mut Net,
     b: &mut Net,
+    search: &S,
     start: &Start<'_>,
     searched: &Searched,
 ) -> Result<Option<Witness>, NoMemory>
     requires left { IsComparable a.old }
     requires right { IsComparable b.old }
-    requires conflicts { start.now.conflicts ≤ MAX_CONFLICTS }
+    requires can { S.can_search search.now }
     requires header { start.now.header.now ≡ start.now.stimulus.now.names }
-    requires left_known { length start.now.left.now ≡ length a.old.latches }
-    requires right_known { length start.now.right.now ≡ length b.old.latches }
-    requires left_begun { begun a.old start.now.left.now ≡ a.old }
-    requires right_begun { begun b.old start.now.right.now ≡ b.old }
-    ensures shown { IfOk result (λ shown. IfSome shown (IsShownBehind a.old b.old start.now.stimulus.now.names start.now.stimulus.now.rows)) }
+    requires known { (length start.now.left.now ≡ length a.old.latches) × (length start.now.right.now ≡ length b.old.latches) }
+    requires begun { (begun a.old start.now.left.now ≡ a.old) × (begun b.old start.now.right.now ≡ b.old) }
+    requires searched { S.finds search.now searched.now }
+    ensures shown { IfOk result (λ shown. IfSome shown (IsShownBy (S.finds search.now) a.old b.old start.now.stimulus.now.names start.now.stimulus.now.rows)) }
     ensures same { IfOk result (λ shown. (a.new ≡ a.old) × (b.new ≡ b.old)) }
 {
     let SearchVerdict::Different(_) = &searched.verdict else {
@@ -56,11 +44,11 @@ pub(crate) fn shown_of(
     if shown.is_some() {
         return Ok(shown);
     }
-    shown_from_zeros(alloc, a, b, start)
+    shown_from_zeros(alloc, a, b, search, start)
 }
 
 /// The difference that the sequence which was found shows, if it shows one. Its sequence has the rows, and then that one.
-pub fn shown_by(
+pub(crate) fn shown_by(
     alloc: Global,
     a: &Net,
     b: &Net,
@@ -84,56 +72,59 @@ pub fn shown_by(
     }
 }
 
-/// The difference that is shown where one is looked for from these initial values, if one is.
-fn shown_anew(
+/// The difference that is shown where one is looked for from these initial values, if one is: in all outputs, and then in fewer.
+fn shown_anew<S: NetSearch>(
     alloc: Global,
     a: &Net,
     b: &Net,
+    search: &S,
     start: &Start<'_>,
 ) -> Result<Option<Witness>, NoMemory>
     requires left { IsComparable a.now }
     requires right { IsComparable b.now }
-    requires conflicts { start.now.conflicts ≤ MAX_CONFLICTS }
+    requires can { S.can_search search.now }
     requires header { start.now.header.now ≡ start.now.stimulus.now.names }
-    ensures { IfOk result (λ shown. IfSome shown (IsShownBehind a.now b.now start.now.stimulus.now.names start.now.stimulus.now.rows)) }
+    ensures { IfOk result (λ shown. IfSome shown (IsShownBy (S.finds search.now) a.now b.now start.now.stimulus.now.names start.now.stimulus.now.rows)) }
 {
-    match search_cycles(alloc, a, b, start.cycles, start.conflicts) {
-        Ok(searched) => shown_by(alloc, a, b, start, &searched),
-        Err(SearchError::NoMemory) => Err(NoMemory),
-        Err(_) => Ok(None),
+    let Some(searched) = search.search(alloc, a, b)? else {
+        return Ok(None);
+    };
+    let shown = shown_by(alloc, a, b, start, &searched)?;
+    if shown.is_some() {
+        return Ok(shown);
     }
+    shown_in_others(alloc, a, b, search, start, &searched)
 }
 
 /// The same where each latch that isn't known begins with 0. Afterwards both nets are as before.
-fn shown_from_zeros(
+fn shown_from_zeros<S: NetSearch>(
     alloc: Global,
     a: &mut Net,
     b: &mut Net,
+    search: &S,
     start: &Start<'_>,
 ) -> Result<Option<Witness>, NoMemory>
     requires left { IsComparable a.old }
     requires right { IsComparable b.old }
-    requires conflicts { start.now.conflicts ≤ MAX_CONFLICTS }
+    requires can { S.can_search search.now }
     requires header { start.now.header.now ≡ start.now.stimulus.now.names }
-    requires left_known { length start.now.left.now ≡ length a.old.latches }
-    requires right_known { length start.now.right.now ≡ length b.old.latches }
-    requires left_begun { begun a.old start.now.left.now ≡ a.old }
-    requires right_begun { begun b.old start.now.right.now ≡ b.old }
-    ensures shown { IfOk result (λ shown. IfSome shown (IsShownBehind a.old b.old start.now.stimulus.now.names start.now.stimulus.now.rows)) }
+    requires known { (length start.now.left.now ≡ length a.old.latches) × (length start.now.right.now ≡ length b.old.latches) }
+    requires begun { (begun a.old start.now.left.now ≡ a.old) × (begun b.old start.now.right.now ≡ b.old) }
+    ensures shown { IfOk result (λ shown. IfSome shown (IsShownBy (S.finds search.now) a.old b.old start.now.stimulus.now.names start.now.stimulus.now.rows)) }
     ensures same { IfOk result (λ shown. (a.new ≡ a.old) × (b.new ≡ b.old)) }
 {
     let left = or_zero(alloc, start.left)?;
     let right = or_zero(alloc, start.right)?;
     restart(a, &left);
     restart(b, &right);
-    let shown = shown_anew(alloc, a, b, start)?;
+    let shown = shown_anew(alloc, a, b, search, start)?;
     restart(a, start.left);
     restart(b, start.right);
     Ok(shown)
 }
 
 /// What is known, and 0 of what isn't.
-pub fn or_zero(alloc: Global, known: &[Option<bool>]) -> Result<Vec<Option<bool>>, NoMemory>
+fn or_zero(alloc: Global, known: &[Option<bool>]) -> Result<Vec<Option<bool>>, NoMemory>
     ensures { IfOk result (λ filled. length filled.items ≡ length known.now) }
 {
     let mut filled = Vec::new(alloc);

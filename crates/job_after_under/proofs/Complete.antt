@@ -1,8 +1,9 @@
--- Where two circuits can be searched behind the rows of a stimulus under an assumption, they are.
+-- Where two circuits can be compared behind the rows of a stimulus under an assumption, they are.
 use Rattle.std.specs.Prelude.{IfSome, IsSomeAnd}
 use Rattle.std.proofs.Common.{◌≡◌, ◌∙◌, ◌⊎◌, ℕ, Bool, List, [], ◌∷◌, sym, ap, inl, inr, Option, Some, None}
 use Rattle.std.proofs.lemmas.Option.{none-some}
 use Rattle.flat_net.specs.View.{NetView}
+use Rattle.pair_decide.specs.declared.query.Proof.{Proof}
 use Rattle.circuit_report.specs.declared.sim_report.refusal.Misfit.TheVariants as misfit
 use Rattle.job_circuit.specs.replay.replay_header.Header.{FitsBoth, first_unknown, first_lacking, opened}
 use Rattle.job_base.specs.sec_files.Loading.{Loads}
@@ -21,11 +22,13 @@ use Rattle.job_base.proofs.sec_files.job_files.Reading.{some_and, if_told}
 use Rattle.cycle_under.specs.declared.found.UnderError.{UnderError}
 use Rattle.cycle_under.specs.declared.found.UnderError.TheVariants as under
 use Rattle.job_under.proofs.Complete.{not_unread}
-use Rattle.job_after_under.specs.Found.{IsMisread, IsUnreadRefusal, IsRefusedBy, IsAfterUnderRefusal, IsAfterUnderFound}
-use Rattle.job_after_under.specs.Answer.{CanBeSearchedBehind, IsAfterUnderAnswer, IsAfterUnderComplete}
+use Rattle.job_under.specs.Found.{SearchRefuses}
+use Rattle.job_after_under.specs.Judged.{IsJudged}
+use Rattle.job_after_under.specs.Found.{IsMisread, IsUnreadRefusal, IsRefusedBy, IsRefusal, IsFoundBy, IsAfterUnderFound}
+use Rattle.job_after_under.specs.Answer.{CanBeJudgedBehind, CanJudgeBehind, IsAfterUnderAnswer, IsAfterUnderComplete}
 
-module _ (cycles conflicts : ℕ) (left right assumed stimulus : Option (List ℕ)) (x y u z : List ℕ) (is : left ≡ Some x) (also : right ≡ Some y) (third : assumed ≡ Some u) (told : stimulus ≡ Some z)
-    (can : CanBeSearchedBehind cycles conflicts x y u z) where
+module _ (Refuses : NetView → NetView → NetView → UnderError → Type 0) (Judges : NetView → NetView → NetView → List (List ℕ) → List (List Bool) → Judgement → List Proof → List ℕ → Type 0)
+    (left right assumed stimulus : Option (List ℕ)) (x y u z : List ℕ) (is : left ≡ Some x) (also : right ≡ Some y) (third : assumed ≡ Some u) (told : stimulus ≡ Some z) (can : CanBeJudgedBehind Refuses x y u z) where
   -- the names of the stimulus are those of the one that fits
   names_are : (names : List (List ℕ)) (rows : List (List Bool)) → IfSome stimulus (λ t. IsStimulus t names rows) → can.names ≡ names
   names_are names rows spells = same_names z can.names names can.rows rows can.stimulus.form (if_told stimulus (λ t. IsStimulus t names rows) z told spells).form
@@ -57,7 +60,7 @@ module _ (cycles conflicts : ℕ) (left right assumed stimulus : Option (List �
   read r (inl h) = not_unread left right assumed x y u is also third can.left can.right can.assumed r h
   read r (inr h) = not_misread r h
 
-  not_refused : (e : UnderError) → (e ≡ under.NoMemory → ⊥) → IsRefusedBy cycles conflicts left right assumed stimulus e → ⊥
+  not_refused : (e : UnderError) → (e ≡ under.NoMemory → ⊥) → IsRefusedBy Refuses left right assumed stimulus e → ⊥
   not_refused e other h =
       can.stands h.a h.b h.c h.names h.rows h.said.left h.said.right h.said.left_known h.said.right_known (if_told left (λ t. Loads t h.a) x is h.left_loads) (if_told right (λ t. Loads t h.b) y also h.right_loads)
       (if_told assumed (λ t. Loads t h.c) u third h.assumed_loads) (if_told stimulus (λ t. IsStimulus t h.names h.rows) z told h.spells) h.said.left_begun h.said.right_begun e other h.said.said
@@ -74,7 +77,7 @@ module _ (cycles conflicts : ℕ) (left right assumed stimulus : Option (List �
   known a b names name fits same (inr e) = no_name (opened a b names) e.0 name (sym (ap (opened a b) same) ∙ fits.1) e.2
 
   -- nothing is refused
-  stands : (r : Refusal) → IsAfterUnderRefusal cycles conflicts left right assumed stimulus r → ⊥
+  stands : (r : Refusal) → IsRefusal Refuses left right assumed stimulus r → ⊥
   stands (refusal.TooLong f) h = read (refusal.TooLong f) h
   stands (refusal.Text f line kind) h = read (refusal.Text f line kind) h
   stands (refusal.Design f fault) h = read (refusal.Design f fault) h
@@ -99,7 +102,7 @@ module _ (cycles conflicts : ℕ) (left right assumed stimulus : Option (List �
   judged judgement.NotShown = tt
   judged judgement.Limit = tt
 
-  answered : (f : Finding) → IsAfterUnderFound cycles conflicts left right assumed stimulus f → IsAfterUnderAnswer (status_of f)
+  answered : (f : Finding) → IsFoundBy Refuses Judges left right assumed stimulus f → IsAfterUnderAnswer (status_of f)
   answered finding.Words h = absurd h
   answered (finding.Refused r) h = absurd (stands r h)
   answered (finding.Cyclic side names) h = absurd h
@@ -113,11 +116,16 @@ module _ (cycles conflicts : ℕ) (left right assumed stimulus : Option (List �
   answered (finding.Judged j proofs text) h = judged j
 
 -- what is found has the status of a verdict
+pub found_complete : (Refuses : NetView → NetView → NetView → UnderError → Type 0) (Judges : NetView → NetView → NetView → List (List ℕ) → List (List Bool) → Judgement → List Proof → List ℕ → Type 0) (left right assumed stimulus : Option (List ℕ)) (f : Finding) → IsFoundBy Refuses Judges left right assumed stimulus f →
+    CanJudgeBehind Refuses left right assumed stimulus → IsAfterUnderAnswer (status_of f)
+found_complete Refuses Judges left right assumed stimulus f found can =
+    let l = some_and left (λ x. IsSomeAnd right (λ y. IsSomeAnd assumed (λ u. IsSomeAnd stimulus (λ z. CanBeJudgedBehind Refuses x y u z)))) can in
+    let r = some_and right (λ y. IsSomeAnd assumed (λ u. IsSomeAnd stimulus (λ z. CanBeJudgedBehind Refuses l.0 y u z))) l.2 in
+    let m = some_and assumed (λ u. IsSomeAnd stimulus (λ z. CanBeJudgedBehind Refuses l.0 r.0 u z)) r.2 in
+    let s = some_and stimulus (λ z. CanBeJudgedBehind Refuses l.0 r.0 m.0 z) m.2 in
+    answered Refuses Judges left right assumed stimulus l.0 r.0 m.0 s.0 l.1 r.1 m.1 s.1 s.2 f found
+
 pub after_under_complete : (cycles conflicts : ℕ) (left right assumed stimulus : Option (List ℕ)) (f : Finding) → IsAfterUnderFound cycles conflicts left right assumed stimulus f →
     IsAfterUnderComplete cycles conflicts left right assumed stimulus (status_of f)
-after_under_complete cycles conflicts left right assumed stimulus f found can =
-    let l = some_and left (λ x. IsSomeAnd right (λ y. IsSomeAnd assumed (λ u. IsSomeAnd stimulus (λ z. CanBeSearchedBehind cycles conflicts x y u z)))) can in
-    let r = some_and right (λ y. IsSomeAnd assumed (λ u. IsSomeAnd stimulus (λ z. CanBeSearchedBehind cycles conflicts l.0 y u z))) l.2 in
-    let m = some_and assumed (λ u. IsSomeAnd stimulus (λ z. CanBeSearchedBehind cycles conflicts l.0 r.0 u z)) r.2 in
-    let s = some_and stimulus (λ z. CanBeSearchedBehind cycles conflicts l.0 r.0 m.0 z) m.2 in
-    answered cycles conflicts left right assumed stimulus l.0 r.0 m.0 s.0 l.1 r.1 m.1 s.1 s.2 f found
+after_under_complete cycles conflicts left right assumed stimulus f found =
+    found_complete (SearchRefuses cycles conflicts) (λ a b c names rows j proofs text. IsJudged a b c names rows cycles conflicts j proofs text) left right assumed stimulus f found

@@ -12,7 +12,6 @@ use Rattle.witness_report.specs.declared.witness.Witness.{Witness}
 use Rattle.job_base.proofs.sec_files.job_files.Reading.{if_told}
 use Rattle.pair_texts.proofs.assume_texts.Sequences.{resets_where_met}
 use Rattle.cycle_search.specs.declared.found.SearchVerdict.TheVariants as verdict
-use Rattle.restart.specs.Behind.{begun}
 use Rattle.restart.specs.Agreement.{Each, UpTo, Before}
 use Rattle.job_after.specs.Judged.{Behind, judgement_of}
 use Rattle.job_after.specs.declared.judging.Judged.{Judged}
@@ -22,16 +21,16 @@ use Rattle.job_after_under.specs.declared.fault.Fault.{Fault}
 use Rattle.job_after_under.specs.Runs.{AgreeBehindWhereMet}
 use Rattle.job_after_under.specs.Judged.{IsShownUnder, IsBehindUnder, IsJudgedSearch}
 use Rattle.job_after_under.specs.Report.{behind_text}
-use Rattle.job_after_under.specs.Ends.{IsTold, IsJudgedBy}
+use Rattle.job_after_under.specs.Ends.{IsTold}
 use Rattle.job_after_under.proofs.Behind.{AgreeWhere, behind}
 use Rattle.job_after_under.proofs.Meeting.{shown_before}
 
-module _ (a b c : NetView) (names : List (List ℕ)) (rows : List (List Bool)) (cycles conflicts : ℕ) where
-  -- what is true of an error is true of the result that it is
-  pub refused_by : (r : Result Judged Fault) (e : Fault) → IsErrAnd r (λ x. x ≡ e) → IsJudgedBy a b c names rows cycles conflicts (Err e) → IsJudgedBy a b c names rows cycles conflicts r
-  refused_by (Ok x) e h p = absurd h
-  refused_by (Err x) e h p = subst (λ (y : Fault). IsJudgedBy a b c names rows cycles conflicts (Err y)) (sym h) p
+-- what is true of an error is true of the result that it is
+pub refused_by : (P : Result Judged Fault → Type 0) (r : Result Judged Fault) (e : Fault) → IsErrAnd r (λ x. x ≡ e) → P (Err e) → P r
+refused_by P (Ok x) e h p = absurd h
+refused_by P (Err x) e h p = subst (λ (y : Fault). P (Err y)) (sym h) p
 
+module _ (a b c : NetView) (names : List (List ℕ)) (rows : List (List Bool)) (cycles conflicts : ℕ) where
   module _ (wide : All (λ (row : List Bool). length row ≡ length names) rows) (h : Behind) (is : IsBehindUnder a b c names rows cycles conflicts h) (distinct : AreDistinct (map (λ (p : Port). p.name) b.outputs)) where
     right_distinct : AreDistinct (map (λ (p : Port). p.name) h.right.outputs)
     right_distinct = subst (λ (n : NetView). AreDistinct (map (λ (p : Port). p.name) n.outputs)) (sym is.right_begun.is) distinct
@@ -41,10 +40,7 @@ module _ (a b c : NetView) (names : List (List ℕ)) (rows : List (List Bool)) (
 
     -- agreement of the nets that begin is agreement behind the rows
     of_begun : (Wanted : ℕ → Type 0) → AgreeWhere Wanted (circuit_of c) (circuit_of h.left) (circuit_of h.right) → AgreeBehindWhereMet names rows Wanted (circuit_of c) (circuit_of a) (circuit_of b)
-    of_begun Wanted k =
-        behind names rows wide a b h.left_known h.right_known is.left_begun.each is.right_begun.each is.left_begun.are_known is.right_begun.are_known (circuit_of c) Wanted
-        (subst (λ (n : NetView). AgreeWhere Wanted (circuit_of c) (circuit_of n) (circuit_of (begun b h.right_known))) is.left_begun.is
-        (subst (λ (n : NetView). AgreeWhere Wanted (circuit_of c) (circuit_of h.left) (circuit_of n)) is.right_begun.is k))
+    of_begun = behind names rows wide a b h.left_known h.right_known h.left h.right is.left_begun is.right_begun (circuit_of c)
 
     agree : h.made.verdict ≡ verdict.Equal → AgreeBehindWhereMet names rows Each (circuit_of c) (circuit_of a) (circuit_of b)
     agree e =

@@ -133,7 +133,7 @@ module _ (cycles conflicts : ℕ) (before now : Option (List ℕ)) (a b c : NetV
           (subst (VerdictFitsUnder (assumed_by s.assumed) s.assumed.weight s.numbers h.of.left h.of.right cycles h.of.made.last (named_pairs [] (circuit_of h.of.left) (circuit_of h.of.right)) h.of.made.pairs) is s.found.verdict_is)
 
 -- the assumption's query wasn't decided
-assumption_undecided : (conflicts : ℕ) (before now : Option (List ℕ)) (a b c : NetView) (names : List (List ℕ)) (rows : List (List Bool)) (j : Judgement) (proofs : List Proof) (text : List ℕ) → IsJudgedUndecided a b c names rows conflicts j proofs text →
+pub assumption_undecided : (conflicts : ℕ) (before now : Option (List ℕ)) (a b c : NetView) (names : List (List ℕ)) (rows : List (List Bool)) (j : Judgement) (proofs : List Proof) (text : List ℕ) → IsJudgedUndecided a b c names rows conflicts j proofs text →
     Takes before now text → (x y u z : List ℕ) → Loads x a → Loads y b → Loads u c → IsStimulus z names rows → AssumptionUndecided x y u z conflicts proofs before now
 assumption_undecided conflicts before now a b c names rows j proofs text h taken x y u z left right assumed stimulus = record {
   spelled = spelled x y u a b c left right assumed;
@@ -153,7 +153,7 @@ assumption_undecided conflicts before now a b c names rows j proofs text h taken
 }
 
 -- what is said of nets and of a stimulus, of their texts
-of_four : (left right assumed stimulus : Option (List ℕ)) (a b c : NetView) (names : List (List ℕ)) (rows : List (List Bool)) (P : List ℕ → List ℕ → List ℕ → List ℕ → Type 0) → IfSome left (λ x. Loads x a) → IfSome right (λ y. Loads y b) →
+pub of_four : (left right assumed stimulus : Option (List ℕ)) (a b c : NetView) (names : List (List ℕ)) (rows : List (List Bool)) (P : List ℕ → List ℕ → List ℕ → List ℕ → Type 0) → IfSome left (λ x. Loads x a) → IfSome right (λ y. Loads y b) →
     IfSome assumed (λ u. Loads u c) → IfSome stimulus (λ z. IsStimulus z names rows) → ((x y u z : List ℕ) → Loads x a → Loads y b → Loads u c → IsStimulus z names rows → P x y u z) → OfFourTexts left right assumed stimulus P
 of_four left right assumed stimulus a b c names rows P l r m s f =
     record { left_loads = is_loaded left a l; right_loads = is_loaded right b r; assumed_loads = is_loaded assumed c m; said = all left right assumed stimulus l r m s }

@@ -1,6 +1,6 @@
 -- A sequence that goes on as one that was found under the assumption meets the assumption there.
-use Rattle.std.proofs.Common.{◌≡◌, ◌∙◌, ℕ, suc, ◌+◌, ◌-◌, ◌≤◌, Bool, List, [], ◌∷◌, ◌++◌, map, length, refl, sym, ap, subst, arith, Option, Some, None, slice_get, Result, Ok, Err}
-use Rattle.std.specs.Prelude.{IfSome, IfOk}
+use Rattle.std.proofs.Common.{◌≡◌, ◌∙◌, ℕ, suc, ◌+◌, ◌-◌, ◌≤◌, Bool, List, [], ◌∷◌, ◌++◌, map, length, refl, sym, ap, subst, arith, Option, Some, None, slice_get}
+use Rattle.std.specs.Prelude.{IfSome}
 use Rattle.std.specs.List.{Contains}
 use Rattle.std.proofs.lemmas.List.{append-nil}
 use Rattle.circuit_theory.specs.Interface.{shared_inputs}
@@ -26,7 +26,8 @@ use Rattle.restart.proofs.Again.{shown_again}
 use Rattle.restart.specs.Behind.{begun}
 use Rattle.job_after.specs.Judged.{GoesOnAsFound}
 use Rattle.job_under.proofs.Says.{names_are, differ}
-use Rattle.job_after_under.specs.Judged.{IsShownUnder}
+use Rattle.job_after.specs.Shown.{IsShownBy}
+use Rattle.job_after_under.specs.Judged.{IsShownUnder, GoesOnMeeting}
 use Rattle.job_after_under.specs.Runs.{SequenceMeetsFrom}
 
 -- what stands behind so many rows
@@ -58,21 +59,20 @@ module _ (a b c : NetView) (cycles conflicts : ℕ) (s : Searched) (is : AreSear
           ∙ (ap (row_value (on.rows_are.front ++ found.witness.stimulus.rows) i) (let size = on.rows_are.counted in let q : t ≡ length on.rows_are.front + (t - count) = omega (arith, from, size) in q)
           ∙ value_behind on.rows_are.front found.witness.stimulus.rows i (t - count))
 
-  -- what is shown by a sequence that goes on as the one that was found is shown under the assumption
-  pub shown_under : (names : List (List ℕ)) (rows : List (List Bool)) (shown : Option Witness) → IfSome shown (IsShownBehind a b names rows) → IfSome shown (GoesOnAsFound (length rows) s.verdict) → IfSome shown (IsShownUnder a b c names rows)
-  shown_under names rows None h on = tt
-  shown_under names rows (Some w) h on = record { shown = h; meets = by s.verdict refl on }
+  -- so does each sequence that goes on as what was found
+  pub goes_on_meeting : GoesOnMeeting (circuit_of c) s
+  goes_on_meeting count w on = by s.verdict refl on
     where
-      by : (v : SearchVerdict) → s.verdict ≡ v → GoesOnAsFound (length rows) v w → SequenceMeetsFrom (length rows) (circuit_of c) w.stimulus w.cycle
+      by : (v : SearchVerdict) → s.verdict ≡ v → GoesOnAsFound count v w → SequenceMeetsFrom count (circuit_of c) w.stimulus w.cycle
       by verdict.Equal e k = absurd k
       by (verdict.NoDifference stopped) e k = absurd k
-      by (verdict.Different found) e k = meets_behind (length rows) found e w k
+      by (verdict.Different found) e k = meets_behind count found e w k
       by (verdict.Limit name) e k = absurd k
 
--- two things that are said of a result say a third
-pub both_ok : {X E : Type 0} (r : Result X E) (P Q R : X → Type 0) → ((x : X) → P x → Q x → R x) → IfOk r P → IfOk r Q → IfOk r R
-both_ok (Ok x) P Q R f h k = f x h k
-both_ok (Err e) P Q R f h k = tt
+-- what is shown by a sequence that goes on so is shown under the assumption
+pub shown_under : (a b c : NetView) (names : List (List ℕ)) (rows : List (List Bool)) (shown : Option Witness) → IfSome shown (IsShownBy (GoesOnMeeting (circuit_of c)) a b names rows) → IfSome shown (IsShownUnder a b c names rows)
+shown_under a b c names rows None h = tt
+shown_under a b c names rows (Some w) h = record { shown = h.shown; meets = h.finds (length rows) w h.goes_on }
 
 -- what is shown of nets with other initial values is shown of the nets
 pub shown_before : (a b c l r : NetView) (left right : List (Option Bool)) (names : List (List ℕ)) (rows : List (List Bool)) (shown : Option Witness) → l ≡ begun a left → r ≡ begun b right →

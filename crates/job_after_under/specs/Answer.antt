@@ -1,6 +1,6 @@
 -- What the status says of four texts, where the circuits of two are searched for a difference behind the rows of the stimulus of the fourth
 -- under that of the third, and when they can be.
-use Rattle.std.specs.Prelude.{◌≡◌, ◌≢◌, ◌⊎◌, ℕ, ◌≤◌, Bool, List, [], length, Option, Some, None, Err, IfSome, IsSomeAnd, Contains}
+use Rattle.std.specs.Prelude.{◌≡◌, ◌≢◌, ◌⊎◌, ℕ, ◌≤◌, Bool, List, [], length, Option, Some, None, IfSome, IsSomeAnd, Contains}
 use Rattle.circuit_theory.specs.Interface.{shared_inputs}
 use Rattle.circuit_theory.specs.declared.Side.{Side}
 use Rattle.base_shelves.specs.Outside.{Takes}
@@ -25,7 +25,7 @@ use Rattle.cycle_search.specs.Searches.{IsNumbering}
 use Rattle.cycle_under.specs.declared.found.UnderError.{UnderError}
 use Rattle.cycle_under.specs.declared.found.UnderError.TheVariants as refused
 use Rattle.cycle_under.specs.Cycles.{pair_under}
-use Rattle.cycle_under.specs.Searches.{SearchesUnder}
+use Rattle.job_under.specs.Found.{SearchRefuses}
 use Rattle.restart.specs.Agreement.{Each, UpTo, Before}
 use Rattle.restart.specs.Sequence.{BeginsWithRows}
 use Rattle.job_after.specs.Judged.{Behind}
@@ -120,10 +120,9 @@ AfterUnderMeans cycles conflicts left right assumed stimulus before now proofs s
 AfterUnderMeans cycles conflicts left right assumed stimulus before now proofs status.Done = ⊥
 AfterUnderMeans cycles conflicts left right assumed stimulus before now proofs other = Unit {0}
 
--- The texts of circuits are accepted, and the fourth is a stimulus that names all inputs that both circuits have, and inputs alone. The search
--- of the nets as they begin behind its rows refuses nothing: their interfaces match, the third is an assumption on shared inputs that some row
--- meets, and no circuit's outputs weigh more than 2,000,000 in the first cycle there.
-pub record CanBeSearchedBehind (cycles conflicts : ℕ) (x y u z : List ℕ) : Type 0 where
+-- The texts of circuits are accepted, and the fourth is a stimulus that names all inputs that both circuits have, and inputs alone. Nothing is
+-- refused of the nets as they begin behind its rows.
+pub record CanBeJudgedBehind (Refuses : NetView → NetView → NetView → UnderError → Type 0) (x y u z : List ℕ) : Type 0 where
   pub left : IsAccepted x
   pub right : IsAccepted y
   pub assumed : IsAccepted u
@@ -132,11 +131,16 @@ pub record CanBeSearchedBehind (cycles conflicts : ℕ) (x y u z : List ℕ) : T
   pub stimulus : IsStimulus z names rows
   pub fits : (a b : NetView) → Loads x a → Loads y b → FitsBoth a b names × (opened a b names ≡ [])
   pub stands : (a b c : NetView) (names : List (List ℕ)) (rows : List (List Bool)) (l r : NetView) (left_known right_known : List (Option Bool)) → Loads x a → Loads y b → Loads u c → IsStimulus z names rows →
-      IsBegun a names rows left_known l → IsBegun b names rows right_known r → (e : UnderError) → e ≢ refused.NoMemory → SearchesUnder l r c cycles conflicts (Err e) → ⊥
+      IsBegun a names rows left_known l → IsBegun b names rows right_known r → (e : UnderError) → e ≢ refused.NoMemory → Refuses l r c e → ⊥
 
--- the four texts are told, and can be searched so
+-- the four texts are told, and can be judged so
+abbrev pub CanJudgeBehind : (NetView → NetView → NetView → UnderError → Type 0) → Option (List ℕ) → Option (List ℕ) → Option (List ℕ) → Option (List ℕ) → Type 0
+CanJudgeBehind Refuses left right assumed stimulus = IsSomeAnd left (λ x. IsSomeAnd right (λ y. IsSomeAnd assumed (λ u. IsSomeAnd stimulus (λ z. CanBeJudgedBehind Refuses x y u z))))
+
+-- They are told, and the search of the nets as they begin behind the rows refuses nothing: their interfaces match, the third is an assumption on
+-- shared inputs that some row meets, and no circuit's outputs weigh more than 2,000,000 in the first cycle there.
 abbrev pub CanSearchBehind : ℕ → ℕ → Option (List ℕ) → Option (List ℕ) → Option (List ℕ) → Option (List ℕ) → Type 0
-CanSearchBehind cycles conflicts left right assumed stimulus = IsSomeAnd left (λ x. IsSomeAnd right (λ y. IsSomeAnd assumed (λ u. IsSomeAnd stimulus (λ z. CanBeSearchedBehind cycles conflicts x y u z))))
+CanSearchBehind cycles conflicts left right assumed stimulus = CanJudgeBehind (SearchRefuses cycles conflicts) left right assumed stimulus
 
 -- a verdict, or want of memory
 abbrev pub IsAfterUnderAnswer : StatusName → Type 0

@@ -1,5 +1,6 @@
 -- What is judged of two nets behind the rows of a stimulus, under a third.
 use Rattle.std.specs.Prelude.{◌≡◌, ◌⊎◌, ℕ, Bool, List, [], ◌∷◌, length, Option, Some}
+use Rattle.circuit_theory.specs.Circuit.{Circuit}
 use Rattle.circuit_theory.specs.Interface.{shared_inputs}
 use Rattle.circuit_theory.specs.declared.Side.{Side}
 use Rattle.flat_net.specs.View.{NetView, circuit_of, ports_of}
@@ -9,11 +10,12 @@ use Rattle.sec_setup.specs.Matching.{InterfacesMatch}
 use Rattle.assume_queries.specs.assume_sequences.assume_taken.Taken.{IsUndecidedBy}
 use Rattle.job_base.specs.declared.finding.Judgement.{Judgement}
 use Rattle.job_base.specs.declared.finding.Judgement.TheVariants as judgement
+use Rattle.cycle_search.specs.declared.found.Searched.{Searched}
 use Rattle.cycle_search.specs.declared.found.SearchVerdict.TheVariants as verdict
 use Rattle.cycle_under.specs.Searches.{AreSearchedUnder}
 use Rattle.restart.specs.Agreement.{Each, UpTo, Before}
 use Rattle.restart.specs.Sequence.{IsShownBehind}
-use Rattle.job_after.specs.Judged.{Behind, judgement_of, proofs_of}
+use Rattle.job_after.specs.Judged.{Behind, judgement_of, proofs_of, GoesOnAsFound}
 use Rattle.restart.specs.Behind.{IsBegun}
 use Rattle.job_after_under.specs.Report.{behind_text, undecided_behind}
 use Rattle.job_after_under.specs.Runs.{AgreeBehindWhereMet, SequenceMeetsFrom}
@@ -23,6 +25,10 @@ use Rattle.job_after_under.specs.Runs.{AgreeBehindWhereMet, SequenceMeetsFrom}
 pub record IsShownUnder (a b c : NetView) (names : List (List ℕ)) (rows : List (List Bool)) (w : Witness) : Type 0 where
   pub shown : IsShownBehind a b names rows w
   pub meets : SequenceMeetsFrom (length rows) (circuit_of c) w.stimulus w.cycle
+
+-- each sequence that goes on as the difference that was found meets the assumption from there on
+abbrev pub GoesOnMeeting : {R : Type 0} → Circuit R → Searched → Type 0
+GoesOnMeeting c s = (count : ℕ) (w : Witness) → GoesOnAsFound count s.verdict w → SequenceMeetsFrom count c w.stimulus w.cycle
 
 -- both nets begin so behind the rows, and this was found of them there
 pub record IsBehindUnder (a b c : NetView) (names : List (List ℕ)) (rows : List (List Bool)) (cycles conflicts : ℕ) (h : Behind) : Type 0 where

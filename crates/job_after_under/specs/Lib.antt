@@ -4,3 +4,4 @@ pub mod Judged
 pub mod Found
 pub mod Answer
 pub mod Ends
+pub mod ties

@@ -5,11 +5,9 @@ ghost use Rattle.base_shelves.specs.Outside.{SameHeld, NoneFell};
 ghost use Rattle.job_after_under.specs.Ends.{AfterUnderJob, AfterUnderFound};
 
 use crate::judging::{fault_end, judge};
+use crate::reading::{AfterUnderPaths, ReadFour, read_four};
 use base_shelves::Shelf;
-use job_base::sec_files::job_files::stimulus_end;
-use job_base::sec_files::load_stimulus;
 use job_base::{Finding, Stop};
-use job_under::{ReadThree, UnderPaths, read_three};
 use sec_base::MAX_CONFLICTS;
 use std::alloc::Global;
 
@@ -43,20 +41,18 @@ pub fn compare_after_under<S: Shelf>(
     ensures served { S.serves shelf.old comparison.now.left.now → S.serves shelf.old comparison.now.right.now → S.serves shelf.old comparison.now.assumed.now → S.serves shelf.old comparison.now.stimulus.now → IsErrOf result Stop.ReadFault → ⊥ }
     ensures serving { (other : List ℕ) → S.serves shelf.old other → S.serves shelf.new other }
 {
-    let paths = UnderPaths {
+    let paths = AfterUnderPaths {
         left: comparison.left,
         right: comparison.right,
         assumed: comparison.assumed,
+        stimulus: comparison.stimulus,
     };
-    match read_three(alloc, &paths, shelf) {
-        ReadThree::Whole(a, b, c) => match load_stimulus(alloc, shelf, comparison.stimulus) {
-            Ok(stimulus) => {
-                let (cycles, conflicts) = (comparison.cycles, comparison.conflicts);
-                let judged = judge(alloc, a, b, &c, &stimulus, cycles, conflicts);
-                fault_end(judged)
-            }
-            Err(error) => stimulus_end(error),
-        },
-        ReadThree::Ended(end) => end,
+    match read_four(alloc, &paths, shelf) {
+        ReadFour::Whole(a, b, c, stimulus) => {
+            let (cycles, conflicts) = (comparison.cycles, comparison.conflicts);
+            let judged = judge(alloc, a, b, &c, &stimulus, cycles, conflicts);
+            fault_end(judged)
+        }
+        ReadFour::Ended(end) => end,
     }
 }

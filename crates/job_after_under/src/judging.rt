@@ -10,12 +10,12 @@ ghost use Rattle.job_after_under.specs.Report.{undecided_behind};
 
 use crate::fault::Fault;
 use crate::found_report::{report, report_undecided};
-use crate::shown::shown_of;
+use crate::shown::AssumedSearch;
 use circuit_report::sim_report::Misfit;
 use cycle_search::Searched;
 use cycle_under::{SearchUnder, UnderError, search_cycles_under};
 use flat_net::Net;
-use job_after::{Judged, Start, judgement_of, match_header, proofs_of};
+use job_after::{Judged, Start, judgement_of, match_header, proofs_of, shown_of};
 use job_base::{Finding, Judgement, Proofs, Refusal, Stop};
 use job_circuit::replay::ReplayError;
 use obligations::outcome::Proof;
@@ -86,7 +86,12 @@ fn judged_search(
     requires searched { AreSearchedUnder a.old b.old c.now start.now.cycles start.now.conflicts searched }
     ensures { IfOk result (IsTold a.old b.old c.now start.now.stimulus.now.names start.now.stimulus.now.rows start.now.left.now start.now.right.now start.now.cycles start.now.conflicts name.now searched) }
 {
-    let shown = shown_of(alloc, a, b, c, start, &searched)?;
+    let search = AssumedSearch {
+        assumed: c,
+        cycles: start.cycles,
+        conflicts: start.conflicts,
+    };
+    let shown = shown_of(alloc, a, b, &search, start, &searched)?;
     let text = report(alloc, a, b, name, start, &shown, &searched)?;
     let judgement = judgement_of(&searched.verdict, &shown);
     let proofs = proofs_of(alloc, searched)?;

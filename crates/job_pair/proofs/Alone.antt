@@ -1,19 +1,14 @@
--- Circuits with the outputs of one name alone: of a design and its net, and of comparable nets.
-use Rattle.std.proofs.Common.{◌≡◌, ◌∙◌, ◌≤◌, ℕ, Bool, true, false, List, [], ◌∷◌, map, length, refl, sym, ap, subst, arith}
+-- Circuits with the outputs of one name alone: of a design and its net.
+use Rattle.std.proofs.Common.{◌≡◌, ◌∙◌, ℕ, Bool, true, false, List, [], ◌∷◌, map, refl, ap}
 use Rattle.std.specs.List.{filter}
 use Rattle.std.specs.Str.{bytes_eq}
-use Rattle.base_tables.specs.Table.{AreDistinct}
 use Rattle.circuit_theory.specs.Circuit.{Circuit, Named}
 use Rattle.circuit_theory.specs.Flattened.{Follows}
 use Rattle.circuit_theory.specs.Joined.{moved_name}
 use Rattle.circuit_theory.specs.Places.{IsPlace}
 use Rattle.circuit_theory.proofs.Lists.{Contains-filter}
-use Rattle.flat_net.specs.declared.parts.Port.{Port}
-use Rattle.flat_net.specs.Comparable.{IsComparable}
-use Rattle.flat_net.specs.View.{NetView}
 use Rattle.net_assembly.specs.net_alike.FlatCircuit.{HasSignal}
-use Rattle.net_assembly.proofs.DistinctLists.{distinct_filter}
-use Rattle.net_names.specs.Alone.{IsAlone, only_output}
+use Rattle.net_names.specs.Alone.{only_output}
 use Rattle.job_base.proofs.design_laws.FlatParts.{FlatDesign}
 
 -- what is moved keeps its name
@@ -69,32 +64,3 @@ alone_design {P} {d} {net} {clocked} name f =
         placed = λ p h free. keep p (f.signal p) (f.circuit.placed p (place_of name d p h) free);
       };
     }
-
--- fewer outputs are no more
-shorter : (test : Port → Bool) (ps : List Port) → length (filter test ps) ≤ length ps
-shorter test [] = omega arith
-shorter test (p ∷ ps) = by (test p) refl (shorter test ps)
-  where
-    by : (b : Bool) → test p ≡ b → length (filter test ps) ≤ length ps → length (filter test (p ∷ ps)) ≤ length (p ∷ ps)
-    by true e rest = rw e (omega (arith, rest))
-    by false e rest = rw e (omega (arith, rest))
-
-names_alone : (name : List ℕ) (ps : List Port) → map (λ (p : Port). p.name) (filter (λ (p : Port). bytes_eq p.name name) ps) ≡ filter (λ n. bytes_eq n name) (map (λ (p : Port). p.name) ps)
-names_alone name [] = refl
-names_alone name (p ∷ ps) = by (bytes_eq p.name name) refl (names_alone name ps)
-  where
-    by : (b : Bool) → bytes_eq p.name name ≡ b → map (λ (q : Port). q.name) (filter (λ (q : Port). bytes_eq q.name name) ps) ≡ filter (λ n. bytes_eq n name) (map (λ (q : Port). q.name) ps) →
-        map (λ (q : Port). q.name) (filter (λ (q : Port). bytes_eq q.name name) (p ∷ ps)) ≡ filter (λ n. bytes_eq n name) (map (λ (q : Port). q.name) (p ∷ ps))
-    by true e rest = rw e (ap (λ (xs : List (List ℕ)). p.name ∷ xs) rest)
-    by false e rest = rw e rest
-
--- a comparable net is so with fewer outputs
-pub alone_comparable : (name : List ℕ) (n m : NetView) → IsAlone name n m → IsComparable n → IsComparable m
-alone_comparable name n m alone own = record {
-  distinct = subst AreDistinct (sym (ap (map (λ (p : Port). p.name)) alone.outputs ∙ names_alone name n.outputs)) (distinct_filter (λ k. bytes_eq k name) (map (λ (p : Port). p.name) n.outputs) own.distinct);
-  few = let inputs = ap length alone.inputs in
-      let outputs = ap length alone.outputs in
-      let latches = ap length alone.latches in
-      let short = shorter (λ (p : Port). bytes_eq p.name name) n.outputs in
-      omega (arith, own.few, inputs, outputs, latches, short);
-}

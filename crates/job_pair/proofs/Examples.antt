@@ -52,7 +52,7 @@ module _ (s : Small) (y : List ℕ) (one : s.outputs ≡ y ∷ []) (net : NetVie
   module _ (alone : NetView) (is : IsAlone y net alone) where
     circuit : circuit_of alone ≡ circuit_of net
     circuit = is.circuit
-        ∙ ap (λ (os : List (Named ℕ)). let c : Circuit ℕ = record (circuit_of net) { outputs = os } in c) (sym (outputs_named y net.outputs) ∙ ap (map named) (kept y net.outputs its_name))
+        ∙ ap (λ (os : List (Named ℕ)). let c : Circuit ℕ = record (circuit_of net) { outputs = os } in c) (sym (outputs_named (λ o. bytes_eq o y) net.outputs) ∙ ap (map named) (kept y net.outputs its_name))
 
     small_alone : IsSmall s alone
     small_alone = record {

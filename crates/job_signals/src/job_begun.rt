@@ -5,3 +5,4 @@ mod comparison;
 mod judging;
 
 pub use comparison::{BegunComparison, compare_begun};
+pub use judging::text_behind;

@@ -4,3 +4,4 @@ pub mod Unread
 pub mod Finds
 pub mod Means
 pub mod Complete
+pub mod job_signals

@@ -4,3 +4,6 @@ pub mod Found
 pub mod Answer
 pub mod Ends
 pub mod ties
+pub mod job_signals
+pub mod job_begun
+pub mod signal_induct

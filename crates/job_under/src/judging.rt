@@ -19,10 +19,10 @@ use std::alloc::Global;
 
 /// What is judged of two circuits: with the proofs of the queries that met the limit, and the report.
 #[derive(Drop)]
-pub(crate) struct Judged {
-    pub(crate) judgement: Judgement,
-    pub(crate) proofs: Proofs,
-    pub(crate) text: Text,
+pub struct Judged {
+    pub judgement: Judgement,
+    pub proofs: Proofs,
+    pub text: Text,
 }
 
 /// Searches the circuits for a difference under the assumption, where their interfaces match.

@@ -9,5 +9,6 @@ pub mod ties;
 mod under_report;
 
 pub use comparison::{UnderComparison, compare_under};
+pub use judging::Judged;
 pub use reading::{ReadThree, UnderPaths, read_three};
 pub use under_report::{put_undecided, put_under_front};

@@ -5,3 +5,5 @@ mod judging;
 mod report;
 
 pub use comparison::{TiesComparison, compare_ties};
+pub use job_signals::job_begun::text_behind;
+pub use judging::judge_ties;

@@ -2,14 +2,13 @@
 use Rattle.std.proofs.Common.{◌≡◌, ◌∙◌, ◌+◌, ℕ, zero, suc, Bool, true, false, List, [], ◌∷◌, ◌++◌, map, take, length, slice_get, Some, refl, sym, ap, arith, append_assoc}
 use Rattle.std.proofs.lemmas.List.{take_all}
 use Rattle.std.specs.Prelude.{unwrap_or, Option}
-use Rattle.std.specs.Str.{bytes_eq}
 use Rattle.std.specs.List.{filter}
 use Rattle.circuit_theory.specs.Circuit.{Circuit, Equation, Named}
 use Rattle.circuit_theory.specs.Cover.{Cover}
 use Rattle.flat_net.specs.declared.parts.Port.{Port}
 use Rattle.flat_net.specs.declared.parts.Gate.{Gate}
 use Rattle.flat_net.specs.View.{NetView, circuit_of, cover_of, equation_of_gate, equation_of_latch, named, no_cover}
-use Rattle.net_names.specs.Alone.{IsAlone}
+use Rattle.net_names.specs.Alone.{IsShowing}
 use Rattle.net_names.specs.Fronts.{numbered, with_gates}
 
 at_seam : (front rest : List Cover) (c : Cover) (k : ℕ) → k ≡ length front → slice_get (front ++ c ∷ rest) k ≡ Some c
@@ -36,22 +35,22 @@ equations_kept covers front k (g ∷ gs) e =
     longer (f ∷ front) c zero e = absurd (omega (arith, e))
     longer (f ∷ front) c (suc k) e = let h = longer front c k (omega (arith, e)) in omega (arith, h)
 
--- the outputs of a name as a circuit's
-pub outputs_named : (name : List ℕ) (ports : List Port) → map named (filter (λ port. bytes_eq port.name name) ports) ≡ filter (λ (o : Named ℕ). bytes_eq o.name name) (map named ports)
-outputs_named name [] = refl
-outputs_named name (p ∷ ports) = by (bytes_eq p.name name) refl (outputs_named name ports)
+-- the outputs that pass as a circuit's
+pub outputs_named : (test : List ℕ → Bool) (ports : List Port) → map named (filter (λ port. test port.name) ports) ≡ filter (λ (o : Named ℕ). test o.name) (map named ports)
+outputs_named test [] = refl
+outputs_named test (p ∷ ports) = by (test p.name) refl (outputs_named test ports)
   where
-    by : (b : Bool) → bytes_eq p.name name ≡ b → map named (filter (λ (port : Port). bytes_eq port.name name) ports) ≡ filter (λ (o : Named ℕ). bytes_eq o.name name) (map named ports) →
-        map named (filter (λ (port : Port). bytes_eq port.name name) (p ∷ ports)) ≡ filter (λ (o : Named ℕ). bytes_eq o.name name) (map named (p ∷ ports))
+    by : (b : Bool) → test p.name ≡ b → map named (filter (λ (port : Port). test port.name) ports) ≡ filter (λ (o : Named ℕ). test o.name) (map named ports) →
+        map named (filter (λ (port : Port). test port.name) (p ∷ ports)) ≡ filter (λ (o : Named ℕ). test o.name) (map named (p ∷ ports))
     by true e rest = rw e (ap (λ (os : List (Named ℕ)). named p ∷ os) rest)
     by false e rest = rw e rest
 
--- the net of the copied signals, with the latches, the outputs of this name and the clock
-abbrev pub copied : List ℕ → NetView → NetView
-copied name n = record (with_gates n (length n.gates)) { latches = n.latches; outputs = filter (λ port. bytes_eq port.name name) n.outputs; clock = n.clock }
+-- the net of the copied signals, with the latches, the outputs that pass and the clock
+abbrev pub copied : (List ℕ → Bool) → NetView → NetView
+copied test n = record (with_gates n (length n.gates)) { latches = n.latches; outputs = filter (λ port. test port.name) n.outputs; clock = n.clock }
 
-pub copy_is_alone : (name : List ℕ) (n : NetView) → length n.drivers ≡ length n.inputs + length n.latches + length n.gates → length n.names ≡ length n.drivers → IsAlone name n (copied name n)
-copy_is_alone name n whole named_each =
+pub copy_is_showing : (test : List ℕ → Bool) (n : NetView) → length n.drivers ≡ length n.inputs + length n.latches + length n.gates → length n.names ≡ length n.drivers → IsShowing test n (copied test n)
+copy_is_showing test n whole named_each =
     let all_inputs = take_all (length n.inputs) n.inputs (omega arith) in
     let all_gates = take_all (length n.gates) n.gates (omega arith) in
     record {
@@ -61,7 +60,7 @@ copy_is_alone name n whole named_each =
       drivers = take_all (length n.inputs + length n.latches + length n.gates) n.drivers (omega (arith, whole));
       names = take_all (length n.inputs + length n.latches + length n.gates) n.names (omega (arith, whole, named_each));
       clock = refl;
-      circuit = circuit_is (ap (map named) all_inputs) (outputs_named name n.outputs) (equations_kept n.covers [] 0 (take (length n.gates) n.gates) refl ∙ ap (map (equation_of_gate n.covers)) all_gates);
+      circuit = circuit_is (ap (map named) all_inputs) (outputs_named test n.outputs) (equations_kept n.covers [] 0 (take (length n.gates) n.gates) refl ∙ ap (map (equation_of_gate n.covers)) all_gates);
     }
   where
     circuit_is : {is js os ps : List (Named ℕ)} {es fs : List (Equation ℕ)} → is ≡ js → os ≡ ps → es ≡ fs →

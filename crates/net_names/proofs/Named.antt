@@ -11,14 +11,14 @@ use Rattle.flat_net.specs.declared.parts.LatchAt.{LatchAt}
 use Rattle.flat_net.specs.declared.parts.Port.{Port}
 use Rattle.flat_net.specs.declared.parts.Driver.{Driver}
 use Rattle.flat_net.specs.declared.parts.Driver.TheVariants as driver
-use Rattle.flat_net.specs.Sound.{Drives, IsGateOf, IsInputOf, IsLatchOf, IsSound}
-use Rattle.flat_net.specs.View.{NetView, circuit_of, equation_of_gate, equation_of_latch, named, start_of}
+use Rattle.flat_net.specs.Sound.{Drives, IsLatchOf, IsSound}
+use Rattle.flat_net.specs.View.{NetView, equation_of_gate, equation_of_latch, named, start_of}
 use Rattle.flat_net.proofs.CutNets.{slice_get-append_right}
 use Rattle.flat_net.proofs.Growth.{slice_get-append}
 use Rattle.net_names.specs.Fronts.{latch_by, named_by, with_gates}
 use Rattle.net_names.specs.Laid.{IsLaid}
 use Rattle.net_names.specs.NewNames.{AreNewNames}
-use Rattle.net_names.specs.Renamed.{IsRenamed, new_name, renamed, renamed_latch}
+use Rattle.net_names.specs.Renamed.{IsRenamed, new_name, renamed_latch}
 use Rattle.net_names.specs.declared.latch_pairs.LatchPair.{LatchPair}
 use Rattle.net_names.proofs.Circuits.{equations_kept}
 use Rattle.net_names.proofs.Renamings.{equations_renamed, starts_stay}

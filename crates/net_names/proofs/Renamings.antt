@@ -1,17 +1,17 @@
 -- New names of latches, and circuits under them.
-use Rattle.std.specs.Prelude.{◌⊎◌, ◌≢◌, ◌↔◌}
+use Rattle.std.specs.Prelude.{◌⊎◌, ◌≢◌}
 use Rattle.std.proofs.Common.{◌≡◌, ◌∙◌, ℕ, zero, suc, ◌+◌, ◌<◌, Bool, true, false, List, [], ◌∷◌, ◌++◌, map, take, length, slice_get, Option, Some, None, refl, sym, ap, subst, arith, inl, inr}
 use Rattle.std.specs.List.{All, Contains, filter_map, cons_option}
 use Rattle.std.specs.Str.{bytes_eq}
 use Rattle.std.proofs.lemmas.List.Elements.{All-contains}
-use Rattle.std.proofs.lemmas.Option.{none-some, same_Some, slice_get_within}
+use Rattle.std.proofs.lemmas.Option.{none-some, same_Some}
 use Rattle.std.proofs.lemmas.Slice.Eq.{bytes_eq-Decides}
 use Rattle.base_tables.specs.Table.{AreDistinct, is_among}
 use Rattle.base_tables.proofs.TableLemmas.{is_among-at, slice_get-take}
 use Rattle.circuit_theory.specs.declared.Side.TheVariants.{A, B}
-use Rattle.circuit_theory.specs.Circuit.{Circuit, Equation, Gate, Latch, Port, Carries, Holds, Started}
+use Rattle.circuit_theory.specs.Circuit.{Circuit, Equation, Gate, Latch, Port, Carries, Holds}
 use Rattle.circuit_theory.specs.Run.{IsRun}
-use Rattle.circuit_theory.proofs.Lists.{All-from_each, Contains-head, Contains-map, Contains-map_from, Contains-tail, map-map, map_at, of_at, at_of}
+use Rattle.circuit_theory.proofs.Lists.{All-from_each, Contains-head, Contains-map, Contains-map_from, Contains-tail, map_at, of_at}
 use Rattle.circuit_theory.proofs.Numbers.{slice_get-map}
 use Rattle.flat_net.specs.declared.parts.Gate.{Gate as NetGate}
 use Rattle.flat_net.specs.declared.parts.LatchAt.{LatchAt}

@@ -1,6 +1,5 @@
 -- A net while it is copied: the first ones of its inputs, latches and gates; and a net whose signals have other names.
 use Rattle.std.specs.Prelude.{ℕ, ◌+◌, List, [], ◌∷◌, map, take, length, slice_get, unwrap_or, Option, Some, None}
-use Rattle.flat_net.specs.declared.signals.Signal.{Signal}
 use Rattle.flat_net.specs.declared.parts.Gate.{Gate}
 use Rattle.flat_net.specs.declared.parts.LatchAt.{LatchAt}
 use Rattle.flat_net.specs.View.{NetView, cover_of}

@@ -3,7 +3,7 @@
 
 ghost use Rattle.premise_rows.specs.start_premises.Restarted.{CircuitsAgreeBehindRows};
 ghost use Rattle.premise_rows.specs.start_premises.Begun.{TextsCanBegin, TextsCanBeReplayed};
-ghost use Rattle.premise_rows.specs.start_premises.BegunUnder.{TextsCanBeginUnder};
+ghost use Rattle.premise_rows.specs.start_premises.BegunUnder.{TextsCanBeginUnder, TextsCanBeTiedBehind};
 
 /// Behind one cycle of reset a latch that toggles and the complement of another agree for ever, and a latch that rises agrees with the
 /// first in two cycles.
@@ -24,4 +24,9 @@ pub fn texts_can_be_replayed()
 /// A retiming, and two latches on cycles, can be compared behind a reset sequence where both inputs are equal.
 pub fn texts_can_begin_under()
     ensures { TextsCanBeginUnder }
+{}
+
+/// The same two pairs can be compared there by ties of signals.
+pub fn texts_can_be_tied_behind()
+    ensures { TextsCanBeTiedBehind }
 {}

@@ -47,6 +47,8 @@ use Rattle.job_after.proofs.Means.{after_means}
 use Rattle.job_after.proofs.Complete.{after_complete}
 use Rattle.job_after_under.proofs.Means.{after_under_means}
 use Rattle.job_after_under.proofs.Complete.{after_under_complete}
+use Rattle.job_after_under.proofs.ties.Means.{ties_behind_mean}
+use Rattle.job_after_under.proofs.ties.Complete.{ties_behind_complete}
 use Rattle.sec_run.specs.Answer.{IsFinding}
 use Rattle.sec_run.specs.Promises.{Means, IsComplete}
 
@@ -76,6 +78,7 @@ means held (Some (task.Induct a b conflicts)) before now f proofs name found w =
 means held (Some (task.InductSignals a b conflicts)) before now f proofs name found w = signals_means (held a) (held b) before now f proofs name found w
 means held (Some (task.InductUnder a b c conflicts)) before now f proofs name found w = ties_mean conflicts (held a) (held b) (held c) before now f proofs name found w
 means held (Some (task.InductAfter a b s signals conflicts)) before now f proofs name found w = begun_means conflicts (held a) (held b) (held s) before now signals f proofs name found w
+means held (Some (task.InductAfterUnder a b c s conflicts)) before now f proofs name found w = ties_behind_mean conflicts (held a) (held b) (held c) (held s) before now f proofs name found w
 
 -- a run that ends before it has found anything says nothing
 pub memory_means : (held : Held) (job : Option Task) (before now : Option (List ℕ)) (proofs : List Proof) → Means held job before now proofs status.NoMemory
@@ -102,6 +105,7 @@ memory_means held (Some (task.Induct a b conflicts)) before now proofs = tt
 memory_means held (Some (task.InductSignals a b conflicts)) before now proofs = tt
 memory_means held (Some (task.InductUnder a b c conflicts)) before now proofs = tt
 memory_means held (Some (task.InductAfter a b s signals conflicts)) before now proofs = tt
+memory_means held (Some (task.InductAfterUnder a b c s conflicts)) before now proofs = tt
 
 pub fault_means : (held : Held) (job : Option Task) (before now : Option (List ℕ)) (proofs : List Proof) → Means held job before now proofs status.ReadFault
 fault_means held None before now proofs = tt
@@ -127,6 +131,7 @@ fault_means held (Some (task.Induct a b conflicts)) before now proofs = tt
 fault_means held (Some (task.InductSignals a b conflicts)) before now proofs = tt
 fault_means held (Some (task.InductUnder a b c conflicts)) before now proofs = tt
 fault_means held (Some (task.InductAfter a b s signals conflicts)) before now proofs = tt
+fault_means held (Some (task.InductAfterUnder a b c s conflicts)) before now proofs = tt
 
 -- a job that can be done is done, by what is found of it
 is_complete : (held : Held) (job : Option Task) (f : Finding) → IsFinding held job f → IsComplete held job (status_of f)
@@ -153,6 +158,7 @@ is_complete held (Some (task.Induct a b conflicts)) f found = induct_complete co
 is_complete held (Some (task.InductSignals a b conflicts)) f found = signals_complete (held a) (held b) f found
 is_complete held (Some (task.InductUnder a b c conflicts)) f found = ties_complete conflicts (held a) (held b) (held c) f found
 is_complete held (Some (task.InductAfter a b s signals conflicts)) f found = begun_complete signals conflicts (held a) (held b) (held s) f found
+is_complete held (Some (task.InductAfterUnder a b c s conflicts)) f found = ties_behind_complete conflicts (held a) (held b) (held c) (held s) f found
 
 -- so is one that ends at want of memory
 pub memory_is_complete : (held : Held) (job : Option Task) → IsComplete held job status.NoMemory
@@ -179,6 +185,7 @@ memory_is_complete held (Some (task.Induct a b conflicts)) = λ can. tt
 memory_is_complete held (Some (task.InductSignals a b conflicts)) = λ can. tt
 memory_is_complete held (Some (task.InductUnder a b c conflicts)) = λ can. tt
 memory_is_complete held (Some (task.InductAfter a b s signals conflicts)) = λ can. tt
+memory_is_complete held (Some (task.InductAfterUnder a b c s conflicts)) = λ can. tt
 
 -- so a run is complete that ends with a finding, or at want of memory
 pub written_is_complete : (held : Held) (job : Option Task) (before now : Option (List ℕ)) (f : Finding) (proofs : List Proof) (name : StatusName) →

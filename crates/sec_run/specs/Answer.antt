@@ -31,6 +31,7 @@ use Rattle.job_cert.specs.job_lrat.Found.{IsLratFound}
 use Rattle.job_cert.specs.Found.{IsCertFound}
 use Rattle.job_after.specs.Answer.{IsAfterFound}
 use Rattle.job_after_under.specs.Found.{IsAfterUnderFound}
+use Rattle.job_after_under.specs.ties.Found.{AreTiesBehindFound}
 use Rattle.sec_jobs.specs.job_induct.induct_meaning.Found.{IsInductFound}
 use Rattle.sec_jobs.specs.job_search.search_meaning.Found.{IsSearchFound}
 
@@ -58,6 +59,7 @@ IsFoundOfJob held (task.Induct a b conflicts) f = IsInductFound conflicts (held 
 IsFoundOfJob held (task.InductSignals a b conflicts) f = IsSignalsFound (held a) (held b) f
 IsFoundOfJob held (task.InductUnder a b c conflicts) f = AreTiesFound conflicts (held a) (held b) (held c) f
 IsFoundOfJob held (task.InductAfter a b s signals conflicts) f = IsBegunFound signals conflicts (held a) (held b) (held s) f
+IsFoundOfJob held (task.InductAfterUnder a b c s conflicts) f = AreTiesBehindFound conflicts (held a) (held b) (held c) (held s) f
 
 -- what is found: that the words are no job, or what is true of the job
 abbrev pub IsFinding : Held → Option Task → Finding → Type 0

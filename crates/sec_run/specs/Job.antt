@@ -40,6 +40,7 @@ paths_of (task.Induct a b conflicts) = induct_paths a b
 paths_of (task.InductSignals a b conflicts) = induct_paths a b
 paths_of (task.InductUnder a b c conflicts) = under_paths a b c
 paths_of (task.InductAfter a b s signals conflicts) = replay_paths a b s
+paths_of (task.InductAfterUnder a b c s conflicts) = after_under_paths a b c s
 
 -- none where the words are no job
 abbrev pub paths_in : Option Task → List (List ℕ)
@@ -70,6 +71,7 @@ GoesOn (task.Induct a b conflicts) = IsLoaded
 GoesOn (task.InductSignals a b conflicts) = IsLoaded
 GoesOn (task.InductUnder a b c conflicts) = IsLoaded
 GoesOn (task.InductAfter a b s signals conflicts) = IsLoaded
+GoesOn (task.InductAfterUnder a b c s conflicts) = IsLoaded
 
 -- words that are no job read nothing
 abbrev pub GoesOnIn : Option Task → Option (List ℕ) → Type 0

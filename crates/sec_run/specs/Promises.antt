@@ -27,6 +27,7 @@ use Rattle.job_cert.specs.job_lrat.Answer.{LratMeans, IsLratComplete}
 use Rattle.job_cert.specs.Answer.{CertMeans, IsCertComplete}
 use Rattle.job_after.specs.Answer.{AfterMeans, IsAfterComplete}
 use Rattle.job_after_under.specs.Answer.{AfterUnderMeans, IsAfterUnderComplete}
+use Rattle.job_after_under.specs.ties.Answer.{TiesBehindMean, AreTiesBehindComplete}
 use Rattle.sec_jobs.specs.job_induct.induct_meaning.Answer.{InductMeans, IsInductComplete}
 use Rattle.sec_jobs.specs.job_search.search_meaning.Answer.{SearchMeans, IsSearchComplete}
 
@@ -55,6 +56,7 @@ Means held (Some (task.Induct a b conflicts)) before now proofs name = InductMea
 Means held (Some (task.InductSignals a b conflicts)) before now proofs name = SignalsMeans (held a) (held b) before now proofs name
 Means held (Some (task.InductUnder a b c conflicts)) before now proofs name = TiesMean conflicts (held a) (held b) (held c) before now proofs name
 Means held (Some (task.InductAfter a b s signals conflicts)) before now proofs name = BegunMeans signals conflicts (held a) (held b) (held s) before now proofs name
+Means held (Some (task.InductAfterUnder a b c s conflicts)) before now proofs name = TiesBehindMean conflicts (held a) (held b) (held c) (held s) before now proofs name
 
 -- Where the job can be done, it ends so, if no read and no write fails; words that are no job are told.
 abbrev pub IsComplete : Held → Option Task → StatusName → Type 0
@@ -81,3 +83,4 @@ IsComplete held (Some (task.Induct a b conflicts)) name = IsInductComplete (held
 IsComplete held (Some (task.InductSignals a b conflicts)) name = IsInductComplete (held a) (held b) name
 IsComplete held (Some (task.InductUnder a b c conflicts)) name = AreTiesComplete conflicts (held a) (held b) (held c) name
 IsComplete held (Some (task.InductAfter a b s signals conflicts)) name = IsBegunComplete (held a) (held b) (held s) name
+IsComplete held (Some (task.InductAfterUnder a b c s conflicts)) name = AreTiesBehindComplete conflicts (held a) (held b) (held c) (held s) name

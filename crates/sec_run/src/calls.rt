@@ -15,6 +15,7 @@ ghost use Rattle.sec_run.specs.Promises.{Means, IsComplete};
 use base_shelves::{Shelf, Sink};
 use command_line::{Task, WordsError, job};
 use job_after::{AfterComparison, compare_after};
+use job_after_under::ties::{TiesBehindComparison, compare_ties_behind};
 use job_after_under::{AfterUnderComparison, compare_after_under};
 use job_base::{Finding, Status, StatusName, Stop, finish};
 use job_cert::job_lrat::{Refutation, check_refutation};
@@ -319,6 +320,22 @@ fn find<S: Shelf>(alloc: Global, task: &Task, shelf: &mut S) -> Result<Finding, 
                 conflicts: *conflicts,
             };
             compare_begun(alloc, &comparison, shelf)
+        }
+        Task::InductAfterUnder {
+            a,
+            b,
+            c,
+            s,
+            conflicts,
+        } => {
+            let comparison = TiesBehindComparison {
+                left: a.as_str(),
+                right: b.as_str(),
+                assumed: c.as_str(),
+                stimulus: s.as_str(),
+                conflicts: *conflicts,
+            };
+            compare_ties_behind(alloc, &comparison, shelf)
         }
     }
 }

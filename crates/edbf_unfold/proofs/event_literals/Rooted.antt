@@ -1,5 +1,5 @@
 -- A signal is unfolded from a frame at the root.
-use Rattle.std.proofs.Common.{◌≡◌, ◌∙◌, ◌*◌, ◌<◌, ◌≤◌, ℕ, true, false, List, [], ◌∷◌, ◌++◌, length, take, slice_get, Some, refl, sym, ap, subst, arith, inl, inr}
+use Rattle.std.proofs.Common.{◌≡◌, ◌∙◌, ◌+◌, ◌*◌, ◌<◌, ◌≤◌, ℕ, true, false, List, [], ◌∷◌, ◌++◌, length, take, slice_get, Some, refl, sym, ap, subst, arith, inl, inr}
 use Rattle.std.specs.Prelude.{◌⊎◌}
 use Rattle.std.specs.List.{All, Contains, sum_by}
 use Rattle.std.proofs.lemmas.List.{take_all}
@@ -22,17 +22,18 @@ use Rattle.event_nodes.specs.flat_net.Weights.{weight_at}
 use Rattle.event_nodes.proofs.Growing.{grows_refl, grows_trans}
 use Rattle.event_nodes.proofs.Lists.{adds_none, adds_trans, adds_at, adds_contains}
 use Rattle.edbf_unfold.specs.declared.event_literals.event_walk.frames.Frame.{Frame}
+use Rattle.edbf_unfold.specs.declared.event_literals.event_walk.frames.Put.{Put}
 use Rattle.edbf_unfold.specs.declared.event_literals.event_walk.frames.Put.TheVariants.{Low, High}
 use Rattle.edbf_unfold.specs.declared.event_literals.event_walk.frames.Step.{Step}
 use Rattle.edbf_unfold.specs.declared.event_literals.event_walk.frames.Ways.{Ways}
 use Rattle.edbf_unfold.specs.event_literals.Known.{EventUnfolderView, unfolder_of, walker_of, IsKnownAt, IsKnownIn, IsEnableLit, AreKnown, HasUnfolded, IsMet, IsLater}
 use Rattle.edbf_unfold.specs.event_literals.event_walk.Plan.{AreExpanded, IsPlanOf}
 use Rattle.edbf_unfold.specs.event_literals.event_walk.Walk.{IsSeen, IsExpanded, IsVisitedPlace, IsOpened, IsWalk, IsCounted, IsExact}
-use Rattle.edbf_unfold.specs.event_literals.event_walk.Ready.{EventWalkerView}
+use Rattle.edbf_unfold.specs.event_literals.event_walk.Ready.{EventWalkerView, put_beside, frame_beside}
 use Rattle.edbf_unfold.specs.event_literals.Built.{IsWalked, AreMetOn}
 use Rattle.edbf_unfold.proofs.event_literals.event_walk.InFrames.{interned_frame}
 use Rattle.edbf_unfold.proofs.event_literals.event_walk.Exact.{visited_later}
-use Rattle.edbf_unfold.proofs.event_literals.event_walk.Rooting.{root_path, root_visited}
+use Rattle.edbf_unfold.proofs.event_literals.event_walk.Rooting.{root_path, roots_visited}
 use Rattle.edbf_unfold.proofs.event_literals.Going.{are_known_later}
 use Rattle.edbf_unfold.proofs.event_literals.Known.{known_at_later}
 use Rattle.edbf_unfold.proofs.event_literals.event_walk.Opening.{ready_later}
@@ -50,6 +51,19 @@ frame_known i u same k is w f which known =
     kept (inl e) n g at = subst (λ (l : List Frame). slice_get l n ≡ Some g) (sym e) at
     kept (inr e) n g at = subst (λ (l : List Frame). slice_get l n ≡ Some g) (sym e) (slice_get-append i.frames (f ∷ []) n g at)
 
+-- and with the frame beside it, where both stand then
+pub both_framed : (old new : List Frame) (frame : Frame) (put : Put) (id high : ℕ) → put ≡ put_beside frame.put → slice_get old id ≡ Some frame → (new ≡ old) ⊎ (new ≡ old ++ record { node = frame.node; put = put } ∷ []) → slice_get new high ≡ Some (record { node = frame.node; put = put }) →
+    (slice_get new id ≡ Some frame) × (slice_get new high ≡ Some (frame_beside frame))
+both_framed old new frame put id high same at which beside = (
+  adds_at (λ (f : Frame). Unit {0}) old new id frame (interned_frame old new (record { node = frame.node; put = put }) which).0 at,
+  subst (λ (p : Put). slice_get new high ≡ Some (record { node = frame.node; put = p })) same beside,
+)
+
+pub both_added : (old mid new : List Frame) (f g : Frame) → (mid ≡ old) ⊎ (mid ≡ old ++ f ∷ []) → (new ≡ mid) ⊎ (new ≡ mid ++ g ∷ []) → Adds (λ f. Unit {0}) old new × (length new ≤ length old + 2)
+both_added old mid new f g first second =
+    let a = interned_frame old mid f first in
+    let b = interned_frame mid new g second in (adds_trans (λ (h : Frame). Unit {0}) old mid new a.0 b.0, omega (arith, a.1, b.1))
+
 -- and while a walk opens frames and event nodes
 pub opened_known : (u v : EventWalkerView) (memo : List ((ℕ × ℕ) × Lit)) (w x : EventGraphView) (room : ℕ) → IsOpened u v w x room → IsEventGraph w → AreKnown u.circuit w u.frames memo → AreKnown v.circuit x v.frames memo
 opened_known u v memo w x room opened is known =
@@ -57,7 +71,7 @@ opened_known u v memo w x room opened is known =
     (λ p y h. let k = are_known_later u.circuit w x u.frames memo is opened.grows known p y h in (k.0, adds_at (λ (f : Frame). Unit {0}) u.frames v.frames p.0 k.0 opened.frames k.1, k.2, k.3))
 
 -- a walk to its end gives what its places are built from
-module _ (u v : EventWalkerView) (w x : EventGraphView) (root : ℕ × ℕ) (table : List (ℕ × ℕ)) (ways : List Ways) (at weight cap : ℕ) (walk : IsWalk u v w x root table ways at weight cap) (done : length table ≤ at) where
+module _ (u v : EventWalkerView) (w x : EventGraphView) (root beside : ℕ × ℕ) (table : List (ℕ × ℕ)) (ways : List Ways) (at weight cap : ℕ) (walk : IsWalk u v w x root beside table ways at weight cap) (done : length table ≤ at) where
   pub walk_expanded : (now : List Ways) → now ≡ ways → AreExpanded v.circuit v.frames x.children table now
   walk_expanded now same = subst (AreExpanded v.circuit v.frames x.children table) (sym same) (record { each = omega (arith, walk.each, walk.inside, done); seen = walk.seen; expanded = walk.expanded })
 
@@ -99,27 +113,26 @@ next_within e now n j l same net sound at =
     subst (λ (k : EventCircuitView). l.next.0 < length k.net.drivers) same (sound.latches j l (subst (λ (m : NetView). slice_get m.latches j ≡ Some l) net at)).within
 
 -- the enable's literal is made of those of its two functions
-pub enable_lit : (e now : EventCircuitView) → now ≡ e → (w x y : EventGraphView) → IsEventGraph w → IsEventGraph x → GrowsEvents w x → GrowsEvents x y → (l : LatchAt) (f0 f1 lit : ℕ) →
-    IsKnownIn e w (record { node = 0; put = Low l.out.0 }) l.next.0 f0 → IsKnownIn now x (record { node = 0; put = High l.out.0 }) l.next.0 f1 → IsShortOr y.graph f0 (flip f1) lit → lit < 2 * length y.graph → IsEnableLit now y [] l lit
-enable_lit e now same w x y is also grows more l f0 f1 lit low high or_is within = record {
+pub enable_lit : (e : EventCircuitView) (w y : EventGraphView) → IsEventGraph w → GrowsEvents w y → (l : LatchAt) (f0 f1 lit : ℕ) → IsKnownIn e w (record { node = 0; put = Low l.out.0 }) l.next.0 f0 → IsKnownIn e w (record { node = 0; put = High l.out.0 }) l.next.0 f1 →
+    IsShortOr y.graph f0 (flip f1) lit → lit < 2 * length y.graph → IsEnableLit e y [] l lit
+enable_lit e w y is grows l f0 f1 lit low high or_is within = record {
   f0 = f0;
   f1 = f1;
-  low = known_at_later now w y is (grows_trans w x y grows more) (Some (l.out.0, false)) l.next.0 [] f0
-      (subst (λ (k : EventCircuitView). IsKnownAt k w (Some (l.out.0, false)) l.next.0 [] f0) (sym same) (subst (λ (n : List ℕ). IsKnownAt e w (Some (l.out.0, false)) l.next.0 n f0) (root_path w.children) low));
-  high = known_at_later now x y also more (Some (l.out.0, true)) l.next.0 [] f1 (subst (λ (n : List ℕ). IsKnownAt now x (Some (l.out.0, true)) l.next.0 n f1) (root_path x.children) high);
+  low = known_at_later e w y is grows (Some (l.out.0, false)) l.next.0 [] f0 (subst (λ (n : List ℕ). IsKnownAt e w (Some (l.out.0, false)) l.next.0 n f0) (root_path w.children) low);
+  high = known_at_later e w y is grows (Some (l.out.0, true)) l.next.0 [] f1 (subst (λ (n : List ℕ). IsKnownAt e w (Some (l.out.0, true)) l.next.0 n f1) (root_path w.children) high);
   or_is = or_is;
   within = within;
 }
 
 -- what a walk to its end gives, once its plan was built
-pub walked_to : (u v : EventWalkerView) (memo : List ((ℕ × ℕ) × Lit)) (t : EventUnfolderView) (w x y : EventGraphView) (c d : CounterView) (frame : Frame) (id s : ℕ) (table : List (ℕ × ℕ)) (ways : List Ways) (at weight cap room : ℕ) → slice_get u.frames id ≡ Some frame → frame.node ≡ 0 → IsWalk u v w x (id, s) table ways at weight cap →
-    IsExact u v w x c d (id, s) table at → length table ≤ at → IsLater (unfolder_of v memo) t x y room → ((p : ℕ × ℕ) → Contains table p → IsMet t.memo p) → IsWalked t y frame s d.places cap table ways
-walked_to u v memo t w x y c d frame id s table ways at weight cap room here root walk exact whole later met = record {
+pub walked_to : (u v : EventWalkerView) (memo : List ((ℕ × ℕ) × Lit)) (t : EventUnfolderView) (w x y : EventGraphView) (c d : CounterView) (frame : Frame) (id high s : ℕ) (table : List (ℕ × ℕ)) (ways : List Ways) (at weight cap room : ℕ) → (slice_get u.frames id ≡ Some frame) × (slice_get u.frames high ≡ Some (frame_beside frame)) → frame.node ≡ 0 →
+    IsWalk u v w x (id, s) (high, s) table ways at weight cap → IsExact u v w x c d (id, s) (high, s) table at → length table ≤ at → IsLater (unfolder_of v memo) t x y room → ((p : ℕ × ℕ) → Contains table p → IsMet t.memo p) → IsWalked t y frame s d.places cap table ways
+walked_to u v memo t w x y c d frame id high s table ways at weight cap room here root walk exact whole later met = record {
   number = id;
-  at = subst (λ (l : List Frame). slice_get l id ≡ Some frame) (sym later.frames) (adds_at (λ (f : Frame). Unit {0}) u.frames v.frames id frame walk.opened.frames here);
+  at = subst (λ (l : List Frame). slice_get l id ≡ Some frame) (sym later.frames) (adds_at (λ (f : Frame). Unit {0}) u.frames v.frames id frame walk.opened.frames here.0);
   begins = walk.begins;
   each = omega (arith, walk.each, walk.inside, whole);
-  few = omega (arith, walk.few, walk.small);
+  few = omega (arith, whole, walk.passed, walk.small);
   expanded = λ i p g at_i over.
       subst (λ (e : EventCircuitView). IsExpanded e t.frames y.children table p g) (sym later.circuit)
       (subst (λ (l : List Frame). IsExpanded v.circuit l y.children table p g) (sym later.frames)
@@ -133,7 +146,7 @@ walked_to u v memo t w x y c d frame id s table ways at weight cap room here roo
       subst (λ (e : EventCircuitView). All (IsVisitedPlace e t.frames y.children z) table) (sym later.circuit)
       (subst (λ (l : List Frame). All (IsVisitedPlace v.circuit l y.children z) table) (sym later.frames)
       (subst (λ (cs : List (ℕ × ℕ)). All (IsVisitedPlace v.circuit v.frames cs z) table) (sym later.grown.children)
-      (exact.visits z (root_visited u.circuit u.frames w.children frame id s here root z begins))));
+      (exact.visits z (roots_visited u.circuit u.frames w.children frame id high s here root z begins))));
 }
 
 -- the same after another signal was unfolded
@@ -161,13 +174,12 @@ walked_met t y frame s counted cap table ways k = record {
 }
 
 -- what a signal more adds
-pub unfolded_from : (i u : EventUnfolderView) → i ≡ u → (k v : EventWalkerView) → k ≡ record { circuit = i.circuit; frames = k.frames } → (t : EventUnfolderView) (w x y : EventGraphView) (f : Frame) → (k.frames ≡ i.frames) ⊎ (k.frames ≡ i.frames ++ f ∷ []) → (at cap : ℕ) → IsOpened k v w x at →
-    at ≤ cap → IsLater (unfolder_of v i.memo) t x y cap → HasUnfolded u t w y cap
-unfolded_from i u same k v is t w x y f which at cap opened few later =
-    subst (λ (l : EventUnfolderView). HasUnfolded l t w y cap) same
-    (let one = interned_frame i.frames k.frames f which in
-    record {
-      circuit = later.circuit ∙ (opened.circuit ∙ ap (λ (l : EventWalkerView). l.circuit) is);
+pub unfolded_from : (i u : EventUnfolderView) → i ≡ u → (k v : EventWalkerView) → k.circuit ≡ u.circuit → (t : EventUnfolderView) (w x y : EventGraphView) → Adds (λ f. Unit {0}) i.frames k.frames × (length k.frames ≤ length i.frames + 2) → (at cap : ℕ) → IsOpened k v w x at → at ≤ cap →
+    IsLater (unfolder_of v i.memo) t x y cap → HasUnfolded u t w y (cap + 1)
+unfolded_from i u same k v is t w x y one at cap opened few later =
+    subst (λ (l : EventUnfolderView). HasUnfolded l t w y (cap + 1)) same
+    (record {
+      circuit = later.circuit ∙ (opened.circuit ∙ (is ∙ sym (ap (λ (l : EventUnfolderView). l.circuit) same)));
       grows = grows_trans w x y opened.grows later.grown.grows;
       frames = subst (λ (l : List Frame). Adds (λ (g : Frame). Unit {0}) i.frames l) (sym later.frames) (adds_trans (λ (g : Frame). Unit {0}) i.frames k.frames v.frames one.0 opened.frames);
       few_frames = omega (arith, ap length later.frames, opened.few_frames, one.1, few);

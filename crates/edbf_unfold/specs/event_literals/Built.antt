@@ -1,5 +1,5 @@
 -- What an unfolding of a signal has met, and what it asks for.
-use Rattle.std.specs.Prelude.{◌≡◌, ℕ, ◌+◌, ◌*◌, ◌<◌, ◌≤◌, List, length, slice_get, Some, All, Contains}
+use Rattle.std.specs.Prelude.{◌≡◌, ℕ, ◌<◌, ◌≤◌, List, length, slice_get, Some, All, Contains}
 use Rattle.circuit_theory.specs.EventSizes.{Start}
 use Rattle.event_nodes.specs.Nodes.{EventGraphView}
 use Rattle.event_nodes.specs.Visited.{CounterView, IsWeighed}
@@ -28,7 +28,7 @@ pub record IsWalked (u : EventUnfolderView) (w : EventGraphView) (frame : Frame)
   pub at : slice_get u.frames number ≡ Some frame
   pub begins : Contains table (number, s)
   pub each : length ways ≡ length table
-  pub few : length table ≤ 1 + 2 * cap
+  pub few : length table ≤ cap
   pub expanded : (i : ℕ) (p : ℕ × ℕ) (g : Ways) → slice_get table i ≡ Some p → slice_get ways i ≡ Some g → IsExpanded u.circuit u.frames w.children table p g
   pub met : (p : ℕ × ℕ) → Contains table p → IsMet u.memo p
   pub done : (p : ℕ × ℕ) → Contains table p → IsCounted u.frames counted p

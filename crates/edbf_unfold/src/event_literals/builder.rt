@@ -9,22 +9,24 @@ ghost use Rattle.event_nodes.specs.Nodes.{EventGraphView, GrowsEvents};
 ghost use Rattle.edbf_unfold.specs.declared.event_literals.event_walk.frames.Frame.{Frame};
 ghost use Rattle.edbf_unfold.specs.declared.event_literals.event_walk.frames.Step.{Step};
 ghost use Rattle.edbf_unfold.specs.event_literals.event_walk.Plan.{AreExpanded};
-ghost use Rattle.edbf_unfold.specs.event_literals.event_walk.Ready.{IsPlan};
+ghost use Rattle.edbf_unfold.specs.event_literals.event_walk.Ready.{IsPlan, frame_beside};
 ghost use Rattle.edbf_unfold.specs.event_literals.event_walk.Walk.{IsCounting, IsRefused, IsRootOf, IsCountedOn};
 ghost use Rattle.edbf_unfold.specs.event_literals.Known.{AreKnown, IsKnownIn, HasUnfolded, IsMet, IsReady, IsLater, HasGrown, IsInputLit, IsReadLit, IsGateLit};
 ghost use Rattle.edbf_unfold.specs.event_literals.Built.{IsReadyFor, IsWalked};
 
 use crate::event_literals::event_walk::{
     Counter, Driver, EventCircuit, EventGraph, EventUnfoldError, EventWalker, Frame, Lit, NoMemory,
-    Place, PlaceTable, Signal, Step, Ways, constant, gate_of, latch_of,
+    Place, PlaceTable, Signal, Step, Ways, beside, constant, gate_of, latch_of,
 };
 use aig::graph_copy::memo::Memo;
 use std::alloc::Global;
 use std::marker::Model;
 
-/// A literal, and the places that its unfolding visits, each with its ways.
+/// A signal's literals in a frame and in the one beside it, and the places that both unfoldings visit, each with its ways.
 pub struct Unfolding {
     pub lit: Lit,
+    /// In the frame beside: with the latch as 1 where it is put as 0, and else the same.
+    pub high: Lit,
     pub table: PlaceTable,
     pub ways: Vec<Ways>,
 }
@@ -34,6 +36,7 @@ impl Drop for Unfolding {
     fn drop(self) {
         let Unfolding {
             lit: _,
+            high: _,
             table: _,
             ways: _,
         } = self;
@@ -91,8 +94,8 @@ impl<'a> EventBuilder<'a> {
         self.memo.met(place)
     }
 
-    /// The literal of the signal in the frame, at the root, and the places that its unfolding visits. At most so many nodes are added to the
-    /// graph. `TooManyEvents` comes where more than 10,000 event nodes are reached by then, and `TooLarge` where what was counted weighs
+    /// The literals of the signal in the frame, at the root, and in the one beside it, and the places that both unfoldings visit. At most
+    /// so many nodes are added to the graph. `TooManyEvents` comes where more than 10,000 event nodes are reached by then, and `TooLarge` where what was counted weighs
     /// more than 2,000,000; `NoMemory` also where the graph would grow by more.
     pub fn unfold_in(
         &mut self,
@@ -108,18 +111,24 @@ impl<'a> EventBuilder<'a> {
         requires known { AreKnown self.old.circuit events.old self.old.frames self.old.memo }
         requires room { IsReadyFor self.old events.old counter.old cap cap }
         ensures known { OnOk result (AreKnown self.new.circuit events.new self.new.frames self.new.memo) }
-        ensures here { IfOk result (λ r. IsKnownIn self.new.circuit events.new frame s.0 r.lit.0) }
+        ensures here { IfOk result (λ r. IsKnownIn self.new.circuit events.new frame s.0 r.lit.0 × IsKnownIn self.new.circuit events.new (frame_beside frame) s.0 r.high.0) }
         ensures walked { IfOk result (λ r. IsWalked self.new events.new frame s.0 counter.new.places cap r.table r.ways.items) }
-        ensures unfolded { OnOk result (HasUnfolded self.old self.new events.old events.new cap × IsCountedOn self.old.circuit.net events.new.children counter.old counter.new) }
+        ensures unfolded { OnOk result (HasUnfolded self.old self.new events.old events.new (cap + 1) × IsCountedOn self.old.circuit.net events.new.children counter.old counter.new) }
         ensures counting { GrowsEvents events.old events.new × ((x : Start ℕ) → IsRootOf frame s.0 x → IsCounting self.old.circuit x events.old.children events.new.children counter.old counter.new) }
         ensures refused { IsRefused self.old.circuit.net events.new.children counter.new.places result }
     {
         events.keeps();
-        let root = (self.walker.intern(frame)?, s.0);
-        let (table, ways) = self.walker.visited(alloc, events, counter, root, cap)?;
+        let root = self.walker.intern(frame)?;
+        let put = beside(frame.put);
+        let node = frame.node;
+        let high = self.walker.intern(Frame { node, put })?;
+        let (table, ways) = self
+            .walker
+            .visited(alloc, events, counter, (root, s.0), (high, s.0), cap)?;
         self.build_all(alloc, events, &table, ways.as_slice())?;
         Ok(Unfolding {
-            lit: self.met(root),
+            lit: self.met((root, s.0)),
+            high: self.met((high, s.0)),
             table,
             ways,
         })

@@ -9,5 +9,5 @@ pub use event_nodes::{
     Aig, Counter, Driver, EventCircuit, EventGraph, EventUnfoldError, Ids, Lit, NoMemory, Place,
     PlaceTable, Seq, Signal, gate_of, latch_of,
 };
-pub use frames::{Frame, Put, Step, Ways, constant};
+pub use frames::{Frame, Put, Step, Ways, beside, constant};
 pub use walker::EventWalker;

@@ -116,7 +116,7 @@ fn by_blocks(
 }
 
 /// What is told of the comparison, behind what is known of both nets.
-fn text_behind(
+pub fn text_behind(
     alloc: Global,
     a: &Net,
     b: &Net,

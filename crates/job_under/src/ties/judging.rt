@@ -31,7 +31,7 @@ use std::alloc::Global;
 /// Compares the circuits under the assumption, where their interfaces match. It refuses, in this order: interfaces that don't match; the first
 /// fault of `c` as an assumption on the inputs of both; a `c` that no row of inputs meets; the size of A, of B. Where it isn't decided whether
 /// some row meets `c`, nothing is compared.
-pub(crate) fn judge_ties(
+pub fn judge_ties(
     alloc: Global,
     a: &Net,
     b: &Net,

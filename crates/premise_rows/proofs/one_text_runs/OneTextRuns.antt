@@ -39,6 +39,7 @@ job_equal held (Some (task.Induct a b conflicts)) f can found is = absurd can
 job_equal held (Some (task.InductSignals a b conflicts)) f can found is = absurd can
 job_equal held (Some (task.InductUnder a b c conflicts)) f can found is = absurd can
 job_equal held (Some (task.InductAfter a b s signals conflicts)) f can found is = absurd can
+job_equal held (Some (task.InductAfterUnder a b c s conflicts)) f can found is = absurd can
 
 pub is_answered : (held : Held) (job : Option Task) (name : StatusName) → OfCheck job (CanMeetItself held) → IsComplete held job name → IsAnswer name
 is_answered held None name can complete = absurd can
@@ -65,6 +66,7 @@ is_answered held (Some (task.Induct a b conflicts)) name can complete = absurd c
 is_answered held (Some (task.InductSignals a b conflicts)) name can complete = absurd can
 is_answered held (Some (task.InductUnder a b c conflicts)) name can complete = absurd can
 is_answered held (Some (task.InductAfter a b s signals conflicts)) name can complete = absurd can
+is_answered held (Some (task.InductAfterUnder a b c s conflicts)) name can complete = absurd can
 
 -- the run ends equal, or at want of memory
 pub ends_equal : (held : Held) (before now : Option (List ℕ)) (job : Option Task) (proofs : List Proof) (name : StatusName) → EndsAs before now held job proofs name → OfCheck job (CanMeetItself held) → IsAnswer name → IsEqualAnswer name

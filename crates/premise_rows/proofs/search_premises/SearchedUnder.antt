@@ -16,11 +16,11 @@ use Rattle.blif_read.specs.Design.{Place, walk, circuit_of_design}
 use Rattle.blif_read.specs.Fault.{fault_of}
 use Rattle.blif_read.specs.Heads.{head_of}
 use Rattle.flat_net.specs.View.{NetView, circuit_of, ports_of}
+use Rattle.block_refine.specs.latch_blocks.Signals.{net_weight}
 use Rattle.cycle_under.specs.declared.found.UnderError.{UnderError}
 use Rattle.cycle_under.specs.declared.found.UnderError.TheVariants as refused
 use Rattle.cycle_under.specs.Searches.{SearchesUnder}
 use Rattle.job_base.specs.sec_files.Loading.{Loads}
-use Rattle.induct.specs.declared.induction.InductError.TheVariants as heavy
 use Rattle.job_under.specs.Answer.{CanBeJudgedBy}
 use Rattle.job_under.specs.Found.{SearchRefuses}
 use Rattle.job_under.specs.ties.Found.{TiesRefuse}
@@ -53,28 +53,23 @@ stands l r c matches names_are v w left right few_left few_right lc cycles confl
 stands l r c matches names_are v w left right few_left few_right lc cycles conflicts (refused.TooLarge B) other h = not_too_large r w right few_right h.2
 stands l r c matches names_are v w left right few_left few_right lc cycles conflicts refused.NoMemory other h = other refl
 
+-- so does their comparison by ties
+pub ties_stand : (l r c : NetView) → first_mismatch (ports_of l) (ports_of r) ≡ None → shared_inputs (ports_of l) (ports_of r) ≡ codes "a" ∷ codes "b" ∷ [] → net_weight l ≤ 2000000 → net_weight r ≤ 2000000 → Loads same c → (conflicts : ℕ) (e : UnderError) →
+    e ≢ refused.NoMemory → TiesRefuse conflicts l r c e → ⊥
+ties_stand l r c matches names_are few_left few_right lc conflicts (refused.Interface name) other h = let e : Some name ≡ None = sym h ∙ matches in cc
+ties_stand l r c matches names_are few_left few_right lc conflicts (refused.Assume f) other h =
+    no_fault (shared_inputs (ports_of l) (ports_of r)) (λ name has. subst (λ (ns : List (List ℕ)). Contains ns name) (sym names_are) has) c (net_is_small same same_design small_same same_spells c lc) f h.1
+ties_stand l r c matches names_are few_left few_right lc conflicts (refused.Vacuous by) other h = h.1.never (λ i. true) (ones_meet c lc (shared_inputs (ports_of l) (ports_of r)) h.1.assumed)
+ties_stand l r c matches names_are few_left few_right lc conflicts (refused.TooLarge A) other h = omega (arith, few_left, h.2)
+ties_stand l r c matches names_are few_left few_right lc conflicts (refused.TooLarge B) other h = omega (arith, few_right, (h.2).1)
+ties_stand l r c matches names_are few_left few_right lc conflicts refused.NoMemory other h = other refl
+
 -- a and b are the inputs that both have
 abbrev pub ShareInputs : Small → Small → Type 0
 ShareInputs s t = (own others : List (List ℕ)) → shared_inputs (small_ports s own) (small_ports t others) ≡ codes "a" ∷ codes "b" ∷ []
 
 module _ (x y : List ℕ) (m k : List BlifModel) (s t : Small) (p : Spells x m s) (q : Spells y k t) (ports : PortsMatch s t) (shared : ShareInputs s t) (v w : ℕ) (left_is : circuit_weight (circuit_of_design m None) ≡ v)
     (right_is : circuit_weight (circuit_of_design k None) ≡ w) (few_left : v ≤ 2000000) (few_right : w ≤ 2000000) where
-  module _ (a b : NetView) (la : Loads x a) (lb : Loads y b) where
-    abbrev names : List (List ℕ)
-    names = shared_inputs (ports_of a) (ports_of b)
-
-    names_are : names ≡ codes "a" ∷ codes "b" ∷ []
-    names_are = ap₂ (λ (l r : Ports). shared_inputs l r) (ports_are s a (net_is_small x m s p a la)) (ports_are t b (net_is_small y k t q b lb)) ∙ shared (ports_of a).read (ports_of b).read
-
-    ties_stand : (c : NetView) → Loads same c → (conflicts : ℕ) (e : UnderError) → e ≢ refused.NoMemory → TiesRefuse conflicts a b c e → ⊥
-    ties_stand c lc conflicts (refused.Interface name) other h = let e : Some name ≡ None = sym h ∙ match s t a b (net_is_small x m s p a la) (net_is_small y k t q b lb) ports in cc
-    ties_stand c lc conflicts (refused.Assume f) other h =
-        no_fault names (λ name has. subst (λ (ns : List (List ℕ)). Contains ns name) (sym names_are) has) c (net_is_small same same_design small_same same_spells c lc) f h.1
-    ties_stand c lc conflicts (refused.Vacuous by) other h = h.1.never (λ i. true) (ones_meet c lc names h.1.assumed)
-    ties_stand c lc conflicts (refused.TooLarge A) other h = let few = light x m s p v left_is few_left a la in omega (arith, few, h.2)
-    ties_stand c lc conflicts (refused.TooLarge B) other h = let few = light y k t q w right_is few_right b lb in omega (arith, few, (h.2).1)
-    ties_stand c lc conflicts refused.NoMemory other h = other refl
-
   searchable : (cycles conflicts : ℕ) → CanBeJudgedBy (SearchRefuses cycles conflicts) x y same
   searchable cycles conflicts = record {
     left = accepted x m s p;
@@ -92,7 +87,11 @@ module _ (x y : List ℕ) (m k : List BlifModel) (s t : Small) (p : Spells x m s
     left = accepted x m s p;
     right = accepted y k t q;
     assumed = accepted same same_design small_same same_spells;
-    stands = λ a b c la lb lc e other h. ties_stand a b la lb c lc conflicts e other h;
+    stands = λ a b c la lb lc e other h.
+        let left = net_is_small x m s p a la in
+        let right = net_is_small y k t q b lb in
+        ties_stand a b c (match s t a b left right ports) (ap₂ (λ (l r : Ports). shared_inputs l r) (ports_are s a left) (ports_are t b right) ∙ shared (ports_of a).read (ports_of b).read) (light x m s p v left_is few_left a la)
+        (light y k t q w right_is few_right b lb) lc conflicts e other h;
   }
 
 -- the latch turns where both fan-ins before it are 1, and where either is

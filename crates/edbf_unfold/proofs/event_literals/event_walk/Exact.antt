@@ -3,7 +3,7 @@ use Rattle.std.proofs.Common.{◌≡◌, ◌∙◌, ◌+◌, ◌<◌, ◌≤◌,
 use Rattle.std.specs.Prelude.{◌⊎◌}
 use Rattle.std.specs.List.{All, Contains}
 use Rattle.std.proofs.lemmas.Bool.{cases_lt}
-use Rattle.std.proofs.lemmas.List.Elements.{All-nil, All-cons, All-append, All-weaker}
+use Rattle.std.proofs.lemmas.List.Elements.{All-append, All-weaker}
 use Rattle.std.proofs.lemmas.Option.{slice_get_within}
 use Rattle.circuit_theory.specs.EventSizes.{Start, EventVisits}
 use Rattle.circuit_theory.specs.EventTotals.{StartLatches}
@@ -21,7 +21,7 @@ use Rattle.event_nodes.proofs.Paths.{path_grows}
 use Rattle.event_nodes.proofs.Visits.{visits_more}
 use Rattle.edbf_unfold.specs.declared.event_literals.event_walk.frames.Frame.{Frame}
 use Rattle.edbf_unfold.specs.event_literals.event_walk.Ready.{EventWalkerView}
-use Rattle.edbf_unfold.specs.event_literals.event_walk.Walk.{IsOpened, IsVisitedPlace, IsCounted, IsCounting, IsExact}
+use Rattle.edbf_unfold.specs.event_literals.event_walk.Walk.{IsOpened, IsVisitedPlace, AreVisitedPlaces, IsCounted, IsCounting, IsExact}
 
 -- a node keeps its path
 path_later : (w x : EventGraphView) → GrowsEvents w x → (n : ℕ) → n ≤ length w.children → path_of x.children n ≡ path_of w.children n
@@ -96,9 +96,10 @@ counting_more e frames s old children c d b p f k visited inside at adds = recor
       visit = visits_more (side_of e) (Enabled e) (s ∷ []) starts (among starts there) (subst (λ (g : Frame). EventVisits (side_of e) (Enabled e) (s ∷ []) visited.out p.1 (path_of children g.node)) frame_is visited.visit);
     }
 
-pub exact_first : (u : EventWalkerView) (w : EventGraphView) (c : CounterView) (root : ℕ × ℕ) (table : List (ℕ × ℕ)) → table ≡ root ∷ [] → IsWeighed u.circuit.net c → length w.children < 10000 → IsExact u u w w c c root table 0
-exact_first u w c root table is weighed few = record {
-  visits = λ s visited. subst (All (IsVisitedPlace u.circuit u.frames w.children s)) (sym is) (All-cons (IsVisitedPlace u.circuit u.frames w.children s) root [] visited (All-nil (IsVisitedPlace u.circuit u.frames w.children s)));
+pub exact_first : (u : EventWalkerView) (w : EventGraphView) (c : CounterView) (root beside : ℕ × ℕ) (table : List (ℕ × ℕ)) → ((s : Start ℕ) → AreVisitedPlaces u.circuit u.frames w.children s root beside → All (IsVisitedPlace u.circuit u.frames w.children s) table) →
+    IsWeighed u.circuit.net c → length w.children < 10000 → IsExact u u w w c c root beside table 0
+exact_first u w c root beside table visits weighed few = record {
+  visits = visits;
   counting = λ s visited. record { more = adds_none (λ (q : ℕ × ℕ). Unit {0}) w.children w.children refl; nodes = λ k n class from at. absurd (let inside = slice_get_within w.children k (n, class) at in omega (arith, inside, from)); counted = λ starts there all. all };
   done = λ i p below at. absurd (omega (arith, below));
   weighed = weighed;
@@ -107,10 +108,10 @@ exact_first u w c root table is weighed few = record {
 }
 
 -- one place more is counted and expanded
-pub exact_more : (u v t : EventWalkerView) (w x y : EventGraphView) (c d b : CounterView) (root : ℕ × ℕ) (table new : List (ℕ × ℕ)) (at : ℕ) (p : ℕ × ℕ) (f : Frame) → IsTree x.children → IsExact u v w x c d root table at → v.circuit ≡ u.circuit →
+pub exact_more : (u v t : EventWalkerView) (w x y : EventGraphView) (c d b : CounterView) (root beside : ℕ × ℕ) (table new : List (ℕ × ℕ)) (at : ℕ) (p : ℕ × ℕ) (f : Frame) → IsTree x.children → IsExact u v w x c d root beside table at → v.circuit ≡ u.circuit →
     slice_get table at ≡ Some p → p.1 < length v.circuit.net.drivers → slice_get v.frames p.0 ≡ Some f → IsOpened v t x y 1 → Adds (λ q. Unit {0}) table new → Adds (λ q. q ≡ (f.node, p.1)) d.places b.places → Contains b.places (f.node, p.1) → IsWeighed u.circuit.net b →
-    length y.children < 10000 → ((s : Start ℕ) → IsVisitedPlace v.circuit v.frames x.children s p → Adds (IsVisitedPlace t.circuit t.frames y.children s) table new × AreNodesFrom v.circuit y.children s (length x.children)) → IsExact u t w y c b root new (at + 1)
-exact_more u v t w x y c d b root table new at p f tree exact circuit here inside framed opened adds counted there weighed few going = record {
+    length y.children < 10000 → ((s : Start ℕ) → IsVisitedPlace v.circuit v.frames x.children s p → Adds (IsVisitedPlace t.circuit t.frames y.children s) table new × AreNodesFrom v.circuit y.children s (length x.children)) → IsExact u t w y c b root beside new (at + 1)
+exact_more u v t w x y c d b root beside table new at p f tree exact circuit here inside framed opened adds counted there weighed few going = record {
   visits = λ s root_visited.
       let all = exact.visits s root_visited in
       let more = (going s (All-at (IsVisitedPlace v.circuit v.frames x.children s) table at p here all)).0 in
@@ -140,21 +141,3 @@ exact_more u v t w x y c d b root table new at p f tree exact circuit here insid
         let last : i ≡ at = omega (arith, l, below) in
         let same : p ≡ q = one_at new at p q (adds_at (λ (r : ℕ × ℕ). Unit {0}) table new at p adds here) (subst (λ (k : ℕ). slice_get new k ≡ Some q) last place) in
         subst (IsCounted t.frames b.places) same (f, adds_at (λ (g : Frame). Unit {0}) v.frames t.frames p.0 f opened.frames framed, there)
-
--- one unfolding after another, from the same start
-pub counting_trans : (e : EventCircuitView) (s : Start ℕ) (old mid new : List (ℕ × ℕ)) (c d b : CounterView) → IsTree mid → IsCounting e s old mid c d → IsCounting e s mid new d b → IsCounting e s old new c b
-counting_trans e s old mid new c d b tree first second = record {
-  more = adds_trans (λ (q : ℕ × ℕ). Unit {0}) old mid new first.more second.more;
-  nodes = λ k n class from at. go k n class from at (cases_lt k (length mid));
-  counted = λ starts there all. second.counted starts there (first.counted starts there all);
-}
-  where
-    go : (k n class : ℕ) → length old ≤ k → slice_get new k ≡ Some (n, class) → (k < length mid) ⊎ (length mid ≤ k) → IsNode (side_of e) (Enabled e) (StartLatches (side_of e) (s ∷ [])) (class ∷ path_of new n)
-    go k n class from at (inl l) =
-        let was = some_at mid k l in
-        let same : was.0 ≡ (n, class) = one_at new k was.0 (n, class) (adds_at (λ (q : ℕ × ℕ). Unit {0}) mid new k was.0 second.more was.1) at in
-        let own : slice_get mid k ≡ Some (n, class) = was.1 ∙ ap Some same in
-        let below = tree k n class own in
-        let path : path_of new n ≡ path_of mid n = ap (λ (es : List (ℕ × ℕ)). path_of es n) second.more.is ∙ path_grows mid second.more.more n (omega (arith, below, l)) in
-        subst (λ (m : List ℕ). IsNode (side_of e) (Enabled e) (StartLatches (side_of e) (s ∷ [])) (class ∷ m)) (sym path) (first.nodes k n class from own)
-    go k n class from at (inr l) = second.nodes k n class l at

@@ -12,7 +12,7 @@ use Rattle.event_nodes.specs.flat_net.Gate.{Gate}
 use Rattle.event_nodes.specs.flat_net.LatchAt.{LatchAt}
 use Rattle.event_nodes.specs.flat_net.Driver.TheVariants as driver
 use Rattle.event_nodes.specs.flat_net.Sound.{IsSound}
-use Rattle.event_nodes.specs.flat_net.View.{NetView, circuit_of}
+use Rattle.event_nodes.specs.flat_net.View.{circuit_of}
 use Rattle.event_nodes.proofs.flat_net.Places.{one_at}
 use Rattle.event_nodes.specs.Lit.{Lit}
 use Rattle.edbf_unfold.specs.declared.event_literals.event_walk.frames.Frame.{Frame}

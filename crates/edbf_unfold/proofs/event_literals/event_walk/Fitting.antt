@@ -1,5 +1,5 @@
 -- A signal that doesn't reach the latch that is put, and where it may be read.
-use Rattle.std.proofs.Common.{◌≡◌, ◌∙◌, ◌<◌, ◌≤◌, ℕ, List, Option, Some, None, refl, sym, subst, arith, inl, inr}
+use Rattle.std.proofs.Common.{◌≡◌, ◌∙◌, ℕ, List, Option, Some, None, refl, sym, subst, inl, inr}
 use Rattle.std.proofs.lemmas.Option.{same_Some}
 use Rattle.circuit_theory.specs.Circuit.{Reads, Reaches}
 use Rattle.circuit_theory.specs.Frame.{NotPut}

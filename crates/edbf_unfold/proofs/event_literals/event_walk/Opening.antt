@@ -3,11 +3,10 @@ use Rattle.std.proofs.Common.{◌≡◌, ◌∙◌, ◌+◌, ◌-◌, ◌*◌, �
 use Rattle.std.specs.Prelude.{◌⊎◌}
 use Rattle.std.specs.List.{All, Contains, sum_by}
 use Rattle.std.proofs.lemmas.List.Sums.{sum_by_more}
-use Rattle.std.proofs.lemmas.List.Elements.{All-nil, All-cons, All-append, All-weaker}
+use Rattle.std.proofs.lemmas.List.Elements.{All-nil, All-append, All-weaker}
 use Rattle.std.proofs.lemmas.Option.{slice_get_within, get_or_from_slice_get, none-some}
 use Rattle.event_nodes.specs.flat_net.Signal.{Signal}
 use Rattle.event_nodes.specs.flat_net.LatchAt.{LatchAt}
-use Rattle.circuit_theory.proofs.Lists.{Contains-head}
 use Rattle.event_nodes.proofs.flat_net.Growth.{length-push, slice_get-append, slice_get-push_cases}
 use Rattle.event_nodes.proofs.flat_net.Nets.{some_at}
 use Rattle.event_nodes.proofs.flat_net.Places.{one_at}
@@ -117,10 +116,11 @@ ready_later e frames new w x M N step adds grows to r = record {
 }
 
 -- one place more is expanded
-pub walk_more : (u v t : EventWalkerView) (w x y : EventGraphView) (root : ℕ × ℕ) (table new : List (ℕ × ℕ)) (ways : List Ways) (at weight more cap : ℕ) (p : ℕ × ℕ) (g : Ways) → IsWalk u v w x root table ways at weight cap → slice_get table at ≡ Some p →
-    IsOpened v t x y 1 → Adds (IsSeen t.circuit t.frames y.children) table new → IsExpanded t.circuit t.frames y.children new p g → length new ≤ length table + 2 * more → 1 ≤ more → more ≤ cap - weight → more ≡ weight_at v.circuit.net p.1 → IsWalk u t w y root new (ways ++ g ∷ []) (at + 1) (weight + more) cap
-walk_more u v t w x y root table new ways at weight more cap p g walk here opened adds expanded few some room heavy = record {
+pub walk_more : (u v t : EventWalkerView) (w x y : EventGraphView) (root beside : ℕ × ℕ) (table new : List (ℕ × ℕ)) (ways : List Ways) (at weight more cap : ℕ) (p : ℕ × ℕ) (g : Ways) → IsWalk u v w x root beside table ways at weight cap → slice_get table at ≡ Some p →
+    IsOpened v t x y 1 → Adds (IsSeen t.circuit t.frames y.children) table new → IsExpanded t.circuit t.frames y.children new p g → length new ≤ length table + 2 * more → 1 ≤ more → more ≤ cap - weight → more ≡ weight_at v.circuit.net p.1 → IsWalk u t w y root beside new (ways ++ g ∷ []) (at + 1) (weight + more) cap
+walk_more u v t w x y root beside table new ways at weight more cap p g walk here opened adds expanded few some room heavy = record {
   begins = adds_contains (IsSeen t.circuit t.frames y.children) table new root adds walk.begins;
+  begins_beside = adds_contains (IsSeen t.circuit t.frames y.children) table new beside adds walk.begins_beside;
   seen = subst (All (IsSeen t.circuit t.frames y.children)) (sym adds.is)
       (All-append (IsSeen t.circuit t.frames y.children) table adds.more
       (All-weaker (IsSeen v.circuit v.frames x.children) (IsSeen t.circuit t.frames y.children) (λ q s. seen_later v t x y 1 q opened (children_more x y opened.grows) s) table walk.seen) adds.each);
@@ -153,16 +153,24 @@ walk_more u v t w x y root table new ways at weight more cap p g walk here opene
         let same : p ≡ q = one_at new at p q (adds_at (IsSeen t.circuit t.frames y.children) table new at p adds here) (subst (λ (k : ℕ). slice_get new k ≡ Some q) place at_i) in
         subst (λ (r : ℕ × ℕ). IsExpanded t.circuit t.frames y.children new r h) same (subst (λ (k : Ways). IsExpanded t.circuit t.frames y.children new p k) e.1 expanded)
 
-pub walk_first : (u : EventWalkerView) (w : EventGraphView) (root : ℕ × ℕ) (table : List (ℕ × ℕ)) (cap : ℕ) → IsSeen u.circuit u.frames w.children root → table ≡ root ∷ [] → IsWalk u u w w root table [] 0 0 cap
-walk_first u w root table cap seen is = subst (λ (t : List (ℕ × ℕ)). IsWalk u u w w root t [] 0 0 cap) (sym is) (record {
-  begins = Contains-head root [];
-  seen = All-cons (IsSeen u.circuit u.frames w.children) root [] seen (All-nil (IsSeen u.circuit u.frames w.children));
+-- what holds of two places holds of all in a table of these two
+pub both_hold : (P : ℕ × ℕ → Type 0) (none one two : List (ℕ × ℕ)) (p q : ℕ × ℕ) → none ≡ [] → Adds (λ r. r ≡ p) none one → Adds (λ r. r ≡ q) one two → P p → P q → All P two
+both_hold P none one two p q empty first second holds other = more one two q (more none one p (subst (All P) (sym empty) (All-nil P)) first holds) second other
+  where
+    more : (xs ys : List (ℕ × ℕ)) (x : ℕ × ℕ) → All P xs → Adds (λ r. r ≡ x) xs ys → P x → All P ys
+    more xs ys x all adds own = subst (All P) (sym adds.is) (All-append P xs adds.more all (All-weaker (λ (r : ℕ × ℕ). r ≡ x) P (λ r same. subst P (sym same) own) adds.more adds.each))
+
+pub walk_first : (u : EventWalkerView) (w : EventGraphView) (root beside : ℕ × ℕ) (table : List (ℕ × ℕ)) (cap : ℕ) → All (IsSeen u.circuit u.frames w.children) table → Contains table root → Contains table beside → length table ≤ 2 → IsWalk u u w w root beside table [] 0 0 cap
+walk_first u w root beside table cap seen begins also few = record {
+  begins = begins;
+  begins_beside = also;
+  seen = seen;
   each = refl;
   expanded = λ i p g at over. absurd (none-some g over);
   opened = opened_none u w 0;
   inside = omega arith;
   weighs = refl;
-  few = omega arith;
+  few = omega (arith, few);
   passed = omega arith;
   small = omega arith;
-})
+}

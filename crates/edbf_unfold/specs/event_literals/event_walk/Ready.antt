@@ -16,6 +16,16 @@ put_of Free = None
 put_of (Low u) = Some (u, false)
 put_of (High u) = Some (u, true)
 
+-- what is put beside: the latch as 1 where it is put as 0, and else the same
+abbrev pub put_beside : Put → Put
+put_beside Free = Free
+put_beside (Low u) = High u
+put_beside (High u) = High u
+
+-- the frame of the same node with that put
+abbrev pub frame_beside : Frame → Frame
+frame_beside f = record { node = f.node; put = put_beside f.put }
+
 -- what is put at the child through the latch: the latch itself as 0 if it is enabled
 abbrev pub IsOwnPut : EventCircuitView → ℕ → Put → Type 0
 IsOwnPut e u put = (Enabled e u × (put ≡ Low u)) ⊎ ((Enabled e u → ⊥) × (put ≡ Free))

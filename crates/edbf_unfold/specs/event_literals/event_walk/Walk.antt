@@ -46,6 +46,10 @@ pub record IsVisitedPlace (e : EventCircuitView) (frames : List Frame) (children
   pub fits : IsFitting e.net frame.put out p.1
   pub visit : EventVisits (side_of e) (Enabled e) (s ∷ []) out p.1 (path_of children frame.node)
 
+-- it visits both places
+abbrev pub AreVisitedPlaces : EventCircuitView → List Frame → List (ℕ × ℕ) → Start ℕ → ℕ × ℕ → ℕ × ℕ → Type 0
+AreVisitedPlaces e frames children s p q = IsVisitedPlace e frames children s p × IsVisitedPlace e frames children s q
+
 -- a fan-in in its frame: its own, or the other one if the latch that is put isn't reached from it
 abbrev pub IsFrameFor : NetView → Put → ℕ → ℕ → ℕ → ℕ → Type 0
 IsFrameFor n put own free q k = (k ≡ own) ⊎ (IsFreeOf n put q × (k ≡ free))
@@ -98,16 +102,18 @@ pub record IsOpened (u v : EventWalkerView) (w x : EventGraphView) (room : ℕ) 
   pub places : x.places ≡ w.places
   pub few_frames : length v.frames ≤ length u.frames + 2 * room
 
--- The walk so far, from the root: all places in the table are seen, and the first ones are expanded, each with its ways.
-pub record IsWalk (u v : EventWalkerView) (w x : EventGraphView) (root : ℕ × ℕ) (table : List (ℕ × ℕ)) (ways : List Ways) (at weight cap : ℕ) : Type 0 where
+-- The walk so far, from the root and the place beside it: all places in the table are seen, and the first ones are expanded, each with
+-- its ways.
+pub record IsWalk (u v : EventWalkerView) (w x : EventGraphView) (root beside : ℕ × ℕ) (table : List (ℕ × ℕ)) (ways : List Ways) (at weight cap : ℕ) : Type 0 where
   pub begins : Contains table root
+  pub begins_beside : Contains table beside
   pub seen : All (IsSeen v.circuit v.frames x.children) table
   pub each : length ways ≡ at
   pub expanded : (i : ℕ) (p : ℕ × ℕ) (g : Ways) → slice_get table i ≡ Some p → slice_get ways i ≡ Some g → IsExpanded v.circuit v.frames x.children table p g
   pub opened : IsOpened u v w x at
   pub inside : at ≤ length table
   pub weighs : sum_by (λ p. weight_at v.circuit.net p.1) (take at table) ≡ weight
-  pub few : length table ≤ 1 + 2 * weight
+  pub few : length table ≤ 2 + 2 * weight
   pub passed : at ≤ weight
   pub small : weight ≤ cap
 
@@ -122,9 +128,9 @@ pub record IsCounting (e : EventCircuitView) (s : Start ℕ) (old new : List (�
   pub counted : (starts : List (Start ℕ)) → Contains starts s → All (IsVisitedPair e old starts) c.places → All (IsVisitedPair e new starts) d.places
 
 -- The count of the walk so far: its places are visited from the start, and the first ones are counted.
-pub record IsExact (u v : EventWalkerView) (w x : EventGraphView) (c d : CounterView) (root : ℕ × ℕ) (table : List (ℕ × ℕ)) (at : ℕ) : Type 0 where
-  pub visits : (s : Start ℕ) → IsVisitedPlace u.circuit u.frames w.children s root → All (IsVisitedPlace v.circuit v.frames x.children s) table
-  pub counting : (s : Start ℕ) → IsVisitedPlace u.circuit u.frames w.children s root → IsCounting u.circuit s w.children x.children c d
+pub record IsExact (u v : EventWalkerView) (w x : EventGraphView) (c d : CounterView) (root beside : ℕ × ℕ) (table : List (ℕ × ℕ)) (at : ℕ) : Type 0 where
+  pub visits : (s : Start ℕ) → AreVisitedPlaces u.circuit u.frames w.children s root beside → All (IsVisitedPlace v.circuit v.frames x.children s) table
+  pub counting : (s : Start ℕ) → AreVisitedPlaces u.circuit u.frames w.children s root beside → IsCounting u.circuit s w.children x.children c d
   pub done : (i : ℕ) (p : ℕ × ℕ) → i < at → slice_get table i ≡ Some p → IsCounted v.frames d.places p
   pub weighed : IsWeighed u.circuit.net d
   pub few : length x.children < 10000

@@ -3,7 +3,7 @@
 ghost use Rattle.std.specs.Prelude.{◌≡◌, ◌⊎◌, IfSome, IfNone};
 ghost use Rattle.circuit_theory.specs.Frame.{NotPut};
 ghost use Rattle.edbf_unfold.specs.declared.event_literals.event_walk.frames.Put.TheVariants.{Low, High};
-ghost use Rattle.edbf_unfold.specs.event_literals.event_walk.Ready.{put_of};
+ghost use Rattle.edbf_unfold.specs.event_literals.event_walk.Ready.{put_of, put_beside};
 
 use base_tables::{Key, UniqueTable, mixed};
 use event_nodes::Lit;
@@ -40,6 +40,17 @@ pub fn constant(put: Put, signal: u32) -> Option<Lit>
                 None
             }
         }
+    }
+}
+
+/// What is put in the frame beside: the latch as 1 where it is put as 0, and else the same.
+pub fn beside(put: Put) -> Put
+    ensures { result ≡ put_beside put }
+{
+    match put {
+        Put::Free => Put::Free,
+        Put::Low(latch) => Put::High(latch),
+        Put::High(latch) => Put::High(latch),
     }
 }
 

@@ -12,7 +12,7 @@ ghost use Rattle.edbf_unfold.specs.event_literals.event_walk.Plan.{AreExpanded, 
 ghost use Rattle.event_nodes.specs.Visited.{IsWeighed, places_weight};
 ghost use Rattle.event_nodes.specs.flat_net.Weights.{weight_at};
 ghost use Rattle.edbf_unfold.specs.declared.event_literals.event_walk.frames.Frame.{Frame};
-ghost use Rattle.edbf_unfold.specs.event_literals.event_walk.Walk.{IsSeen, IsExpanded, IsVisitedPlace, IsWalk, IsCounting, IsExact, IsStep, IsRefused, IsFrameFor, IsReadAt, IsReadIn, AreReadIn, IsReadPlace};
+ghost use Rattle.edbf_unfold.specs.event_literals.event_walk.Walk.{IsSeen, IsExpanded, AreVisitedPlaces, IsWalk, IsCounting, IsExact, IsStep, IsRefused, IsFrameFor, IsReadAt, IsReadIn, AreReadIn, IsReadPlace};
 
 use crate::event_literals::event_walk::entering::{avoids, enter_latch, free_frame};
 use crate::event_literals::event_walk::frames::{Frame, Frames, Put, Step, Ways, constant};
@@ -106,22 +106,24 @@ impl<'a> EventWalker<'a> {
         Ok(steps)
     }
 
-    /// The places that the unfolding of the root visits, and the ways of each. `NoMemory` comes also where they weigh more than the cap.
+    /// The places that the unfoldings of the root and of the place beside it visit, and the ways of each. `NoMemory` comes also where they
+    /// weigh more than the cap.
     pub fn visited(
         &mut self,
         alloc: Global,
         events: &mut EventGraph,
         counter: &mut Counter,
         root: Place,
+        beside: Place,
         cap: u32,
     ) -> Result<(PlaceTable, Vec<Ways>), EventUnfoldError>
-        requires seen { IsSeen self.old.circuit self.old.frames events.old.children root }
+        requires seen { IsSeen self.old.circuit self.old.frames events.old.children root × IsSeen self.old.circuit self.old.frames events.old.children beside }
         requires cap { cap ≤ 119304646 }
         requires weighed { IsWeighed self.old.circuit.net counter.old }
-        requires frames { length self.old.frames + 2 * cap + 3 < 2 ^ 32 }
+        requires frames { length self.old.frames + 2 * cap + 2 < 2 ^ 32 }
         requires few { length events.old.children < 10000 }
-        ensures walked { IfOk result (λ r. (at : ℕ) × (weight : ℕ) × IsWalk self.old self.new events.old events.new root r.0 r.1.items at weight cap × IsExact self.old self.new events.old events.new counter.old counter.new root r.0 at × (length r.0 ≤ at)) }
-        ensures counting { (s : Start ℕ) → IsVisitedPlace self.old.circuit self.old.frames events.old.children s root → IsCounting self.old.circuit s events.old.children events.new.children counter.old counter.new }
+        ensures walked { IfOk result (λ r. (at : ℕ) × (weight : ℕ) × IsWalk self.old self.new events.old events.new root beside r.0 r.1.items at weight cap × IsExact self.old self.new events.old events.new counter.old counter.new root beside r.0 at × (length r.0 ≤ at)) }
+        ensures counting { (s : Start ℕ) → AreVisitedPlaces self.old.circuit self.old.frames events.old.children s root beside → IsCounting self.old.circuit s events.old.children events.new.children counter.old counter.new }
         ensures grows { GrowsEvents events.old events.new }
         ensures refused { IsRefused self.old.circuit.net events.new.children counter.new.places result }
     {
@@ -129,6 +131,7 @@ impl<'a> EventWalker<'a> {
         circuit.keeps();
         let mut table = PlaceTable::new(alloc);
         add(&mut table, root.0, Signal(root.1))?;
+        add(&mut table, beside.0, Signal(beside.1))?;
         let mut ways = Vec::new(alloc);
         let mut at = 0;
         let mut weight = 0;

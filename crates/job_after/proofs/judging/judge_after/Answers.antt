@@ -2,11 +2,13 @@
 use Rattle.std.proofs.Common.{◌≡◌, ◌∙◌, ℕ, List, Bool, length, sym, ap, subst, Option, Err}
 use Rattle.flat_net.specs.View.{NetView}
 use Rattle.restart.specs.Behind.{begun, IsBegun}
+use Rattle.cycle_search.specs.declared.found.Searched.{Searched}
 use Rattle.job_after.specs.Judged.{Behind, IsBehind}
 use Rattle.job_after.specs.Report.{after_text}
 use Rattle.job_after.specs.Ends.{FitsAfter, header_fault, search_fault}
 use Rattle.job_after.proofs.Starts.{comparable, long}
 use Rattle.job_after.proofs.Zeros.{stays}
+use Rattle.job_after.proofs.LeftOut.{shown_anyhow}
 use Rattle.job_after.proofs.Deepest.{decided}
 use Rattle.job_after.proofs.Searched.{refused_by, unfit, refused, endless, judged_by}
 use Rattle.job_after.proofs.judging.judge_after.Goals as goal
@@ -29,17 +31,17 @@ shown_of-requires-clause-left c = comparable c.args.a _ _ _ c.begin.new.net c.in
 pub shown_of-requires-clause-right : goal.shown_of-requires-clause-right
 shown_of-requires-clause-right c = comparable c.args.b _ _ _ c.begin-2.new.net c.in_ok-right.ensures c.requires.right
 
-pub shown_of-requires-clause-left_known : goal.shown_of-requires-clause-left_known
-shown_of-requires-clause-left_known c = ap (λ (known : List (Option Bool)). length known) c.deref.ensures.value ∙ long c.args.a _ _ c.in_ok-left.left.items c.begin.new.net c.in_ok-left.ensures
+pub shown_of-requires-clause-known : goal.shown_of-requires-clause-known
+shown_of-requires-clause-known c = (
+  ap (λ (known : List (Option Bool)). length known) c.deref.ensures.value ∙ long c.args.a _ _ c.in_ok-left.left.items c.begin.new.net c.in_ok-left.ensures,
+  ap (λ (known : List (Option Bool)). length known) c.deref-2.ensures.value ∙ long c.args.b _ _ c.in_ok-right.right.items c.begin-2.new.net c.in_ok-right.ensures,
+)
 
-pub shown_of-requires-clause-right_known : goal.shown_of-requires-clause-right_known
-shown_of-requires-clause-right_known c = ap (λ (known : List (Option Bool)). length known) c.deref-2.ensures.value ∙ long c.args.b _ _ c.in_ok-right.right.items c.begin-2.new.net c.in_ok-right.ensures
-
-pub shown_of-requires-clause-left_begun : goal.shown_of-requires-clause-left_begun
-shown_of-requires-clause-left_begun c = ap (λ (known : List (Option Bool)). begun c.begin.new.net known) c.deref.ensures.value ∙ stays c.args.a _ _ c.in_ok-left.left.items c.begin.new.net c.in_ok-left.ensures
-
-pub shown_of-requires-clause-right_begun : goal.shown_of-requires-clause-right_begun
-shown_of-requires-clause-right_begun c = ap (λ (known : List (Option Bool)). begun c.begin-2.new.net known) c.deref-2.ensures.value ∙ stays c.args.b _ _ c.in_ok-right.right.items c.begin-2.new.net c.in_ok-right.ensures
+pub shown_of-requires-clause-begun : goal.shown_of-requires-clause-begun
+shown_of-requires-clause-begun c = (
+  ap (λ (known : List (Option Bool)). begun c.begin.new.net known) c.deref.ensures.value ∙ stays c.args.a _ _ c.in_ok-left.left.items c.begin.new.net c.in_ok-left.ensures,
+  ap (λ (known : List (Option Bool)). begun c.begin-2.new.net known) c.deref-2.ensures.value ∙ stays c.args.b _ _ c.in_ok-right.right.items c.begin-2.new.net c.in_ok-right.ensures,
+)
 
 pub report-requires-clause-left : goal.report-requires-clause-left
 report-requires-clause-left c =
@@ -107,4 +109,4 @@ returns c =
     let told = c.in_ok-text.ensures in
     let written : c.in_ok-text.text ≡ after_text l r cycles c.args.conflicts (length s.rows) left right shown made = cc (told, c.len.ensures, c.deref-3.ensures.value, c.deref-4.ensures.value, c.in_ok-shown.ensures.same.0, c.in_ok-shown.ensures.same.1) in
     judged_by a b s.names s.rows c.args.wanted c.args.conflicts s.fit h is c.requires.right.distinct c.judgement_of-judgement.result c.in_ok-proofs.proofs c.in_ok-text.text
-    c.in_ok-shown.ensures.shown c.judgement_of-judgement.ensures c.in_ok-proofs.ensures written
+    (shown_anyhow (λ (found : Searched). Unit {0}) l r s.names s.rows shown c.in_ok-shown.ensures.shown) c.judgement_of-judgement.ensures c.in_ok-proofs.ensures written

@@ -1,5 +1,5 @@
 -- One pair more.
-use Rattle.std.proofs.Common.{◌≡◌, ◌∙◌, ◌+◌, ◌≤◌, ℕ, List, [], ◌∷◌, ◌++◌, length, map, max, take, slice_get, Some, sym, ap, subst}
+use Rattle.std.proofs.Common.{◌≡◌, ◌∙◌, ◌+◌, ◌≤◌, ℕ, List, [], ◌∷◌, ◌++◌, length, map, take, slice_get, Some, sym, ap, subst}
 use Rattle.std.proofs.lemmas.List.{take_all, map-append}
 use Rattle.circuit_theory.proofs.Lists.{of_at}
 use Rattle.flat_net.specs.View.{circuit_of}
@@ -9,7 +9,7 @@ use Rattle.sec_setup.specs.declared.ports.pairs.SignalPair.{SignalPair}
 use Rattle.sec_setup.specs.ports.Pairs.{NamedPair, places_of}
 use Rattle.reset_form.proofs.reset_functions.OwnPairs.{own_pairs, output_within}
 use Rattle.job_after.specs.Last.{IsGreatestDepth}
-use Rattle.job_after.proofs.Deepest.{none_deep, deeper}
+use Rattle.job_after.proofs.Deepest.{deeper}
 use Rattle.job_after.proofs.last.greatest_depth.Goals as goal
 
 pub pair_depth-depth-requires-clause-left : goal.pair_depth-depth-requires-clause-left

@@ -10,7 +10,7 @@ use Rattle.job_after.specs.Judged.{Behind}
 use Rattle.job_after.proofs.Starts.{comparable, long}
 use Rattle.job_after.proofs.Zeros.{stays}
 use Rattle.job_after_under.specs.declared.fault.Fault.TheVariants as fault
-use Rattle.job_after_under.specs.Ends.{IsTold}
+use Rattle.job_after_under.specs.Ends.{IsTold, IsJudgedBy}
 use Rattle.job_after_under.specs.Judged.{IsBehindUnder}
 use Rattle.job_after_under.specs.Report.{undecided_behind}
 use Rattle.job_after_under.proofs.Judges.{refused_by, judged_by}
@@ -54,7 +54,7 @@ pub returns-in_err-match_header : goal.returns-in_err-match_header
 returns-in_err-match_header c =
     let s = c.args.stimulus.now in
     let e = c.in_err-match_header.field-0.0 in
-    refused_by c.args.a c.args.b c.args.c.now s.names s.rows c.args.cycles c.args.conflicts c.from_residual-in_err-match_header.result (fault.Header e) c.from_residual-in_err-match_header.ensures.1
+    refused_by (IsJudgedBy c.args.a c.args.b c.args.c.now s.names s.rows c.args.cycles c.args.conflicts) c.from_residual-in_err-match_header.result (fault.Header e) c.from_residual-in_err-match_header.ensures.1
     (subst (λ (names : List (List ℕ)). FitsAfter c.args.a c.args.b names (Err e)) c.in_ok-header.ensures c.in_err-match_header.ensures)
 
 pub returns-in_err-name : goal.returns-in_err-name
@@ -63,7 +63,7 @@ returns-in_err-name c =
     let b = c.args.b in
     let s = c.args.stimulus.now in
     let e = c.in_err-name.field-0.0 in
-    refused_by a b c.args.c.now s.names s.rows c.args.cycles c.args.conflicts c.from_residual-in_err-name.result (fault.Search e) c.from_residual-in_err-name.ensures.1
+    refused_by (IsJudgedBy a b c.args.c.now s.names s.rows c.args.cycles c.args.conflicts) c.from_residual-in_err-name.result (fault.Search e) c.from_residual-in_err-name.ensures.1
     (record {
       left_known = c.in_ok-left.left.items;
       right_known = c.in_ok-right.right.items;

@@ -1,11 +1,10 @@
-use Rattle.std.proofs.Common.{◌≡◌, ◌∙◌, ◌+◌, ◌<◌, ℕ, List, map, take, length, slice_get, Some, sym, ap, subst, arith}
+use Rattle.std.proofs.Common.{◌≡◌, ◌∙◌, ◌+◌, ◌<◌, ℕ, List, length, slice_get, Some, sym, ap, subst, arith}
 use Rattle.std.proofs.lemmas.Option.{same_Some, slice_get_within}
 use Rattle.base_tables.specs.Table.{is_among}
-use Rattle.flat_net.specs.declared.parts.LatchAt.{LatchAt}
 use Rattle.flat_net.specs.Makes.{MakerView, with_latch}
 use Rattle.flat_net.specs.View.{NetView}
 use Rattle.net_names.specs.Fronts.{front}
-use Rattle.net_names.proofs.Copies.{drivers_taken, fresh, item_at, latch_step, LatchSeen, latch_seen}
+use Rattle.net_names.proofs.Copies.{drivers_taken, fresh, latch_step, latch_seen}
 use Rattle.net_names.proofs.copying.add_latches.Goals as goal
 
 pub name-requires : goal.name-requires

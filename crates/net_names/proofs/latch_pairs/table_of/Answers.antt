@@ -1,4 +1,4 @@
-use Rattle.std.proofs.Common.{◌≡◌, ◌∙◌, ℕ, not, Bool, true, false, List, map, take, slice_get, Some, refl, sym, ap, subst}
+use Rattle.std.proofs.Common.{◌≡◌, ◌∙◌, ℕ, not, Bool, true, false, List, map, take, slice_get, Some, refl, sym, ap}
 use Rattle.base_tables.specs.Table.{is_among}
 use Rattle.base_tables.proofs.TableLemmas.{is_among-at, slice_get-take}
 use Rattle.circuit_theory.specs.declared.Side.{Side}

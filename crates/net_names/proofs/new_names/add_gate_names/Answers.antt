@@ -1,4 +1,3 @@
-use Rattle.std.proofs.Common.{length}
 use Rattle.flat_net.proofs.Places.{out_within}
 use Rattle.net_names.proofs.Copies.{item_at}
 use Rattle.net_names.proofs.new_names.add_gate_names.Goals as goal

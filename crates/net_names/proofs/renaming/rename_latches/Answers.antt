@@ -1,4 +1,3 @@
-use Rattle.std.proofs.Common.{◌≡◌, not, Bool, true, false, refl}
 use Rattle.net_names.proofs.Named.{named_laid, named_sound}
 use Rattle.net_names.proofs.renaming.rename_latches.Goals as goal
 

@@ -65,6 +65,9 @@ compare_after_under-requires-clause-conflicts g c = (subst IsAllowed c.in-AfterU
 pub compare_after_under-requires-clause-cycles : goal.compare_after_under-requires-clause-cycles
 compare_after_under-requires-clause-cycles g c = (subst IsAllowed c.in-AfterUnder.is c.requires).1
 
+pub compare_ties_behind-requires : goal.compare_ties_behind-requires
+compare_ties_behind-requires g c = subst IsAllowed c.in-InductAfterUnder.is c.requires
+
 pub returns-in-Gen-clause-found : goal.returns-in-Gen-clause-found
 returns-in-Gen-clause-found g c =
     let held = g.S.Shelf.held c.args.shelf.now in

@@ -1,150 +1,107 @@
--- Both functions of the latch are unfolded under it, and the care is that of what the first one's walk met.
+-- Both functions of the latch are unfolded together, and the care is that of what this walk met.
 use Rattle.std.proofs.Common.{◌≡◌, ◌∙◌, ◌+◌, ◌*◌, ℕ, List, [], length, slice_get, Some, refl, sym, ap, subst, arith, ◌<◌}
+use Rattle.std.proofs.lemmas.Result.{err_from_is_err_and}
 use Rattle.edbf_unfold.specs.event_literals.LatchAt.{LatchAt}
 use Rattle.edbf_unfold.specs.event_literals.Sound.{IsSound}
 use Rattle.edbf_unfold.specs.event_literals.View.{NetView}
 use Rattle.edbf_unfold.proofs.event_literals.Places.{one_at}
 use Rattle.event_nodes.specs.View.{EventCircuitView, IsEventCircuit}
-use Rattle.event_nodes.specs.Visited.{IsWeighed, places_weight}
 use Rattle.event_nodes.proofs.Growing.{grows_trans}
-use Rattle.event_nodes.proofs.Lists.{adds_trans}
 use Rattle.edbf_unfold.specs.declared.event_literals.event_walk.frames.Put.TheVariants.{Low}
 use Rattle.edbf_unfold.specs.declared.event_literals.event_walk.frames.Ways.{Ways}
 use Rattle.edbf_unfold.specs.Care.{IsCareLit}
 use Rattle.edbf_unfold.specs.event_literals.Known.{IsEnableLit}
-use Rattle.edbf_unfold.specs.event_literals.event_walk.Walk.{IsCounting, HasCountedStart, enable_start}
+use Rattle.edbf_unfold.specs.event_literals.event_walk.Walk.{HasCountedStart, enable_start}
 use Rattle.edbf_unfold.specs.event_literals.Built.{AreMetOn}
 use Rattle.edbf_unfold.proofs.Caring.{enable_later}
-use Rattle.edbf_unfold.proofs.event_literals.event_walk.Exact.{counting_trans}
-use Rattle.edbf_unfold.proofs.event_literals.event_walk.Stepping.{refused_memory, refused_ok, refused_on}
-use Rattle.std.proofs.lemmas.Result.{err_from_is_err_and}
-use Rattle.edbf_unfold.proofs.Finishing.{ready_less, ready_next, unfolded_more, unfolded_trans, counting_same, finished_care, finished_count}
+use Rattle.edbf_unfold.proofs.event_literals.event_walk.Stepping.{refused_memory, refused_ok}
+use Rattle.edbf_unfold.proofs.Finishing.{ready_less, unfolded_more, counting_same, finished_care, finished_count}
 use Rattle.edbf_unfold.proofs.event_literals.Going.{are_known_later}
-use Rattle.edbf_unfold.proofs.event_literals.Rooted.{next_within, enable_lit, walked_later, walked_met}
-use Rattle.event_nodes.proofs.Growth.{Grows-length}
+use Rattle.edbf_unfold.proofs.event_literals.Rooted.{next_within, enable_lit, walked_met}
 use Rattle.edbf_unfold.proofs.unfolder.EventUnfolder.enable.Goals as goal
 
 pub unfold_in-requires-clause-signal : goal.unfold_in-requires-clause-signal
 unfold_in-requires-clause-signal c = next_within c.args.self.now.circuit c.circuit-circuit.result.now c.net.result.now c.args.j c.latch_of-latch.result.now c.circuit-circuit.ensures c.net.ensures c.keeps.ensures.sound c.latch_of-latch.ensures.there
 
-pub unfold_in-requires-2-clause-signal : goal.unfold_in-requires-2-clause-signal
-unfold_in-requires-2-clause-signal c =
-    next_within c.unfold_in.new.self.circuit c.circuit-circuit.result.now c.net.result.now c.args.j c.latch_of-latch.result.now (c.circuit-circuit.ensures ∙ sym c.in_ok-low.ensures.unfolded.0.circuit) c.net.ensures c.keeps.ensures.sound c.latch_of-latch.ensures.there
-
-pub returns-in_err-low-clause-counting : goal.returns-in_err-low-clause-counting
-returns-in_err-low-clause-counting c = λ l at.
+pub returns-in_err-unfolding-clause-counting : goal.returns-in_err-unfolding-clause-counting
+returns-in_err-unfolding-clause-counting c = λ l at.
     let same : c.latch_of-latch.result.now ≡ l = one_at c.args.self.now.circuit.net.latches c.args.j c.latch_of-latch.result.now l (subst (λ (n : NetView). slice_get n.latches c.args.j ≡ Some c.latch_of-latch.result.now) (c.net.ensures ∙ ap (λ (e : EventCircuitView). e.net) c.circuit-circuit.ensures) c.latch_of-latch.ensures.there) at in
     c.unfold_in.ensures.counting.1 (enable_start l) (ap (λ (k : LatchAt). k.next.0) (sym same), ap (λ (k : LatchAt). Some k.out.0) (sym same))
-
-pub returns-in_err-high-clause-counting : goal.returns-in_err-high-clause-counting
-returns-in_err-high-clause-counting c = λ l at.
-    let same : c.latch_of-latch.result.now ≡ l = one_at c.args.self.now.circuit.net.latches c.args.j c.latch_of-latch.result.now l (subst (λ (n : NetView). slice_get n.latches c.args.j ≡ Some c.latch_of-latch.result.now) (c.net.ensures ∙ ap (λ (e : EventCircuitView). e.net) c.circuit-circuit.ensures) c.latch_of-latch.ensures.there) at in
-    counting_trans c.args.self.now.circuit (enable_start l) c.args.events.now.children c.unfold_in.new.events.children c.unfold_in-2.new.events.children c.args.counter.now c.unfold_in.new.counter c.unfold_in-2.new.counter c.keeps-2.ensures.events.is_tree
-    (c.unfold_in.ensures.counting.1 (enable_start l) (ap (λ (k : LatchAt). k.next.0) (sym same), ap (λ (k : LatchAt). Some k.out.0) (sym same)))
-    (subst (λ (e : EventCircuitView). IsCounting e (enable_start l) c.unfold_in.new.events.children c.unfold_in-2.new.events.children c.unfold_in.new.counter c.unfold_in-2.new.counter) c.in_ok-low.ensures.unfolded.0.circuit
-    (c.unfold_in-2.ensures.counting.1 (enable_start l) (ap (λ (k : LatchAt). k.next.0) (sym same), ap (λ (k : LatchAt). Some k.out.0) (sym same))))
 
 pub returns-in_err-value-clause-counting : goal.returns-in_err-value-clause-counting
 returns-in_err-value-clause-counting c = λ l at.
     let same : c.latch_of-latch.result.now ≡ l = one_at c.args.self.now.circuit.net.latches c.args.j c.latch_of-latch.result.now l (subst (λ (n : NetView). slice_get n.latches c.args.j ≡ Some c.latch_of-latch.result.now) (c.net.ensures ∙ ap (λ (e : EventCircuitView). e.net) c.circuit-circuit.ensures) c.latch_of-latch.ensures.there) at in
-    counting_same c.args.self.now.circuit (enable_start l) c.args.events.now.children c.unfold_in-2.new.events.children c.enable_of.new.events.children c.args.counter.now c.unfold_in-2.new.counter c.enable_of.ensures.grown.children
-    (counting_trans c.args.self.now.circuit (enable_start l) c.args.events.now.children c.unfold_in.new.events.children c.unfold_in-2.new.events.children c.args.counter.now c.unfold_in.new.counter c.unfold_in-2.new.counter c.keeps-2.ensures.events.is_tree
+    counting_same c.args.self.now.circuit (enable_start l) c.args.events.now.children c.unfold_in.new.events.children c.enable_of.new.events.children c.args.counter.now c.unfold_in.new.counter c.enable_of.ensures.grown.children
     (c.unfold_in.ensures.counting.1 (enable_start l) (ap (λ (k : LatchAt). k.next.0) (sym same), ap (λ (k : LatchAt). Some k.out.0) (sym same)))
-    (subst (λ (e : EventCircuitView). IsCounting e (enable_start l) c.unfold_in.new.events.children c.unfold_in-2.new.events.children c.unfold_in.new.counter c.unfold_in-2.new.counter) c.in_ok-low.ensures.unfolded.0.circuit
-    (c.unfold_in-2.ensures.counting.1 (enable_start l) (ap (λ (k : LatchAt). k.next.0) (sym same), ap (λ (k : LatchAt). Some k.out.0) (sym same)))))
 
 pub care_of-requires-clause-known : goal.care_of-requires-clause-known
 care_of-requires-clause-known c =
-    are_known_later c.unfold_in-2.new.self.circuit c.unfold_in-2.new.events c.enable_of.new.events c.unfold_in-2.new.self.frames c.unfold_in-2.new.self.memo c.keeps-3.ensures.events c.enable_of.ensures.grown.grows c.in_ok-high.ensures.known
+    are_known_later c.unfold_in.new.self.circuit c.unfold_in.new.events c.enable_of.new.events c.unfold_in.new.self.frames c.unfold_in.new.self.memo c.keeps-2.ensures.events c.enable_of.ensures.grown.grows c.in_ok-unfolding.ensures.known
 
 pub care_of-requires-clause-met : goal.care_of-requires-clause-met
 care_of-requires-clause-met c =
-    let walked = walked_later c.unfold_in.new.self c.unfold_in-2.new.self c.unfold_in.new.events c.enable_of.new.events _ c.latch_of-latch.result.now.next.0 c.unfold_in.new.counter.places c.unfold_in-2.new.counter.places c.args.room c.in_ok-low.low.table c.in_ok-low.low.ways.items
-    c.in_ok-high.ensures.unfolded.0.circuit (grows_trans c.unfold_in.new.events c.unfold_in-2.new.events c.enable_of.new.events c.in_ok-high.ensures.unfolded.0.grows c.enable_of.ensures.grown.grows) c.in_ok-high.ensures.unfolded.0.frames c.in_ok-high.ensures.unfolded.0.memo
-    c.in_ok-high.ensures.unfolded.1.more c.in_ok-low.ensures.walked in
-    subst (λ (ws : List Ways). AreMetOn c.unfold_in-2.new.self c.enable_of.new.events.children c.in_ok-low.low.table ws) (sym c.as_slice.ensures.value)
-    (walked_met c.unfold_in-2.new.self c.enable_of.new.events _ c.latch_of-latch.result.now.next.0 _ c.args.room c.in_ok-low.low.table c.in_ok-low.low.ways.items walked)
+    let met = walked_met c.unfold_in.new.self c.unfold_in.new.events _ c.latch_of-latch.result.now.next.0 _ c.args.room c.in_ok-unfolding.unfolding.table c.in_ok-unfolding.unfolding.ways.items c.in_ok-unfolding.ensures.walked in
+    subst (λ (cs : List (ℕ × ℕ)). AreMetOn c.unfold_in.new.self cs c.in_ok-unfolding.unfolding.table c.as_slice.result.now) (sym c.enable_of.ensures.grown.children)
+    (subst (λ (ws : List Ways). AreMetOn c.unfold_in.new.self c.unfold_in.new.events.children c.in_ok-unfolding.unfolding.table ws) (sym c.as_slice.ensures.value) met)
 
 pub returns-in_err-care-clause-counting : goal.returns-in_err-care-clause-counting
 returns-in_err-care-clause-counting c = λ l at.
     let same : c.latch_of-latch.result.now ≡ l = one_at c.args.self.now.circuit.net.latches c.args.j c.latch_of-latch.result.now l (subst (λ (n : NetView). slice_get n.latches c.args.j ≡ Some c.latch_of-latch.result.now) (c.net.ensures ∙ ap (λ (e : EventCircuitView). e.net) c.circuit-circuit.ensures) c.latch_of-latch.ensures.there) at in
-    counting_same c.args.self.now.circuit (enable_start l) c.args.events.now.children c.unfold_in-2.new.events.children c.care_of.new.events.children c.args.counter.now c.unfold_in-2.new.counter (c.care_of.ensures.grown.children ∙ c.enable_of.ensures.grown.children)
-    (counting_trans c.args.self.now.circuit (enable_start l) c.args.events.now.children c.unfold_in.new.events.children c.unfold_in-2.new.events.children c.args.counter.now c.unfold_in.new.counter c.unfold_in-2.new.counter c.keeps-2.ensures.events.is_tree
+    counting_same c.args.self.now.circuit (enable_start l) c.args.events.now.children c.unfold_in.new.events.children c.care_of.new.events.children c.args.counter.now c.unfold_in.new.counter (c.care_of.ensures.grown.children ∙ c.enable_of.ensures.grown.children)
     (c.unfold_in.ensures.counting.1 (enable_start l) (ap (λ (k : LatchAt). k.next.0) (sym same), ap (λ (k : LatchAt). Some k.out.0) (sym same)))
-    (subst (λ (e : EventCircuitView). IsCounting e (enable_start l) c.unfold_in.new.events.children c.unfold_in-2.new.events.children c.unfold_in.new.counter c.unfold_in-2.new.counter) c.in_ok-low.ensures.unfolded.0.circuit
-    (c.unfold_in-2.ensures.counting.1 (enable_start l) (ap (λ (k : LatchAt). k.next.0) (sym same), ap (λ (k : LatchAt). Some k.out.0) (sym same)))))
 
 pub returns-clause-counting : goal.returns-clause-counting
 returns-clause-counting c = λ l at.
     let same : c.latch_of-latch.result.now ≡ l = one_at c.args.self.now.circuit.net.latches c.args.j c.latch_of-latch.result.now l (subst (λ (n : NetView). slice_get n.latches c.args.j ≡ Some c.latch_of-latch.result.now) (c.net.ensures ∙ ap (λ (e : EventCircuitView). e.net) c.circuit-circuit.ensures) c.latch_of-latch.ensures.there) at in
-    counting_same c.args.self.now.circuit (enable_start l) c.args.events.now.children c.unfold_in-2.new.events.children c.care_of.new.events.children c.args.counter.now c.unfold_in-2.new.counter (c.care_of.ensures.grown.children ∙ c.enable_of.ensures.grown.children)
-    (counting_trans c.args.self.now.circuit (enable_start l) c.args.events.now.children c.unfold_in.new.events.children c.unfold_in-2.new.events.children c.args.counter.now c.unfold_in.new.counter c.unfold_in-2.new.counter c.keeps-2.ensures.events.is_tree
+    counting_same c.args.self.now.circuit (enable_start l) c.args.events.now.children c.unfold_in.new.events.children c.care_of.new.events.children c.args.counter.now c.unfold_in.new.counter (c.care_of.ensures.grown.children ∙ c.enable_of.ensures.grown.children)
     (c.unfold_in.ensures.counting.1 (enable_start l) (ap (λ (k : LatchAt). k.next.0) (sym same), ap (λ (k : LatchAt). Some k.out.0) (sym same)))
-    (subst (λ (e : EventCircuitView). IsCounting e (enable_start l) c.unfold_in.new.events.children c.unfold_in-2.new.events.children c.unfold_in.new.counter c.unfold_in-2.new.counter) c.in_ok-low.ensures.unfolded.0.circuit
-    (c.unfold_in-2.ensures.counting.1 (enable_start l) (ap (λ (k : LatchAt). k.next.0) (sym same), ap (λ (k : LatchAt). Some k.out.0) (sym same)))))
 
 pub returns-clause-known : goal.returns-clause-known
 returns-clause-known c =
-    are_known_later c.unfold_in-2.new.self.circuit c.unfold_in-2.new.events c.care_of.new.events c.unfold_in-2.new.self.frames c.unfold_in-2.new.self.memo c.keeps-3.ensures.events
-    (grows_trans c.unfold_in-2.new.events c.enable_of.new.events c.care_of.new.events c.enable_of.ensures.grown.grows c.care_of.ensures.grown.grows) c.in_ok-high.ensures.known
+    are_known_later c.unfold_in.new.self.circuit c.unfold_in.new.events c.care_of.new.events c.unfold_in.new.self.frames c.unfold_in.new.self.memo c.keeps-2.ensures.events
+    (grows_trans c.unfold_in.new.events c.enable_of.new.events c.care_of.new.events c.enable_of.ensures.grown.grows c.care_of.ensures.grown.grows) c.in_ok-unfolding.ensures.known
 
 pub returns-clause-here : goal.returns-clause-here
 returns-clause-here c = λ l at.
-    let now : c.circuit-circuit.result.now ≡ c.unfold_in-2.new.self.circuit = c.circuit-circuit.ensures ∙ (sym c.in_ok-low.ensures.unfolded.0.circuit ∙ sym c.in_ok-high.ensures.unfolded.0.circuit) in
-    let same : c.latch_of-latch.result.now ≡ l = one_at c.unfold_in-2.new.self.circuit.net.latches c.args.j c.latch_of-latch.result.now l
+    let now : c.circuit-circuit.result.now ≡ c.unfold_in.new.self.circuit = c.circuit-circuit.ensures ∙ sym c.in_ok-unfolding.ensures.unfolded.0.circuit in
+    let same : c.latch_of-latch.result.now ≡ l = one_at c.unfold_in.new.self.circuit.net.latches c.args.j c.latch_of-latch.result.now l
     (subst (λ (e : EventCircuitView). slice_get e.net.latches c.args.j ≡ Some c.latch_of-latch.result.now) now (subst (λ (n : NetView). slice_get n.latches c.args.j ≡ Some c.latch_of-latch.result.now) c.net.ensures c.latch_of-latch.ensures.there)) at in
-    let walked = walked_later c.unfold_in.new.self c.unfold_in-2.new.self c.unfold_in.new.events c.enable_of.new.events _ c.latch_of-latch.result.now.next.0 c.unfold_in.new.counter.places c.unfold_in-2.new.counter.places c.args.room c.in_ok-low.low.table c.in_ok-low.low.ways.items
-    c.in_ok-high.ensures.unfolded.0.circuit (grows_trans c.unfold_in.new.events c.unfold_in-2.new.events c.enable_of.new.events c.in_ok-high.ensures.unfolded.0.grows c.enable_of.ensures.grown.grows) c.in_ok-high.ensures.unfolded.0.frames c.in_ok-high.ensures.unfolded.0.memo
-    c.in_ok-high.ensures.unfolded.1.more c.in_ok-low.ensures.walked in
-    subst (λ (k : LatchAt). IsEnableLit c.unfold_in-2.new.self.circuit c.care_of.new.events [] k c.in_ok-value.value.0 × IsCareLit c.unfold_in-2.new.self.circuit c.care_of.new.events (enable_start k) c.in_ok-care.care.0) same (
-      enable_later c.unfold_in-2.new.self.circuit c.enable_of.new.events c.care_of.new.events c.keeps-4.ensures.events c.care_of.ensures.grown.grows [] c.latch_of-latch.result.now c.in_ok-value.value.0
-          (enable_lit c.unfold_in.new.self.circuit c.unfold_in-2.new.self.circuit c.in_ok-high.ensures.unfolded.0.circuit c.unfold_in.new.events c.unfold_in-2.new.events c.enable_of.new.events c.keeps-2.ensures.events c.keeps-3.ensures.events
-          c.in_ok-high.ensures.unfolded.0.grows c.enable_of.ensures.grown.grows c.latch_of-latch.result.now c.in_ok-low.low.lit.0 c.in_ok-high.field-0.lit.0 c.in_ok-value.value.0 c.in_ok-low.ensures.here c.in_ok-high.ensures.here c.in_ok-value.ensures.here c.in_ok-value.ensures.within),
-      finished_care c.unfold_in-2.new.self c.enable_of.new.events c.care_of.new.events (subst (λ (e : EventCircuitView). IsSound e.net) now c.keeps.ensures.sound) (subst IsEventCircuit now c.keeps.ensures.circuit) c.keeps-5.ensures.events c.care_of.ensures.grown.grows
-          (record { node = 0; put = Low c.latch_of-latch.result.now.out.0 }) refl c.latch_of-latch.result.now.next.0 c.unfold_in-2.new.counter.places c.args.room c.in_ok-low.low.table c.in_ok-low.low.ways.items walked (enable_start c.latch_of-latch.result.now) (refl, refl) c.in_ok-care.care.0 c.in_ok-care.ensures.here,
+    subst (λ (k : LatchAt). IsEnableLit c.unfold_in.new.self.circuit c.care_of.new.events [] k c.in_ok-value.value.0 × IsCareLit c.unfold_in.new.self.circuit c.care_of.new.events (enable_start k) c.in_ok-care.care.0) same (
+      enable_later c.unfold_in.new.self.circuit c.enable_of.new.events c.care_of.new.events c.keeps-3.ensures.events c.care_of.ensures.grown.grows [] c.latch_of-latch.result.now c.in_ok-value.value.0
+          (enable_lit c.unfold_in.new.self.circuit c.unfold_in.new.events c.enable_of.new.events c.keeps-2.ensures.events c.enable_of.ensures.grown.grows c.latch_of-latch.result.now c.in_ok-unfolding.unfolding.lit.0 c.in_ok-unfolding.unfolding.high.0 c.in_ok-value.value.0
+          c.in_ok-unfolding.ensures.here.0 c.in_ok-unfolding.ensures.here.1 c.in_ok-value.ensures.here c.in_ok-value.ensures.within),
+      finished_care c.unfold_in.new.self c.unfold_in.new.events c.care_of.new.events (subst (λ (e : EventCircuitView). IsSound e.net) now c.keeps.ensures.sound) (subst IsEventCircuit now c.keeps.ensures.circuit) c.keeps-4.ensures.events
+          (grows_trans c.unfold_in.new.events c.enable_of.new.events c.care_of.new.events c.enable_of.ensures.grown.grows c.care_of.ensures.grown.grows) (record { node = 0; put = Low c.latch_of-latch.result.now.out.0 }) refl c.latch_of-latch.result.now.next.0 c.unfold_in.new.counter.places c.args.room
+          c.in_ok-unfolding.unfolding.table c.in_ok-unfolding.unfolding.ways.items c.in_ok-unfolding.ensures.walked (enable_start c.latch_of-latch.result.now) (refl, refl) c.in_ok-care.care.0 c.in_ok-care.ensures.here,
     )
 
 pub returns-clause-unfolded : goal.returns-clause-unfolded
 returns-clause-unfolded c =
-    unfolded_more c.args.self.now c.unfold_in-2.new.self c.args.events.now c.enable_of.new.events c.care_of.new.events (2 * c.args.room + 2) _ _
-    (unfolded_more c.args.self.now c.unfold_in-2.new.self c.args.events.now c.unfold_in-2.new.events c.enable_of.new.events (2 * c.args.room + 1) 1 (2 * c.args.room + 2)
-    (unfolded_trans c.args.self.now c.unfold_in.new.self c.unfold_in-2.new.self c.args.events.now c.unfold_in.new.events c.unfold_in-2.new.events c.args.room c.args.room (2 * c.args.room + 1) c.in_ok-low.ensures.unfolded.0 c.in_ok-high.ensures.unfolded.0 (omega arith))
-    c.enable_of.ensures.grown (omega arith)) c.care_of.ensures.grown (omega (arith, c.in_ok-low.ensures.walked.few))
+    unfolded_more c.args.self.now c.unfold_in.new.self c.args.events.now c.enable_of.new.events c.care_of.new.events (c.args.room + 2) _ _
+    (unfolded_more c.args.self.now c.unfold_in.new.self c.args.events.now c.unfold_in.new.events c.enable_of.new.events (c.args.room + 1) 1 (c.args.room + 2) c.in_ok-unfolding.ensures.unfolded.0 c.enable_of.ensures.grown (omega arith)) c.care_of.ensures.grown
+    (omega (arith, c.in_ok-unfolding.ensures.walked.few))
 
 pub returns-clause-counted : goal.returns-clause-counted
 returns-clause-counted c = λ l at.
     let same : c.latch_of-latch.result.now ≡ l = one_at c.args.self.now.circuit.net.latches c.args.j c.latch_of-latch.result.now l (subst (λ (n : NetView). slice_get n.latches c.args.j ≡ Some c.latch_of-latch.result.now) (c.net.ensures ∙ ap (λ (e : EventCircuitView). e.net) c.circuit-circuit.ensures) c.latch_of-latch.ensures.there) at in
-    let now : c.circuit-circuit.result.now ≡ c.unfold_in-2.new.self.circuit = c.circuit-circuit.ensures ∙ (sym c.in_ok-low.ensures.unfolded.0.circuit ∙ sym c.in_ok-high.ensures.unfolded.0.circuit) in
-    let walked = walked_later c.unfold_in.new.self c.unfold_in-2.new.self c.unfold_in.new.events c.enable_of.new.events _ c.latch_of-latch.result.now.next.0 c.unfold_in.new.counter.places c.unfold_in-2.new.counter.places c.args.room c.in_ok-low.low.table c.in_ok-low.low.ways.items
-    c.in_ok-high.ensures.unfolded.0.circuit (grows_trans c.unfold_in.new.events c.unfold_in-2.new.events c.enable_of.new.events c.in_ok-high.ensures.unfolded.0.grows c.enable_of.ensures.grown.grows) c.in_ok-high.ensures.unfolded.0.frames c.in_ok-high.ensures.unfolded.0.memo
-    c.in_ok-high.ensures.unfolded.1.more c.in_ok-low.ensures.walked in
-    let on = c.in_ok-high.ensures.unfolded.1 in
-    subst (λ (k : LatchAt). HasCountedStart c.args.self.now.circuit (enable_start k) c.care_of.new.events.children c.args.counter.now c.unfold_in-2.new.counter) same
-    (finished_count c.unfold_in-2.new.self c.enable_of.new.events c.care_of.new.events (subst (λ (e : EventCircuitView). IsSound e.net) now c.keeps.ensures.sound) (subst IsEventCircuit now c.keeps.ensures.circuit) c.keeps-5.ensures.events c.care_of.ensures.grown.grows
-    (record { node = 0; put = Low c.latch_of-latch.result.now.out.0 }) refl c.latch_of-latch.result.now.next.0 c.unfold_in-2.new.counter.places c.args.room c.in_ok-low.low.table c.in_ok-low.low.ways.items walked (enable_start c.latch_of-latch.result.now) (refl, refl)
-    c.args.self.now.circuit (c.in_ok-high.ensures.unfolded.0.circuit ∙ c.in_ok-low.ensures.unfolded.0.circuit) c.args.counter.now c.unfold_in-2.new.counter refl (sym c.care_of.ensures.grown.children)
-    (record {
-      weighed = subst (λ (e : EventCircuitView). IsWeighed e.net c.unfold_in-2.new.counter) c.in_ok-low.ensures.unfolded.0.circuit on.weighed;
-      few = omega (arith, on.few, ap length c.enable_of.ensures.grown.children);
-      more = adds_trans (λ (q : ℕ × ℕ). Unit {0}) c.args.counter.now.places c.unfold_in.new.counter.places c.unfold_in-2.new.counter.places c.in_ok-low.ensures.unfolded.1.more on.more;
-    }))
+    let now : c.circuit-circuit.result.now ≡ c.unfold_in.new.self.circuit = c.circuit-circuit.ensures ∙ sym c.in_ok-unfolding.ensures.unfolded.0.circuit in
+    subst (λ (k : LatchAt). HasCountedStart c.args.self.now.circuit (enable_start k) c.care_of.new.events.children c.args.counter.now c.unfold_in.new.counter) same
+    (finished_count c.unfold_in.new.self c.unfold_in.new.events c.care_of.new.events (subst (λ (e : EventCircuitView). IsSound e.net) now c.keeps.ensures.sound) (subst IsEventCircuit now c.keeps.ensures.circuit) c.keeps-4.ensures.events
+    (grows_trans c.unfold_in.new.events c.enable_of.new.events c.care_of.new.events c.enable_of.ensures.grown.grows c.care_of.ensures.grown.grows) (record { node = 0; put = Low c.latch_of-latch.result.now.out.0 }) refl c.latch_of-latch.result.now.next.0 c.unfold_in.new.counter.places c.args.room
+    c.in_ok-unfolding.unfolding.table c.in_ok-unfolding.unfolding.ways.items c.in_ok-unfolding.ensures.walked (enable_start c.latch_of-latch.result.now) (refl, refl) c.args.self.now.circuit c.in_ok-unfolding.ensures.unfolded.0.circuit c.args.counter.now c.unfold_in.new.counter refl
+    (sym (c.care_of.ensures.grown.children ∙ c.enable_of.ensures.grown.children)) c.in_ok-unfolding.ensures.unfolded.1)
 
-pub returns-in_err-low-clause-grows : goal.returns-in_err-low-clause-grows
-returns-in_err-low-clause-grows c = c.unfold_in.ensures.counting.0
-
-pub returns-in_err-high-clause-grows : goal.returns-in_err-high-clause-grows
-returns-in_err-high-clause-grows c = grows_trans c.args.events.now c.unfold_in.new.events c.unfold_in-2.new.events c.unfold_in.ensures.counting.0 c.unfold_in-2.ensures.counting.0
+pub returns-in_err-unfolding-clause-grows : goal.returns-in_err-unfolding-clause-grows
+returns-in_err-unfolding-clause-grows c = c.unfold_in.ensures.counting.0
 
 pub returns-in_err-value-clause-grows : goal.returns-in_err-value-clause-grows
-returns-in_err-value-clause-grows c = grows_trans c.args.events.now c.unfold_in-2.new.events c.enable_of.new.events (grows_trans c.args.events.now c.unfold_in.new.events c.unfold_in-2.new.events c.unfold_in.ensures.counting.0 c.unfold_in-2.ensures.counting.0) c.enable_of.ensures.grown.grows
+returns-in_err-value-clause-grows c = grows_trans c.args.events.now c.unfold_in.new.events c.enable_of.new.events c.unfold_in.ensures.counting.0 c.enable_of.ensures.grown.grows
 
 pub returns-in_err-care-clause-grows : goal.returns-in_err-care-clause-grows
-returns-in_err-care-clause-grows c =
-    grows_trans c.args.events.now c.enable_of.new.events c.care_of.new.events (grows_trans c.args.events.now c.unfold_in-2.new.events c.enable_of.new.events (grows_trans c.args.events.now c.unfold_in.new.events c.unfold_in-2.new.events c.unfold_in.ensures.counting.0 c.unfold_in-2.ensures.counting.0) c.enable_of.ensures.grown.grows) c.care_of.ensures.grown.grows
+returns-in_err-care-clause-grows c = grows_trans c.args.events.now c.enable_of.new.events c.care_of.new.events (grows_trans c.args.events.now c.unfold_in.new.events c.enable_of.new.events c.unfold_in.ensures.counting.0 c.enable_of.ensures.grown.grows) c.care_of.ensures.grown.grows
 
 pub returns-clause-grows : goal.returns-clause-grows
-returns-clause-grows c =
-    grows_trans c.args.events.now c.enable_of.new.events c.care_of.new.events (grows_trans c.args.events.now c.unfold_in-2.new.events c.enable_of.new.events (grows_trans c.args.events.now c.unfold_in.new.events c.unfold_in-2.new.events c.unfold_in.ensures.counting.0 c.unfold_in-2.ensures.counting.0) c.enable_of.ensures.grown.grows) c.care_of.ensures.grown.grows
+returns-clause-grows c = grows_trans c.args.events.now c.enable_of.new.events c.care_of.new.events (grows_trans c.args.events.now c.unfold_in.new.events c.enable_of.new.events c.unfold_in.ensures.counting.0 c.enable_of.ensures.grown.grows) c.care_of.ensures.grown.grows
 
 pub unfold_in-requires-clause-known : goal.unfold_in-requires-clause-known
 unfold_in-requires-clause-known c = c.requires.known
@@ -152,27 +109,21 @@ unfold_in-requires-clause-known c = c.requires.known
 pub unfold_in-requires-clause-room : goal.unfold_in-requires-clause-room
 unfold_in-requires-clause-room c = ready_less c.args.self.now c.args.events.now c.args.counter.now c.args.room (9 * c.args.room + 4) c.args.room c.requires.room (omega arith)
 
-pub unfold_in-requires-2-clause-known : goal.unfold_in-requires-2-clause-known
-unfold_in-requires-2-clause-known c = c.in_ok-low.ensures.known
-
-pub unfold_in-requires-2-clause-room : goal.unfold_in-requires-2-clause-room
-unfold_in-requires-2-clause-room c = ready_next c.args.self.now c.unfold_in.new.self c.args.events.now c.unfold_in.new.events c.args.counter.now c.unfold_in.new.counter c.args.room c.requires.room c.in_ok-low.ensures.unfolded.0 c.in_ok-low.ensures.unfolded.1
-
 pub enable_of-requires-clause-room : goal.enable_of-requires-clause-room
-enable_of-requires-clause-room c = omega (arith, c.requires.room.has.nodes, c.in_ok-low.ensures.unfolded.0.nodes, c.in_ok-high.ensures.unfolded.0.nodes)
+enable_of-requires-clause-room c = omega (arith, c.requires.room.has.nodes, c.in_ok-unfolding.ensures.unfolded.0.nodes)
 
 pub care_of-requires-clause-room : goal.care_of-requires-clause-room
-care_of-requires-clause-room c = omega (arith, c.requires.room.has.nodes, c.in_ok-low.ensures.unfolded.0.nodes, c.in_ok-high.ensures.unfolded.0.nodes, c.enable_of.ensures.grown.nodes, c.in_ok-low.ensures.walked.few)
+care_of-requires-clause-room c = omega (arith, c.requires.room.has.nodes, c.in_ok-unfolding.ensures.unfolded.0.nodes, c.enable_of.ensures.grown.nodes, c.in_ok-unfolding.ensures.walked.few)
 
 pub returns-in_err-value-clause-refused : goal.returns-in_err-value-clause-refused
 returns-in_err-value-clause-refused c =
     let p = err_from_is_err_and c.from_residual-in_err-value.result c.from_residual-in_err-value.ensures.1 in
-    rw (p.1, p.2) (refused_memory c.args.self.now.circuit.net c.enable_of.new.events.children c.unfold_in-2.new.counter.places)
+    rw (p.1, p.2) (refused_memory c.args.self.now.circuit.net c.enable_of.new.events.children c.unfold_in.new.counter.places)
 
 pub returns-in_err-care-clause-refused : goal.returns-in_err-care-clause-refused
 returns-in_err-care-clause-refused c =
     let p = err_from_is_err_and c.from_residual-in_err-care.result c.from_residual-in_err-care.ensures.1 in
-    rw (p.1, p.2) (refused_memory c.args.self.now.circuit.net c.care_of.new.events.children c.unfold_in-2.new.counter.places)
+    rw (p.1, p.2) (refused_memory c.args.self.now.circuit.net c.care_of.new.events.children c.unfold_in.new.counter.places)
 
 pub returns-clause-refused : goal.returns-clause-refused
 returns-clause-refused c = refused_ok _ _ _ _
@@ -181,22 +132,7 @@ pub latch_of-latch-requires : goal.latch_of-latch-requires
 latch_of-latch-requires c = subst (λ (n : NetView). c.args.j < length n.latches) (sym (c.net.ensures ∙ ap (λ (e : EventCircuitView). e.net) c.circuit-circuit.ensures)) c.requires.latch
 
 pub enable_of-requires-clause-low : goal.enable_of-requires-clause-low
-enable_of-requires-clause-low c =
-    let more = Grows-length c.unfold_in.new.events.graph c.unfold_in-2.new.events.graph c.in_ok-high.ensures.unfolded.0.grows.graph in
-    omega (arith, c.in_ok-low.ensures.here.within, more)
+enable_of-requires-clause-low c = c.in_ok-unfolding.ensures.here.0.within
 
 pub enable_of-requires-clause-high : goal.enable_of-requires-clause-high
-enable_of-requires-clause-high c = c.in_ok-high.ensures.here.within
-
-pub returns-in_err-low-clause-refused : goal.returns-in_err-low-clause-refused
-returns-in_err-low-clause-refused c =
-    let p = err_from_is_err_and c.from_residual.result c.from_residual.ensures.1 in
-    let refused = c.in_err-low.ensures.refused in
-    rw (p.1, p.2) (refused_on c.args.self.now.circuit.net c.unfold_in.new.events.children c.unfold_in.new.counter.places c.in_err-low.field-0.0 refused.many refused.large)
-
-pub returns-in_err-high-clause-refused : goal.returns-in_err-high-clause-refused
-returns-in_err-high-clause-refused c =
-    let p = err_from_is_err_and c.from_residual-in_err-high.result c.from_residual-in_err-high.ensures.1 in
-    let refused = c.in_err-high.ensures.refused in
-    rw (p.1, p.2) (refused_on c.args.self.now.circuit.net c.unfold_in-2.new.events.children c.unfold_in-2.new.counter.places c.in_err-high.field-0.0 refused.many
-    (λ is. subst (λ (e : EventCircuitView). 2000000 < places_weight e.net c.unfold_in-2.new.counter.places) c.in_ok-low.ensures.unfolded.0.circuit (refused.large is)))
+enable_of-requires-clause-high c = c.in_ok-unfolding.ensures.here.1.within

@@ -1,5 +1,5 @@
 -- The value and the care of what the walk met.
-use Rattle.std.proofs.Common.{◌≡◌, ◌∙◌, List, length, slice_get, Some, None, refl, sym, ap, subst, arith}
+use Rattle.std.proofs.Common.{◌≡◌, ◌∙◌, ◌+◌, List, length, slice_get, Some, None, refl, sym, ap, subst, arith}
 use Rattle.edbf_unfold.specs.event_literals.Sound.{IsSound}
 use Rattle.event_nodes.specs.View.{EventCircuitView, IsEventCircuit}
 use Rattle.event_nodes.proofs.Growing.{grows_trans}
@@ -43,14 +43,14 @@ returns-clause-known c =
 pub returns-clause-here : goal.returns-clause-here
 returns-clause-here c =
     let same : c.circuit-circuit.result.now ≡ c.unfold_in.new.self.circuit = c.circuit-circuit.ensures ∙ sym c.in_ok-unfolding.ensures.unfolded.0.circuit in (
-      root_later c.unfold_in.new.self.circuit c.unfold_in.new.events c.care_of.new.events c.keeps-2.ensures.events c.care_of.ensures.grown.grows c.args.s.0 c.in_ok-unfolding.unfolding.lit.0 c.in_ok-unfolding.ensures.here,
+      root_later c.unfold_in.new.self.circuit c.unfold_in.new.events c.care_of.new.events c.keeps-2.ensures.events c.care_of.ensures.grown.grows c.args.s.0 c.in_ok-unfolding.unfolding.lit.0 c.in_ok-unfolding.ensures.here.0,
       finished_care c.unfold_in.new.self c.unfold_in.new.events c.care_of.new.events (subst (λ (e : EventCircuitView). IsSound e.net) same c.keeps.ensures.sound) (subst IsEventCircuit same c.keeps.ensures.circuit) c.keeps-3.ensures.events c.care_of.ensures.grown.grows (record { node = 0; put = Free }) refl c.args.s.0 _
           c.args.room c.in_ok-unfolding.unfolding.table c.in_ok-unfolding.unfolding.ways.items c.in_ok-unfolding.ensures.walked (record { place = c.args.s.0; left_out = None }) (refl, refl) c.in_ok-care.care.0 c.in_ok-care.ensures.here,
     )
 
 pub returns-clause-unfolded : goal.returns-clause-unfolded
 returns-clause-unfolded c =
-    unfolded_more c.args.self.now c.unfold_in.new.self c.args.events.now c.unfold_in.new.events c.care_of.new.events c.args.room _ _ c.in_ok-unfolding.ensures.unfolded.0 c.care_of.ensures.grown (omega (arith, c.in_ok-unfolding.ensures.walked.few))
+    unfolded_more c.args.self.now c.unfold_in.new.self c.args.events.now c.unfold_in.new.events c.care_of.new.events (c.args.room + 1) _ _ c.in_ok-unfolding.ensures.unfolded.0 c.care_of.ensures.grown (omega (arith, c.in_ok-unfolding.ensures.walked.few))
 
 pub returns-clause-counted : goal.returns-clause-counted
 returns-clause-counted c =

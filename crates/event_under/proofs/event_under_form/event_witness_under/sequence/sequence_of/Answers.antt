@@ -1,11 +1,26 @@
 -- The variables of both sides and the depth are those of the difference's pair.
-use Rattle.std.proofs.Common.{◌≡◌, ◌∙◌, ◌<◌, List, length, get_or, slice_get, Some, sym, ap, subst}
+use Rattle.std.proofs.Common.{◌≡◌, ◌∙◌, ◌<◌, List, All, length, get_or, slice_get, Some, sym, ap, subst}
 use Rattle.std.proofs.lemmas.Option.{same_Some, slice_get-get_or, slice_get_within}
 use Rattle.obligations.specs.declared.obligation.Obligation.{Obligation}
 use Rattle.pair_decide.specs.declared.query.Query.{Query}
 use Rattle.event_form.proofs.event_findings.event_witness.Showing.{if_ok}
 use Rattle.event_under.specs.event_under_form.event_witness_under.Shown.{IsSequenceAt, IsSequenceOf}
 use Rattle.event_under.proofs.event_under_form.event_witness_under.sequence.sequence_of.Goals as goal
+
+pub witness_of-requires-clause-sides : goal.witness_of-requires-clause-sides
+witness_of-requires-clause-sides c =
+    let d = c.args.difference.now in
+    let os = c.args.asked.now in
+    let r = c.requires.sides in
+    let o = get_or os d.pair c.index-asked-difference.result in
+    let q = c.index-as_slice-0.result in
+    let inside : d.pair < length os = slice_get_within os d.pair r.obligation r.asked_at in
+    let same : o ≡ r.obligation = same_Some o r.obligation (sym (slice_get-get_or os d.pair c.index-asked-difference.result inside) ∙ r.asked_at) in
+    let there : slice_get o.queries 0 ≡ Some r.sides = subst (λ (y : Obligation). slice_get y.queries 0 ≡ Some r.sides) (sym same) r.sides_at in
+    let read : slice_get c.as_slice.result.now 0 ≡ Some r.sides = subst (λ (qs : List Query). slice_get qs 0 ≡ Some r.sides) (sym c.as_slice.ensures) there in
+    let within : 0 < length c.as_slice.result.now = slice_get_within c.as_slice.result.now 0 r.sides read in
+    let is : q ≡ r.sides = same_Some q r.sides (ap Some c.index-as_slice-0.is ∙ sym (slice_get-get_or c.as_slice.result.now 0 q within) ∙ read) in
+    subst (λ (y : Query). All (λ v. v < length c.args.events.now.places) y.vars) (sym is) r.within
 
 pub returns : goal.returns
 returns c =

@@ -9,21 +9,24 @@ use Rattle.event_nodes.specs.Visited.{IsWeighed, AreNodesFrom, places_weight}
 use Rattle.event_nodes.specs.flat_net.Weights.{weight_at}
 use Rattle.event_nodes.proofs.flat_net.Drivers.{weight_positive}
 use Rattle.event_nodes.proofs.Growing.{grows_refl, grows_trans}
-use Rattle.event_nodes.proofs.Lists.{adds_none, adds_weaker, only_one}
+use Rattle.event_nodes.proofs.Lists.{adds_none, adds_contains, adds_weaker}
 use Rattle.edbf_unfold.specs.declared.event_literals.event_walk.frames.Ways.{Ways}
 use Rattle.edbf_unfold.specs.event_literals.event_walk.Walk.{IsSeen, IsVisitedPlace, IsWalk}
 use Rattle.edbf_unfold.proofs.event_literals.event_walk.Exact.{exact_first, exact_more, counting_more, counting_on}
-use Rattle.edbf_unfold.proofs.event_literals.event_walk.Opening.{walk_first, walk_more}
+use Rattle.edbf_unfold.proofs.event_literals.event_walk.Opening.{both_hold, walk_first, walk_more}
 use Rattle.edbf_unfold.proofs.event_literals.event_walk.Stepping.{refused_memory, refused_ok, nodes_none, refused_on}
 use Rattle.edbf_unfold.proofs.event_literals.event_walk.walker.EventWalker.visited.Goals as goal
 
 pub loop-at-init : goal.loop-at-init
-loop-at-init c =
-    let only = only_one _ _ _ _ c.new-table.ensures c.add.ensures.adds c.in_ok-add.ensures.here c.add.ensures.few in record {
-      walk = subst (λ (o : List Ways). IsWalk c.args.self.now c.args.self.now c.args.events.now c.args.events.now c.args.root c.add.new.table o 0 0 c.args.cap) (sym c.new-ways.ensures.items)
-          (walk_first c.args.self.now c.args.events.now c.args.root c.add.new.table c.args.cap c.requires.seen only);
-      exact = exact_first c.args.self.now c.args.events.now c.args.counter.now c.args.root c.add.new.table only c.requires.weighed c.requires.few;
-    }
+loop-at-init c = record {
+  walk = subst (λ (o : List Ways). IsWalk c.args.self.now c.args.self.now c.args.events.now c.args.events.now c.args.root c.args.beside c.add-2.new.table o 0 0 c.args.cap) (sym c.new-ways.ensures.items)
+      (walk_first c.args.self.now c.args.events.now c.args.root c.args.beside c.add-2.new.table c.args.cap
+      (both_hold (IsSeen c.args.self.now.circuit c.args.self.now.frames c.args.events.now.children) _ _ _ c.args.root c.args.beside c.new-table.ensures c.add.ensures.adds c.add-2.ensures.adds c.requires.seen.0 c.requires.seen.1)
+      (adds_contains (λ (q : ℕ × ℕ). q ≡ c.args.beside) _ _ c.args.root c.add-2.ensures.adds c.in_ok-add.ensures.here) c.in_ok-add-2.ensures.here (omega (arith, ap length c.new-table.ensures, c.add.ensures.few, c.add-2.ensures.few)));
+  exact = exact_first c.args.self.now c.args.events.now c.args.counter.now c.args.root c.args.beside c.add-2.new.table
+      (λ s both. both_hold (IsVisitedPlace c.args.self.now.circuit c.args.self.now.frames c.args.events.now.children s) _ _ _ c.args.root c.args.beside c.new-table.ensures c.add.ensures.adds c.add-2.ensures.adds both.0 both.1)
+      c.requires.weighed c.requires.few;
+}
 
 pub overflow_sub-cap : goal.overflow_sub-cap
 overflow_sub-cap c = c.loop-at.invariant.walk.small
@@ -72,11 +75,11 @@ loop-at-preserved c =
     let some = weight_positive c.net.result.now (subst IsSound (sym c.net.ensures) c.keeps.ensures.sound) c.pair-place.result.1 in
     let seen = All-at (IsSeen c.loop-at.self.circuit c.loop-at.self.frames c.loop-at.events.children) _ _ _ c.pair-place.ensures c.loop-at.invariant.walk.seen in
     record {
-      walk = subst (λ (o : List Ways). IsWalk c.args.self.now c.expand.new.self c.args.events.now c.expand.new.events c.args.root c.expand.new.table o (c.loop-at.at + 1) (c.loop-at.weight + c.in-Some.more) c.args.cap) (sym {A = List Ways} c.in_ok-push.ensures.items)
-          (walk_more c.args.self.now c.loop-at.self c.expand.new.self c.args.events.now c.loop-at.events c.expand.new.events c.args.root c.loop-at.table c.expand.new.table c.loop-at.ways.items c.loop-at.at c.loop-at.weight c.in-Some.more c.args.cap c.pair-place.result
+      walk = subst (λ (o : List Ways). IsWalk c.args.self.now c.expand.new.self c.args.events.now c.expand.new.events c.args.root c.args.beside c.expand.new.table o (c.loop-at.at + 1) (c.loop-at.weight + c.in-Some.more) c.args.cap) (sym {A = List Ways} c.in_ok-push.ensures.items)
+          (walk_more c.args.self.now c.loop-at.self c.expand.new.self c.args.events.now c.loop-at.events c.expand.new.events c.args.root c.args.beside c.loop-at.table c.expand.new.table c.loop-at.ways.items c.loop-at.at c.loop-at.weight c.in-Some.more c.args.cap c.pair-place.result
           c.in_ok-next.next c.loop-at.invariant.walk c.pair-place.ensures c.expand.ensures.step.opened c.expand.ensures.step.seen c.in_ok-next.ensures.expanded (omega (arith, c.expand.ensures.few, weight, c.in-Some.ensures.here)) (omega (arith, some, c.in-Some.ensures.here)) c.in-Some.ensures.room
           (c.in-Some.ensures.here ∙ weight));
-      exact = exact_more c.args.self.now c.loop-at.self c.expand.new.self c.args.events.now c.loop-at.events c.expand.new.events c.args.counter.now c.loop-at.counter c.count.new.counter c.args.root c.loop-at.table c.expand.new.table c.loop-at.at c.pair-place.result seen.0
+      exact = exact_more c.args.self.now c.loop-at.self c.expand.new.self c.args.events.now c.loop-at.events c.expand.new.events c.args.counter.now c.loop-at.counter c.count.new.counter c.args.root c.args.beside c.loop-at.table c.expand.new.table c.loop-at.at c.pair-place.result seen.0
           c.keeps-in-loop-at.ensures.events.is_tree c.loop-at.invariant.exact c.loop-at.invariant.walk.opened.circuit c.pair-place.ensures seen.3 seen.1 c.expand.ensures.step.opened
           (adds_weaker (IsSeen c.expand.new.self.circuit c.expand.new.self.frames c.expand.new.events.children) (λ (q : ℕ × ℕ). Unit {0}) c.loop-at.table c.expand.new.table (λ q s. tt) c.expand.ensures.step.seen)
           (c.count.ensures.adds seen.0 seen.1) (c.in_ok-count.ensures.here seen.0 seen.1) (subst (λ (e : EventCircuitView). IsWeighed e.net c.count.new.counter) c.loop-at.invariant.walk.opened.circuit c.in_ok-count.ensures.weighed) c.in_ok-next.ensures.within c.expand.ensures.step.visits;
@@ -87,6 +90,9 @@ returns-clause-walked c = (c.loop-at.at, c.loop-at.weight, c.loop-at.invariant.w
 
 pub returns-clause-counting : goal.returns-clause-counting
 returns-clause-counting c = c.loop-at.invariant.exact.counting
+
+pub returns-in_err-add-2-clause-counting : goal.returns-in_err-add-2-clause-counting
+returns-in_err-add-2-clause-counting c = λ s root. record { more = adds_none (λ (q : ℕ × ℕ). Unit {0}) c.args.events.now.children c.args.events.now.children refl; nodes = nodes_none c.args.self.now.circuit c.args.events.now.children s; counted = λ starts there all. all }
 
 pub returns-in_err-add-clause-counting : goal.returns-in_err-add-clause-counting
 returns-in_err-add-clause-counting c = λ s root. record { more = adds_none (λ (q : ℕ × ℕ). Unit {0}) c.args.events.now.children c.args.events.now.children refl; nodes = nodes_none c.args.self.now.circuit c.args.events.now.children s; counted = λ starts there all. all }
@@ -124,6 +130,9 @@ returns-clause-grows c = c.loop-at.invariant.walk.opened.grows
 pub returns-in_err-add-clause-grows : goal.returns-in_err-add-clause-grows
 returns-in_err-add-clause-grows c = grows_refl c.args.events.now
 
+pub returns-in_err-add-2-clause-grows : goal.returns-in_err-add-2-clause-grows
+returns-in_err-add-2-clause-grows c = grows_refl c.args.events.now
+
 pub returns-in_default-clause-grows : goal.returns-in_default-clause-grows
 returns-in_default-clause-grows c = c.loop-at.invariant.walk.opened.grows
 
@@ -144,6 +153,9 @@ returns-in_default-clause-refused c = refused_memory _ _ _
 
 pub add-requires : goal.add-requires
 add-requires c = omega (arith, ap length c.new-table.ensures)
+
+pub add-requires-2 : goal.add-requires-2
+add-requires-2 c = omega (arith, ap length c.new-table.ensures, c.add.ensures.few)
 
 pub pair-place-requires : goal.pair-place-requires
 pair-place-requires c = omega (arith, c.loop-at-test.true, c.len.ensures)
@@ -169,6 +181,11 @@ pub returns-in_err-push-clause-refused : goal.returns-in_err-push-clause-refused
 returns-in_err-push-clause-refused c =
     let p = err_from_is_err_and c.from_residual-in_err-push.result c.from_residual-in_err-push.ensures.1 in
     rw (p.1, p.2) (refused_memory c.args.self.now.circuit.net c.expand.new.events.children c.count.new.counter.places)
+
+pub returns-in_err-add-2-clause-refused : goal.returns-in_err-add-2-clause-refused
+returns-in_err-add-2-clause-refused c =
+    let p = err_from_is_err_and c.from_residual-in_err-add-2.result c.from_residual-in_err-add-2.ensures.1 in
+    rw (p.1, p.2) (refused_memory c.args.self.now.circuit.net c.args.events.now.children c.args.counter.now.places)
 
 pub returns-in_err-add-clause-refused : goal.returns-in_err-add-clause-refused
 returns-in_err-add-clause-refused c =

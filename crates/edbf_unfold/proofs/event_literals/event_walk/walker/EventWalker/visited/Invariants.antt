@@ -4,8 +4,8 @@ use Rattle.edbf_unfold.proofs.event_literals.event_walk.walker.EventWalker.visit
 
 abbrev pub invariant-loop-at : goal.invariant-loop-at
 invariant-loop-at l = record {
-  walk : IsWalk l.initial.self l.self l.initial.events l.events l.fn.root l.table l.ways.items l.at l.weight l.cap;
-  exact : IsExact l.initial.self l.self l.initial.events l.events l.initial.counter l.counter l.fn.root l.table l.at;
+  walk : IsWalk l.initial.self l.self l.initial.events l.events l.fn.root l.fn.beside l.table l.ways.items l.at l.weight l.cap;
+  exact : IsExact l.initial.self l.self l.initial.events l.events l.initial.counter l.counter l.fn.root l.fn.beside l.table l.at;
 }
 
 abbrev pub decreases-loop-at : goal.decreases-loop-at

@@ -1,0 +1,4 @@
+pub mod Judged
+pub mod Found
+pub mod Ends
+pub mod Answer

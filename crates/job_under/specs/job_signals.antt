@@ -1,0 +1,1 @@
+pub use Rattle.job_signals.specs.Judged

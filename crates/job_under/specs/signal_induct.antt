@@ -1,0 +1,2 @@
+pub use Rattle.signal_induct.specs.Tied
+pub use Rattle.signal_induct.specs.declared.induction.SignalInduction
