@@ -5,7 +5,7 @@ use Rattle.clap.specs.Words.{Row, Text, first_of, rows_of, found_of}
 use Rattle.sec_base.specs.declared.settings.Settings.{Settings}
 use Rattle.command_line.specs.declared.task.Task.{Task}
 use Rattle.command_line.specs.Jobs.{check_in, search_in, settings_in}
-use Rattle.command_line.proofs.jobs.check_in.Goals as goal
+use Rattle.command_line.proofs.jobs.check.check_in.Goals as goal
 
 searched : (rows : List Row) (a b cycles : Text) (settings : Settings) (assumed : Option Text) → Some a ≡ first_of (codes "a") rows → Some b ≡ first_of (codes "b") rows → Some settings ≡ settings_in rows → assumed ≡ first_of (codes "assume") rows →
     None ≡ first_of (codes "after") rows → None ≡ first_of (codes "pair") rows → None ≡ first_of (codes "pairs") rows → Some cycles ≡ first_of (codes "cycles") rows → search_in a b settings assumed cycles ≡ check_in rows
