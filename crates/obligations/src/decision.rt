@@ -12,6 +12,7 @@ use crate::outcome::{Aig, MAX_CONFLICTS, NoMemory, PairAnswer, PairName, PairRes
 use crate::sides::sweep_asked;
 use std::alloc::Global;
 use swept_queries::SweptQueries;
+use swept_queries::node_agreement::Model;
 
 /// What is found of all obligations.
 #[derive(Drop)]
@@ -36,7 +37,23 @@ pub fn decide_all(
     requires conflicts { conflicts ≤ MAX_CONFLICTS }
     ensures { IfOk result (HaveDecided aig.now conflicts asked.now) }
 {
-    let swept = sweep_asked(alloc, aig, asked, conflicts)?;
+    let models = Vec::new(alloc);
+    decide_near(alloc, aig, asked, models.as_slice(), conflicts)
+}
+
+/// The same, where assignments near these models are tried first on queries of more than 16 variables.
+pub fn decide_near(
+    alloc: Global,
+    aig: &Aig,
+    asked: &[Obligation],
+    models: &[Model],
+    conflicts: u32,
+) -> Result<Decided, NoMemory>
+    requires asked { AreAsked aig.now asked.now }
+    requires conflicts { conflicts ≤ MAX_CONFLICTS }
+    ensures { IfOk result (HaveDecided aig.now conflicts asked.now) }
+{
+    let swept = sweep_asked(alloc, aig, asked, models, conflicts)?;
     let mut decided = Decided {
         results: PairResults::new(alloc),
         different: None,
