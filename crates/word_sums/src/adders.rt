@@ -111,8 +111,11 @@ fn full_rule(graph: &mut Aig, cuts: &[Cut], n: u32, known: u32) -> Result<Option
 fn full_rule_by(graph: &mut Aig, cut: Cut, n: u32, known: u32) -> Result<Option<Rule>, NoMemory>
     ensures { Grows graph.old graph.new }
 {
+    if cut.third == NO_LEAF {
+        return Ok(None);
+    }
     let table = values(graph, cut, n);
-    let fits = cut.third != NO_LEAF && (is_carry(table) || table == SUM || table == NOT_SUM);
+    let fits = is_carry(table) || table == SUM || table == NOT_SUM;
     if !fits {
         return Ok(None);
     }
@@ -142,8 +145,11 @@ fn half_rule(graph: &mut Aig, cuts: &[Cut], n: u32, sum: bool) -> Result<Option<
 fn half_rule_by(graph: &mut Aig, cut: Cut, n: u32, sum: bool) -> Result<Option<Rule>, NoMemory>
     ensures { Grows graph.old graph.new }
 {
+    if cut.second == NO_LEAF || cut.third != NO_LEAF {
+        return Ok(None);
+    }
     let table = values(graph, cut, n);
-    if cut.second == NO_LEAF || cut.third != NO_LEAF || !is_half(table, sum) {
+    if !is_half(table, sum) {
         return Ok(None);
     }
     let carry = carry_of(graph, cut)?;
