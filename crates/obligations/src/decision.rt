@@ -25,7 +25,8 @@ pub struct Decided {
 }
 
 /// Decides all obligations in order, each query with at most so many conflicts, of which there are at most 200,000. The graph is swept once
-/// for all queries of more than 16 variables, and where many bits of a word are still open, both words are asked whether they are one sum; a query of up to 16 variables is decided by its table, and its difference is the least.
+/// for all queries of more than 16 variables, and where it leaves bits of a word open, both words are rewritten as sums; a query of up to 16
+/// variables is decided by its table, and its difference is the least.
 pub fn decide_all(
     alloc: Global,
     aig: &Aig,

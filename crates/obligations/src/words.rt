@@ -1,6 +1,6 @@
 //! Sides that are bits of words: words of the one sides and of the others that are shown to spell one number.
 
-ghost use Rattle.std.specs.Prelude.{◌≡◌, ℕ, ◌×◌, ◌*◌, ◌<◌, List, length, IfOk, IsTrue, OnOk};
+ghost use Rattle.std.specs.Prelude.{◌≡◌, ℕ, ◌*◌, ◌<◌, List, length, IfOk, IsTrue, OnOk};
 ghost use Rattle.std.specs.List.{All};
 ghost use Rattle.aig.specs.lane_eval.root_classes.Agreeing.{Agree};
 ghost use Rattle.word_sums.specs.Words.{AgreeEach};
