@@ -3,11 +3,14 @@
 
 mod decision;
 mod found;
+mod known;
 mod names;
+mod numbered;
 mod obligation;
 pub mod outcome;
 mod sides;
 mod verdict;
+mod words;
 
 pub use crate::outcome::{PairName, PairResults, Query, Stimulus, Verdict, Witness};
 pub use decision::{Decided, decide_all, decide_near};

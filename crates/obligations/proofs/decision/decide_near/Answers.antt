@@ -4,7 +4,7 @@ use Rattle.obligations.specs.outcome.Query.{Query}
 use Rattle.obligations.specs.declared.obligation.Obligation.{Obligation}
 use Rattle.obligations.specs.Asked.{queries_of}
 use Rattle.obligations.proofs.Listed.{item-at, queries-next, queries-within}
-use Rattle.obligations.proofs.decision.decide_all.Goals as goal
+use Rattle.obligations.proofs.decision.decide_near.Goals as goal
 
 pub overflow_add-place : goal.overflow_add-place
 overflow_add-place c =
@@ -14,7 +14,7 @@ overflow_add-place c =
     let at = item-at asked c.loop-i.i o inside c.index-asked-i.is in
     let within = queries-within asked c.loop-i.i o at in
     let own = ap (λ (x : Obligation). length x.queries) c.index-asked-i.is in
-    omega (arith, within, own, c.in_ok-swept.ensures.few, c.loop-i.invariant.place_is, c.len-place.ensures)
+    omega (arith, within, own, c.in_ok-known.ensures.few, c.loop-i.invariant.place_is, c.len-place.ensures)
 
 pub loop-i-preserved : goal.loop-i-preserved
 loop-i-preserved c =

@@ -1,7 +1,7 @@
 use Rattle.std.proofs.Common.{◌≡◌, length, take}
 use Rattle.obligations.specs.Asked.{queries_of}
 use Rattle.obligations.specs.Decided.{HaveDecided}
-use Rattle.obligations.proofs.decision.decide_all.Given as goal
+use Rattle.obligations.proofs.decision.decide_near.Given as goal
 
 abbrev pub invariant-loop-i : goal.invariant-loop-i
 invariant-loop-i l = record {
