@@ -7,7 +7,7 @@ ghost use Rattle.swept_queries.specs.declared.node_agreement.proof.Proved.TheVar
 ghost use Rattle.signal_refine.specs.declared.ask.Answer.TheVariants as answer;
 ghost use Rattle.signal_refine.specs.Asking.{same_bit, IsCare, AreKnown, AreHeldWithin, IsOneWhere};
 
-use crate::assumed::and_both;
+use crate::assumed::{Assumed, and_both};
 use crate::copies::NodeLits;
 use crate::facts::Facts;
 use crate::leaves::is_full;
@@ -29,6 +29,10 @@ pub(crate) struct Asked<'a> {
     pub before: &'a NodeLits,
     /// By what nodes are read so in the cycle before. No contract knows it.
     pub ties: &'a [Anchor],
+    /// What the care says. No contract knows it.
+    pub assumed: Assumed<'a>,
+    /// An input's variable is this and its number together. No contract knows it.
+    pub inputs: u32,
     pub conflicts: u32,
 }
 
@@ -38,8 +42,8 @@ impl<'a> Asked<'a> {
         Frame {
             base: self.base,
             ties: self.ties,
-            leaves: self.leaves,
-            care: self.care,
+            premise: self.assumed.premise(),
+            inputs: self.inputs,
         }
     }
 }
@@ -136,7 +140,7 @@ pub(crate) fn ask(
     match facts.prove_one(alloc, l, r)? {
         Proved::Same => return Ok(Answer::Same),
         told => {
-            if tells(alloc, classes, facts, asked, &told, &mut picked, PICKED)? {
+            if tells(alloc, classes, asked, &told, &mut picked, PICKED)? {
                 return Ok(Answer::Apart);
             }
         }
@@ -148,7 +152,6 @@ pub(crate) fn ask(
 fn tells(
     alloc: Global,
     classes: &mut Classes,
-    facts: &Facts,
     asked: &Asked<'_>,
     told: &Proved,
     picked: &mut [bool],
@@ -157,7 +160,7 @@ fn tells(
     let Proved::Apart(model) = told else {
         return Ok(false);
     };
-    let lesson = learn(alloc, classes, &facts.aig, &asked.frame(), model)?;
+    let lesson = learn(alloc, classes, &asked.frame(), model)?;
     if lesson.counts {
         return Ok(true);
     }
@@ -191,7 +194,7 @@ fn ask_in_turns(
             Proved::Same => return Ok(Answer::Same),
             Proved::Open => return Ok(Answer::Open),
             told => {
-                if tells(alloc, classes, facts, asked, &told, picked, PICKED << turn)? {
+                if tells(alloc, classes, asked, &told, picked, PICKED << turn)? {
                     return Ok(Answer::Apart);
                 }
             }

@@ -7,6 +7,7 @@ mod lanes;
 mod marks;
 mod runs;
 mod scenes;
+mod stage;
 
 pub use classes::Classes;
 pub use marks::{Marks, pick_all};
