@@ -17,7 +17,7 @@ use sec_base::NoMemory;
 use std::alloc::Global;
 use sweep_candidates::Model;
 use swept_queries::node_agreement::Proved;
-use tie_candidates::{Classes, Frame, learn, pick_all};
+use tie_candidates::{Classes, Frame, learn};
 
 /// What is asked: of the nodes of `base`, whose variables have these literals, wherever the care is 1 and what nodes are read as in the cycle
 /// before has their values, with at most so many conflicts for each query.
@@ -136,45 +136,43 @@ pub(crate) fn ask(
     if l.0 == r.0 {
         return Ok(Answer::Same);
     }
-    let mut picked = vec![in alloc; false; asked.before.own.len()]?;
+    classes.begin_picking(alloc, asked.before.own.len())?;
     match facts.prove_one(alloc, l, r)? {
         Proved::Same => return Ok(Answer::Same),
         told => {
-            if tells(alloc, classes, asked, &told, &mut picked, PICKED)? {
+            if tells(alloc, classes, asked, &told, PICKED)? {
                 return Ok(Answer::Apart);
             }
         }
     }
-    ask_in_turns(alloc, classes, facts, asked, &mut picked, l, r)
+    ask_in_turns(alloc, classes, facts, asked, l, r)
 }
 
-/// Whether an assignment was found that counts, by which the classes are split. Else some equalities more are picked, at most so many.
+/// Whether an assignment was found by which they are told apart. Else some equalities more are picked, at most so many.
 fn tells(
     alloc: Global,
     classes: &mut Classes,
     asked: &Asked<'_>,
     told: &Proved,
-    picked: &mut [bool],
     most: usize,
 ) -> Result<bool, NoMemory> {
     let Proved::Apart(model) = told else {
         return Ok(false);
     };
     let lesson = learn(alloc, classes, &asked.frame(), model)?;
-    if lesson.counts {
+    if lesson.tells {
         return Ok(true);
     }
-    lesson.marks.pick(picked, most);
+    classes.pick(&lesson.marks, most);
     Ok(false)
 }
 
-/// The same, where some equalities are picked, by one query after the other.
+/// The same, by one query after the other under the equalities that are picked.
 fn ask_in_turns(
     alloc: Global,
     classes: &mut Classes,
     facts: &mut Facts,
     asked: &Asked<'_>,
-    picked: &mut [bool],
     l: Lit,
     r: Lit,
 ) -> Result<Answer, NoMemory>
@@ -188,13 +186,13 @@ fn ask_in_turns(
 {
     for turn in 0..TURNS {
         if turn == TURNS - 1 {
-            pick_all(picked);
+            classes.pick_all();
         }
-        match ask_under(alloc, facts, asked, picked, l, r)? {
+        match ask_under(alloc, facts, asked, classes.picked(), l, r)? {
             Proved::Same => return Ok(Answer::Same),
             Proved::Open => return Ok(Answer::Open),
             told => {
-                if tells(alloc, classes, asked, &told, picked, PICKED << turn)? {
+                if tells(alloc, classes, asked, &told, PICKED << turn)? {
                     return Ok(Answer::Apart);
                 }
             }

@@ -131,7 +131,7 @@ fn try_tie(
     if n >= anchors.len() || is_own(anchors[n], n) {
         return Ok(Some(own));
     }
-    if classes.is_apart(n, anchors[n]) {
+    if !classes.asks(n, anchors[n]) {
         return Ok(None);
     }
     let Some(other) = anchor_literal(read, anchors[n]) else {
@@ -141,18 +141,18 @@ fn try_tie(
     match answer {
         Answer::Same => Ok(Some(other)),
         _ => {
-            part(classes, n, anchors[n])?;
+            part(classes)?;
             Ok(None)
         }
     }
 }
 
-/// Puts the node into a class of its own, where its tie isn't shown and it isn't told apart.
-fn part(classes: &mut Classes, n: usize, anchor: Anchor) -> Result<(), NoMemory> {
-    if classes.is_apart(n, anchor) {
+/// Puts the node that was asked last into a class of its own, where it isn't told apart.
+fn part(classes: &mut Classes) -> Result<(), NoMemory> {
+    if classes.is_apart() {
         return Ok(());
     }
-    classes.drop_tie(n)
+    classes.drop_tie()
 }
 
 /// Whether the anchor is the place itself.

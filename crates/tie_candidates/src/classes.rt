@@ -1,6 +1,7 @@
 //! Classes of nodes that may be equal or complements.
 
 use crate::lanes::{hashed, in_all, word_at};
+use crate::marks::{Marks, pick_all};
 use crate::runs::Runs;
 use aig::NoMemory;
 use base_tables::PlaceTable;
@@ -20,7 +21,14 @@ pub struct Classes {
     pub(crate) runs: Runs,
     /// How many models were looked at.
     pub(crate) turn: usize,
+    /// The entries that are asked whether they are one.
+    asked: (usize, usize),
+    /// Which ties of the cycle before queries are asked under.
+    picked: Vec<bool>,
 }
+
+/// How many ties of the cycle before are picked for one query after the other.
+const PICKED: usize = 128;
 
 impl Classes {
     /// One class of the constant and of so many nodes.
@@ -33,6 +41,8 @@ impl Classes {
             drops: 0,
             runs,
             turn: 0,
+            asked: (0, 0),
+            picked: Vec::new(alloc),
         })
     }
 
@@ -43,13 +53,43 @@ impl Classes {
         }
     }
 
-    /// Whether the node's class isn't its anchor's any more.
-    pub fn is_apart(&self, place: usize, anchor: Anchor) -> bool {
+    /// Whether the node's class is its anchor's. The node is the one that was asked last, from now on.
+    pub fn asks(&mut self, place: usize, anchor: Anchor) -> bool {
         let other = match anchor {
             Anchor::Bit(_) => 0,
             Anchor::Place { place, flipped: _ } => place.saturating_add(1),
         };
-        self.blocks.get(place.saturating_add(1)) != self.blocks.get(other)
+        self.asked = (place.saturating_add(1), other);
+        !self.is_apart()
+    }
+
+    /// Whether the node that was asked last is in another class than its anchor since.
+    pub fn is_apart(&self) -> bool {
+        self.block_of(self.asked.0) != self.block_of(self.asked.1)
+    }
+
+    /// Which ties of the cycle before the next query is asked under, of so many: those that were picked for the last ones, as long as they
+    /// are few.
+    pub fn begin_picking(&mut self, alloc: Global, ties: usize) -> Result<(), NoMemory> {
+        if self.picked.len() != ties || count_of(&self.picked) > PICKED {
+            self.picked = vec![in alloc; false; ties]?;
+        }
+        Ok(())
+    }
+
+    /// Picks some more by these marks, at most so many.
+    pub fn pick(&mut self, marks: &Marks, most: usize) {
+        marks.pick(&mut self.picked, most);
+    }
+
+    /// Picks all.
+    pub fn pick_all(&mut self) {
+        pick_all(&mut self.picked);
+    }
+
+    /// Those that are picked.
+    pub fn picked(&self) -> &[bool] {
+        &self.picked
     }
 
     fn phase(&self, entry: usize) -> bool {
@@ -99,11 +139,11 @@ impl Classes {
         Ok(())
     }
 
-    /// Puts the node into a class of its own, since its tie isn't shown within the limit.
-    pub fn drop_tie(&mut self, place: usize) -> Result<(), NoMemory> {
+    /// Puts the node that was asked last into a class of its own, since its tie isn't shown within the limit.
+    pub fn drop_tie(&mut self) -> Result<(), NoMemory> {
         self.drops = self.drops.saturating_add(1);
         let class = self.firsts.len();
-        self.put(place.saturating_add(1), class)
+        self.put(self.asked.0, class)
     }
 
     /// What each node is tied to: the first of its class.
@@ -127,6 +167,17 @@ impl Classes {
             flipped,
         }
     }
+}
+
+/// How many are picked.
+fn count_of(picked: &[bool]) -> usize {
+    let mut count = 0usize;
+    for i in 0..picked.len() {
+        if picked[i] {
+            count = count.saturating_add(1);
+        }
+    }
+    count
 }
 
 /// The number of a class and a key. A table that is full counts as no memory.

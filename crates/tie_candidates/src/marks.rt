@@ -64,7 +64,7 @@ impl Marks {
 
     /// Picks some ties more, at most so many: of those that hold in no run that is like the model, or else of those that don't hold in the
     /// first one; and all where there are none.
-    pub fn pick(&self, picked: &mut [bool], most: usize) {
+    pub(crate) fn pick(&self, picked: &mut [bool], most: usize) {
         if !self.pick_from(LIKE, picked, most) && !self.pick_from(1, picked, most) {
             pick_all(picked);
         }
@@ -84,7 +84,7 @@ impl Marks {
 }
 
 /// Picks all.
-pub fn pick_all(picked: &mut [bool]) {
+pub(crate) fn pick_all(picked: &mut [bool]) {
     for i in 0..picked.len() {
         picked[i] = true;
     }

@@ -78,7 +78,7 @@ pub fn candidates(
             classes.set_phases();
         }
         classes.split(alloc, u64::MAX)?;
-        classes.runs.carry();
+        classes.runs.carry(u64::MAX);
     }
     Ok(classes)
 }
@@ -135,7 +135,7 @@ impl Runs {
     pub(crate) fn draw(&mut self, alloc: Global, premise: &Premise<'_>) -> Result<(), NoMemory> {
         self.draw_any();
         let met = self.met(alloc, premise)?;
-        for v in 0..premise.row.len() {
+        for v in 0..premise.row.len().min(self.sides.len()) {
             let word = word_at(&self.stage.words, v) & met;
             self.stage.put(v, word | in_all(premise.row[v]) & !met);
         }
@@ -156,11 +156,14 @@ impl Runs {
         Ok(stage.read(premise.lit))
     }
 
-    /// Gives flip-flops what they take over.
-    pub(crate) fn carry(&mut self) {
+    /// Gives flip-flops what they take over. A run that doesn't count goes on from the first one that does.
+    pub(crate) fn carry(&mut self, counts: u64) {
+        let first = counts & counts.wrapping_neg();
         for i in 0..self.flops.len() {
             if let Some(flop) = self.flops.get(i).copied() {
                 let word = self.stage.read(flop.next);
+                let other = in_all(word & first != 0);
+                let word = word & counts | other & !counts;
                 self.stage.put(flop.variable as usize, word);
             }
         }

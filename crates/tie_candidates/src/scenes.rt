@@ -3,7 +3,7 @@
 
 use crate::classes::Classes;
 use crate::lanes::in_all;
-use crate::marks::{LIKE, Marks};
+use crate::marks::Marks;
 use crate::runs::{Premise, Runs};
 use aig::{Aig, NoMemory};
 use circuit_laws::signal_laws::Anchor;
@@ -41,8 +41,8 @@ pub struct Frame<'a> {
 /// What came of some assignments.
 #[derive(Drop)]
 pub struct Lesson {
-    /// Whether one that gives all of the model's variables its bits counts.
-    pub counts: bool,
+    /// Whether the node that was asked last is told apart from its anchor.
+    pub tells: bool,
     /// Whether there are more classes since.
     pub splits: bool,
     pub marks: Marks,
@@ -89,7 +89,7 @@ fn see(
     let counts = marks.holds & classes.runs.met(alloc, &frame.premise)?;
     let splits = counts != 0 && go_on(alloc, classes, frame, counts)?;
     Ok(Lesson {
-        counts: counts & LIKE != 0,
+        tells: classes.is_apart(),
         splits,
         marks,
     })
@@ -112,7 +112,7 @@ fn begin(
     put_model(runs, model, 0, turn);
     let mut marks = Marks::of(alloc, frame, &mut runs.stage)?;
     marks.holds &= runs.met(alloc, &frame.premise)?;
-    runs.carry();
+    runs.carry(u64::MAX);
     Ok(marks)
 }
 
@@ -125,14 +125,16 @@ fn go_on(
     counts: u64,
 ) -> Result<bool, NoMemory> {
     classes.runs.stage.play(frame.base);
-    let mut goes = classes.split(alloc, counts)?;
-    let splits = goes;
+    let splits = classes.split(alloc, counts)?;
+    let mut goes = splits;
+    let mut from = counts;
     for _n in 0..AHEAD {
         if goes {
-            classes.runs.carry();
+            classes.runs.carry(from);
             classes.runs.draw(alloc, &frame.premise)?;
             classes.runs.stage.play(frame.base);
-            goes = classes.split(alloc, counts)?;
+            goes = classes.split(alloc, u64::MAX)?;
+            from = u64::MAX;
         }
     }
     Ok(splits)
