@@ -12,10 +12,10 @@ use std::alloc::Global;
 const CYCLES: usize = 256;
 
 /// For how many at most.
-const MOST: usize = 1 << 12;
+const MOST: usize = 512;
 
 /// How many nodes are looked at in all cycles that there are beyond the least, roughly.
-const WORK: usize = 1 << 23;
+const WORK: usize = 1 << 20;
 
 /// A flip-flop: its variable, its initial value, if it has one, and the literal of what it takes over.
 #[derive(Clone, Copy)]
