@@ -8,6 +8,9 @@ use base_tables::PlaceTable;
 use circuit_laws::signal_laws::Anchor;
 use std::alloc::Global;
 
+/// How many ties of the cycle before stay picked for the next query at most.
+const MOST_PICKED: usize = 128;
+
 /// The class of the constant 0, and behind it that of each node by its number. A node whose phase is set has its complement there.
 #[derive(Drop)]
 pub struct Classes {
@@ -26,9 +29,6 @@ pub struct Classes {
     /// Which ties of the cycle before queries are asked under.
     picked: Vec<bool>,
 }
-
-/// How many ties of the cycle before are picked for one query after the other.
-const PICKED: usize = 128;
 
 impl Classes {
     /// One class of the constant and of so many nodes.
@@ -71,7 +71,7 @@ impl Classes {
     /// Which ties of the cycle before the next query is asked under, of so many: those that were picked for the last ones, as long as they
     /// are few.
     pub fn begin_picking(&mut self, alloc: Global, ties: usize) -> Result<(), NoMemory> {
-        if self.picked.len() != ties || count_of(&self.picked) > PICKED {
+        if self.picked.len() != ties || count_of(&self.picked) > MOST_PICKED {
             self.picked = vec![in alloc; false; ties]?;
         }
         Ok(())

@@ -17,6 +17,12 @@ const MOST: usize = 512;
 /// How many nodes are looked at in all cycles that there are beyond the least, roughly.
 const WORK: usize = 1 << 20;
 
+/// For how many cycles inputs lean to one side.
+const SPELL: usize = 16;
+
+/// The runs in which they do.
+const LEANING: u64 = 0xFFFF_FFFF_0000_0000;
+
 /// A flip-flop: its variable, its initial value, if it has one, and the literal of what it takes over.
 #[derive(Clone, Copy)]
 pub struct Flop {
@@ -34,12 +40,6 @@ pub struct Premise<'a> {
     /// Bits of the inputs by their numbers that make it 1.
     pub row: &'a [bool],
 }
-
-/// For how many cycles inputs lean to one side.
-const SPELL: usize = 16;
-
-/// The runs in which they do.
-const LEANING: u64 = 0xFFFF_FFFF_0000_0000;
 
 /// 64 runs in one cycle.
 #[derive(Drop)]
