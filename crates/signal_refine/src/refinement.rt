@@ -21,7 +21,7 @@ use aig::{Aig, Lit};
 use circuit_laws::signal_laws::Anchor;
 use sec_base::{NoMemory, Orders};
 use std::alloc::Global;
-use tie_candidates::{Classes, Premise, candidates};
+use tie_candidates::{Classes, candidates};
 
 /// Ties that are an inductive invariant.
 #[derive(Drop)]
@@ -106,13 +106,8 @@ fn rounds(alloc: Global, round: &Round<'_>) -> Result<Correspondence, NoMemory>
 /// The classes of nodes that seeded runs don't tell apart.
 fn guessed(alloc: Global, round: &Round<'_>) -> Result<Classes, NoMemory> {
     let flops = flops_of(alloc, &round.nets, round.lits, round.first)?;
-    let premise = Premise {
-        graph: round.assumed.graph,
-        lit: round.assumed.lit,
-        numbers: round.assumed.numbers,
-        row: round.assumed.row,
-    };
-    candidates(alloc, &flops, &premise, round.base, round.first)
+    let premise = round.assumed.premise();
+    candidates(alloc, flops, &premise, round.base, round.first)
 }
 
 /// Whether the ties of nodes are an inductive invariant, by queries that all say so.
@@ -178,6 +173,8 @@ fn do_step(
         care,
         before: &now,
         ties: nodes,
+        assumed: round.assumed,
+        inputs: later.inputs,
         conflicts: round.conflicts,
     };
     are_settled(alloc, classes, facts, &asked, nodes)
@@ -235,6 +232,8 @@ fn do_begin(
         care,
         before: &before,
         ties: &[],
+        assumed: round.assumed,
+        inputs: 0,
         conflicts: round.conflicts,
     };
     are_settled(alloc, classes, facts, &asked, nodes)
