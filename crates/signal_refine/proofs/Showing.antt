@@ -25,7 +25,7 @@ use Rattle.signal_refine.specs.Told.{AreTold}
 use Rattle.signal_refine.specs.Showing.{AreBelow, free_cycle, AreLits, Begins, Steps, AreInductiveNodes, AreInductiveTies}
 use Rattle.signal_refine.proofs.Bits.{bits, bits_inputs, bits_latches, both, both_before, both_behind, number_below}
 use Rattle.signal_refine.proofs.Caring.{one_after}
-use Rattle.signal_refine.proofs.Framing.{values_grow}
+use Rattle.signal_refine.proofs.Framing.{within_grows, values_grow}
 
 zero_more : (i : ℕ) → 0 + i ≡ i
 zero_more i = omega arith
