@@ -7,6 +7,7 @@ ghost use Rattle.signal_refine.specs.Asking.{AreKnown};
 ghost use Rattle.signal_refine.specs.Assuming.{IsMet, IsStepCare};
 ghost use Rattle.signal_refine.specs.Showing.{AreLits, AreReady, AreBelow, Begins, Steps, AreInductiveNodes, AreInductiveTies};
 
+use crate::ahead::put_ahead;
 use crate::ask::Asked;
 use crate::assumed::{Assumed, and_both, met_literal};
 use crate::copies::{NodeLits, carried, copy_of};
@@ -45,12 +46,13 @@ struct Round<'a> {
 }
 
 /// Guesses ties, and drops those that aren't shown where the assumption is met, with at most so many conflicts for each query, until all that
-/// are left are shown.
+/// are left are shown. If asked, what reads latches alone is tied by its value in the next cycle too.
 pub fn correspond(
     alloc: Global,
     nets: &SignalNets<'_>,
     assumed: &Assumed<'_>,
     conflicts: u32,
+    ahead: bool,
 ) -> Result<Correspondence, NoMemory>
     requires ready { AreReady nets.now }
     requires assumed { assumed.now.lit.0 < 2 * length assumed.now.graph.now }
@@ -60,13 +62,7 @@ pub fn correspond(
     nets.right.keeps();
     let first = first_latch(nets.orders);
     let mut base = Aig::new(alloc)?;
-    let cycle = Cycle {
-        nets: *nets,
-        inputs: 0,
-        first,
-        latches: Latches::Free,
-    };
-    let lits = signal_literals(alloc, &mut base, &cycle)?;
+    let lits = put_signals(alloc, &mut base, nets, first, ahead)?;
     let round = Round {
         nets: *nets,
         assumed: *assumed,
@@ -76,6 +72,33 @@ pub fn correspond(
         conflicts,
     };
     rounds(alloc, &round)
+}
+
+/// The signals' literals of the graph; if asked, with what nodes that read latches alone have in the next cycle as further nodes.
+fn put_signals(
+    alloc: Global,
+    base: &mut Aig,
+    nets: &SignalNets<'_>,
+    first: u32,
+    ahead: bool,
+) -> Result<Vec<Lit>, NoMemory>
+    requires ready { AreReady nets.now }
+    requires first { AreBelow nets.now first }
+    ensures { IfOk result (λ lits. AreLits nets.now first base.new lits.items) }
+{
+    let cycle = Cycle {
+        nets: *nets,
+        inputs: 0,
+        first,
+        latches: Latches::Free,
+    };
+    let lits = signal_literals(alloc, base, &cycle)?;
+    if !ahead {
+        return Ok(lits);
+    }
+    let flops = flops_of(alloc, nets, &lits, first)?;
+    put_ahead(alloc, base, &flops)?;
+    Ok(lits)
 }
 
 /// The ties that are left behind the last round.

@@ -10,7 +10,7 @@ use Rattle.signal_refine.specs.Assuming.{IsMet}
 use Rattle.signal_induct.specs.Tied.{tied_pair, IsInductionWhere}
 use Rattle.signal_induct.proofs.Agreeing.{all_agree}
 use Rattle.signal_induct.proofs.Held.{ties_held}
-use Rattle.signal_induct.proofs.induction.tie.Goals as goal
+use Rattle.signal_induct.proofs.induction.tie_by.Goals as goal
 
 pub correspond-requires-clause-ready : goal.correspond-requires-clause-ready
 correspond-requires-clause-ready c =
