@@ -3,8 +3,8 @@ use Rattle.std.proofs.Common.{ℕ, List}
 use Rattle.signal_refine.proofs.Showing.{are_lits, lits_grow}
 use Rattle.signal_refine.proofs.refinement.put_signals.Goals as goal
 
-pub returns-then-branch : goal.returns-then-branch
-returns-then-branch c = are_lits c.args.nets.now c.args.first c.args.base.now c.signal_literals.new.aig c.in_ok-lits.lits.items c.in_ok-lits.ensures
+pub returns-then-not-ahead : goal.returns-then-not-ahead
+returns-then-not-ahead c = are_lits c.args.nets.now c.args.first c.args.base.now c.signal_literals.new.aig c.in_ok-lits.lits.items c.in_ok-lits.ensures
 
 pub returns : goal.returns
 returns c =
