@@ -1,6 +1,7 @@
 #!/usr/bin/env python3
-"""make.py SHAPE BITS [FAULT] writes a multiplier of two words of so many bits as BLIF: y = a * b, or with `mac` before the shape
-y = a * b + c. SHAPE is `array` (row by row, each by a ripple adder), `save` (rows by carry-save adders), `wallace` or `dadda`; all end
+"""Writes a multiplier of two words of so many bits as BLIF, y = a * b: bench/words/make.py [mac] SHAPE BITS [FAULT]
+
+With `mac` it is y = a * b + c. SHAPE is `array` (row by row, each by a ripple adder), `save` (rows by carry-save adders), `wallace` or `dadda`; all end
 with a ripple adder. FAULT is a number: one gate, picked by it, gets another function."""
 import random
 import sys
@@ -131,16 +132,21 @@ def dadda(net, bits, more):
     return ripple(net, reduced(net, columns_of(net, bits, more), bound))
 
 
+SHAPES = {"array": array, "save": save, "wallace": wallace, "dadda": dadda}
+
+
 def main():
     words = sys.argv[1:]
-    sums = words[0] == "mac"
-    shape, bits, *fault = words[1:] if sums else words
-    bits = int(bits)
+    sums = words[:1] == ["mac"]
+    shape, *numbers = (words[1:] if sums else words) or [""]
+    if shape not in SHAPES or len(numbers) not in (1, 2) or not all(word.isdecimal() for word in numbers):
+        sys.exit(__doc__)
+    bits, *fault = map(int, numbers)
     net = Netlist()
     more = [f"c[{k}]" for k in range(2 * bits)] if sums else []
-    total = {"array": array, "save": save, "wallace": wallace, "dadda": dadda}[shape](net, bits, more)
+    total = SHAPES[shape](net, bits, more)
     if fault:
-        draw = random.Random(int(fault[0]))
+        draw = random.Random(fault[0])
         gate = draw.choice(net.gates)
         gate[1] = draw.choice([rows for rows in (["11"], ["10", "01"], ["1-", "-1"], ["10"], ["00", "11"]) if rows != gate[1]])
         gate[0] = gate[0][:2]
