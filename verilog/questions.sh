@@ -270,11 +270,14 @@ known_difference() {
 # or that and some before it, where it reads what they wrote. The search behind their rows, with this output alone, shows it of the designs. Sets `found`
 # and `told` as that does: known_in_runs ROWS_OF_RESET HELD
 known_in_runs() {
-  local length=$(($2 + cycles + 1)) name at run back bound=()
+  local length=$(($2 + cycles + 1)) count name at run back bound=()
   ! command -v timeout >/dev/null || bound=(timeout 30)
-  runs 200 "$length" "$2" > "$scratch/runs.$number"
-  sec_to "$scratch/known" replay "$a" "$b" "$scratch/runs.$number" --reset --after "$1"
-  read -r at name < <(sed -n 's/^cycle \([0-9]*\) pair \([^ ]*\) values .*/\1 \2/p' "$scratch/known")
+  for count in 20 200; do
+    runs "$count" "$length" "$2" > "$scratch/runs.$number"
+    sec_to "$scratch/known" replay "$a" "$b" "$scratch/runs.$number" --reset --after "$1"
+    read -r at name < <(sed -n 's/^cycle \([0-9]*\) pair \([^ ]*\) values .*/\1 \2/p' "$scratch/known")
+    [ -z "$name" ] || break
+  done
   [ -n "$name" ] || return 0
   one_output "$name" "$a" "$scratch/one.old.blif"
   one_output "$name" "$b" "$scratch/one.new.blif"
