@@ -272,7 +272,7 @@ known_difference() {
 known_in_runs() {
   local length=$(($2 + cycles + 1)) count name at run back bound=()
   ! command -v timeout >/dev/null || bound=(timeout 30)
-  for count in 20 200; do
+  for count in 20 60 200; do
     runs "$count" "$length" "$2" > "$scratch/runs.$number"
     sec_to "$scratch/known" replay "$a" "$b" "$scratch/runs.$number" --reset --after "$1"
     read -r at name < <(sed -n 's/^cycle \([0-9]*\) pair \([^ ]*\) values .*/\1 \2/p' "$scratch/known")
