@@ -170,6 +170,8 @@ shorten() {
   ! command -v timeout >/dev/null || bound=(timeout 30)
   mapfile -t words < <(valued --assume | sed -n 's/^--assume=//p; /^--assume$/{ n; p; }' | tail -n 1 | sed '1i--assume')
   ! grep -q '^assume ' "$1" && words=()
+  # The rows of a reset stay in front, and not those that random runs put behind them.
+  ! grep -q '^after ' "$1" || words+=(--front 8)
   "${bound[@]}" "$here/sec-shorten" "$1" "$2" "$3" -o "$folder/rows" "${words[@]}" 2> "$scratch/shortened"
   [ $? -eq 1 ] && [ -s "$folder/rows" ]
 }

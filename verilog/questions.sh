@@ -266,6 +266,31 @@ known_difference() {
   cycles=0 search known "$scratch/one.old.blif" "$scratch/one.new.blif" --after "$scratch/rows.$number"
 }
 
+# Tries before that whether random runs behind the reset show an output that is known in both designs and differs; of these runs the last one leads there,
+# or that and some before it, where it reads what they wrote. The search behind their rows, with this output alone, shows it of the designs. Sets `found`
+# and `told` as that does: known_in_runs ROWS_OF_RESET HELD
+known_in_runs() {
+  local length=$(($2 + cycles + 1)) count name at run back bound=()
+  ! command -v timeout >/dev/null || bound=(timeout 30)
+  for count in 20 60 200; do
+    runs "$count" "$length" "$2" > "$scratch/runs.$number"
+    sec_to "$scratch/known" replay "$a" "$b" "$scratch/runs.$number" --reset --after "$1"
+    read -r at name < <(sed -n 's/^cycle \([0-9]*\) pair \([^ ]*\) values .*/\1 \2/p' "$scratch/known")
+    [ -z "$name" ] || break
+  done
+  [ -n "$name" ] || return 0
+  one_output "$name" "$a" "$scratch/one.old.blif"
+  one_output "$name" "$b" "$scratch/one.new.blif"
+  run=$((at / length)) back=0
+  while :; do
+    [ "$back" -lt "$run" ] || back=$run
+    { cat "$1" && sed -n "$(((run - back) * length + 2)),$((at + 1))p" "$scratch/runs.$number"; } > "$scratch/rows.$number"
+    cycles=0 search known "$scratch/one.old.blif" "$scratch/one.new.blif" --after "$scratch/rows.$number"
+    [ "$told" -ne 1 ] && [ "$back" -lt "$run" ] || return 0
+    back=$((2 * back + 1))
+  done
+}
+
 # Where it isn't decided from any power-up, and inputs reset the designs: that ties of signals show them equal behind a reset is the answer, or
 # else a difference in the first cycles there. Sets `behind` to what was found. What is known behind the rows of a reset is so whatever the
 # flip-flops held before.
@@ -295,7 +320,9 @@ behind_a_reset() {
   case $assumed,$told,$unknown in
     ,2,?* | ,3,* | ,124,*)
       before=$told
-      known_difference "$scratch/reset.$number" "$held"
+      known_in_runs "$scratch/reset.$number" "$held"
+      [ "$told" -eq 1 ] || told=$before
+      [ "$told" -eq 1 ] || known_difference "$scratch/reset.$number" "$held"
       [ "$told" -eq 1 ] || told=$before
       ;;
   esac

@@ -56,6 +56,28 @@ stimulus() {
     }' "$scratch/resets" "$scratch/columns"
 }
 
+# A stimulus of random runs one behind the other, the same each time: in each the resets are held in the first rows, where all else is 0, and then
+# let go, and an input is 1 half of the time, seldom or mostly, as falls for each run: runs COUNT ROWS HELD
+runs() {
+  awk -v runs="$1" -v rows="$2" -v held="$3" '
+    function below(most) { state = state * 16807 % 2147483647; return state % most }
+    FILENAME == ARGV[1] { held_at[$1] = $2; next }
+    { names = names " " $1; name[++count] = $1; line = line ($1 in held_at ? held_at[$1] : 0) }
+    END {
+      print "inputs" names
+      state = 1
+      while (runs-- > 0) {
+        for (at = 1; at <= count; at++) ones[at] = substr("4417", 1 + below(4), 1)
+        for (row = 0; row < held; row++) print line
+        for (; row < rows; row++) {
+          free = ""
+          for (at = 1; at <= count; at++) free = free (name[at] in held_at ? 1 - held_at[name[at]] : below(1024) < 128 * ones[at])
+          print free
+        }
+      }
+    }' "$scratch/resets" "$scratch/columns"
+}
+
 # Which inputs are held at what, in words.
 resets_told() {
   awk '{ print $1 " at " $2 }' "$scratch/resets" | paste -s -d ',' | sed 's/,/, /g'
