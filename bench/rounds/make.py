@@ -3,14 +3,15 @@
 
 Each pair is NAME.a.blif and NAME.b.blif in FOLDER, as bench/pipelines/compare reads them: Verilog is written, brought in by Yosys, and changed by
 ABC. A cipher of 16 rounds on two halves of 32 bits, its tables by a seed, with a stage for each two rounds; one round of a hash whose sums are
-added in another order; rotations of a vector in 12 steps, by ripple and by prefix adders; each also with a fault. Yosys and ABC are wanted.
+added in another order; rotations of a vector in 12 steps, by ripple and by prefix adders; a filter of eight taps, summed as a row or as a
+tree; each also mapped, and with a fault. Yosys and ABC are wanted.
 """
 import pathlib
 import random
 import subprocess
 import sys
 
-ABC = {"dch": "strash; dch; if -K 6", "dc2": "strash; dc2; dc2", "retimed": "strash; dretime; strash; dc2"}
+ABC = {"dch": "strash; dch; if -K 6", "dc2": "strash; dc2; dc2", "mapped": "strash; if -K 4", "retimed": "strash; dretime; strash; dc2"}
 
 
 def cipher(faulty=False):
@@ -101,6 +102,18 @@ def rotations(adder, faulty=False):
     return "\n".join([*lines, "assign u = x12, v = y12, w = z12;", "endmodule", ADDERS[adder]])
 
 
+def fir(other=False, faulty=False):
+    """A filter of eight taps of eight bits by fixed numbers, its products summed as a row or as a tree."""
+    by = (3, 11, 37, 53, 53, 37, 11, 3)
+    lines = ["module top (input clk, input [7:0] x, output reg [15:0] y);"]
+    lines += [f"reg [7:0] d{i}; always @(posedge clk) d{i} <= {f'd{i - 1}' if i else 'x'};" for i in range(8)]
+    lines += [f"reg [15:0] p{i}; always @(posedge clk) p{i} <= {{8'd0, d{i}}} * 16'd{n};" for i, n in enumerate(by)]
+    row = " + ".join(f"p{i}" for i in range(8))
+    total = "((p0 + p1) + (p2 + p3)) + ((p4 + p5) + (p6 + p7))" if other else row
+    wrong = " ^ {15'd0, p1[4] & p3[6] & p6[5]}" if faulty else ""
+    return "\n".join([*lines, f"always @(posedge clk) y <= ({total}){wrong};", "endmodule", ""])
+
+
 def run(words, text=None):
     subprocess.run(words, input=text, text=True, check=True, stdout=subprocess.DEVNULL)
 
@@ -125,6 +138,7 @@ def main():
         "cipher": (cipher(), None, cipher(faulty=True)),
         "hash": (hashed(), hashed(other=True), hashed(other=True, faulty=True)),
         "rotations": (rotations("ripple"), rotations("prefix"), rotations("prefix", faulty=True)),
+        "fir": (fir(), fir(other=True), fir(faulty=True)),
     }
     for name, (first, second, faulty) in designs.items():
         a = blif(folder, name, first)
