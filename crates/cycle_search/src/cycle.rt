@@ -17,7 +17,7 @@ use base_tables::PlaceTable;
 use cbf_unfold::unfold_places::Unfolded;
 use merged_graph::MergedGraph;
 use obligations::outcome::PairResults;
-use obligations::{Decided, decide_all, verdict_at};
+use obligations::{Decided, decide_near, verdict_at};
 use reset_form::reset_functions::{Bases, Functions};
 use reset_form::reset_unfold::ResetUnfolder;
 use reset_form::{ResetError, ResetVerdict};
@@ -179,7 +179,8 @@ fn decide_cycle(
         right,
         cycle,
     )?;
-    let decided = decide_all(alloc, &functions.aig, asked.as_slice(), conflicts)?;
+    let told = unfolded.merged.told.as_slice();
+    let decided = decide_near(alloc, &functions.aig, asked.as_slice(), told, conflicts)?;
     let Decided {
         results,
         different,

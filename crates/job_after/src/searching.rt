@@ -19,8 +19,16 @@ pub trait NetSearch {
     /// What is said of all that such a search finds.
     ghost finds: { Self → Searched → Type 0 };
 
-    /// What is found of these nets; nothing where the search refuses them.
-    fn search(&self, alloc: Global, a: &Net, b: &Net) -> Result<Option<Searched>, NoMemory>
+    /// What is found of these nets up to this last cycle, or to the search's own if that is less, with at most so many conflicts for each query,
+    /// or its own; nothing where the search refuses them.
+    fn search(
+        &self,
+        alloc: Global,
+        a: &Net,
+        b: &Net,
+        cycles: u32,
+        conflicts: u32,
+    ) -> Result<Option<Searched>, NoMemory>
         requires can { can_search self.now }
         requires left { IsComparable a.now }
         requires right { IsComparable b.now }
@@ -49,8 +57,17 @@ impl NetSearch for Start<'_> {
 
     ghost finds = { λ _ _. Unit {0} };
 
-    fn search(&self, alloc: Global, a: &Net, b: &Net) -> Result<Option<Searched>, NoMemory> {
-        match search_cycles(alloc, a, b, self.cycles, self.conflicts) {
+    fn search(
+        &self,
+        alloc: Global,
+        a: &Net,
+        b: &Net,
+        cycles: u32,
+        conflicts: u32,
+    ) -> Result<Option<Searched>, NoMemory> {
+        let last = self.cycles.min(cycles);
+        let most = self.conflicts.min(conflicts);
+        match search_cycles(alloc, a, b, last, most) {
             Ok(searched) => Ok(Some(searched)),
             Err(SearchError::NoMemory) => Err(NoMemory),
             Err(_) => Ok(None),

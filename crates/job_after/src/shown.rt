@@ -86,7 +86,7 @@ fn shown_anew<S: NetSearch>(
     requires header { start.now.header.now ≡ start.now.stimulus.now.names }
     ensures { IfOk result (λ shown. IfSome shown (IsShownBy (S.finds search.now) a.now b.now start.now.stimulus.now.names start.now.stimulus.now.rows)) }
 {
-    let Some(searched) = search.search(alloc, a, b)? else {
+    let Some(searched) = search.search(alloc, a, b, start.cycles, start.conflicts)? else {
         return Ok(None);
     };
     let shown = shown_by(alloc, a, b, start, &searched)?;

@@ -28,8 +28,17 @@ impl NetSearch for AssumedSearch<'_> {
 
     ghost finds = { λ s. GoesOnMeeting (circuit_of s.assumed.now) };
 
-    fn search(&self, alloc: Global, a: &Net, b: &Net) -> Result<Option<Searched>, NoMemory> {
-        match search_cycles_under(alloc, a, b, self.assumed, self.cycles, self.conflicts) {
+    fn search(
+        &self,
+        alloc: Global,
+        a: &Net,
+        b: &Net,
+        cycles: u32,
+        conflicts: u32,
+    ) -> Result<Option<Searched>, NoMemory> {
+        let last = self.cycles.min(cycles);
+        let most = self.conflicts.min(conflicts);
+        match search_cycles_under(alloc, a, b, self.assumed, last, most) {
             Ok(SearchUnder::Searched(_, searched)) => Ok(Some(searched)),
             Err(UnderError::NoMemory) => Err(NoMemory),
             _ => Ok(None),

@@ -1,5 +1,5 @@
 -- Each difference is one in all runs that are meant.
-use Rattle.std.proofs.Common.{◌≡◌, ◌≢◌, ℕ, zero, suc, ◌+◌, ◌-◌, ◌<◌, Bool, true, false, cond, List, [], ◌∷◌, ◌++◌, length, map, refl, sym, ◌∙◌, ap, subst, arith, inl, inr, Option, Some, None}
+use Rattle.std.proofs.Common.{◌≡◌, ◌≢◌, ℕ, zero, suc, ◌+◌, ◌-◌, ◌<◌, Bool, true, false, cond, List, [], ◌∷◌, length, map, refl, sym, ◌∙◌, ap, subst, arith, inl, inr, Option, Some, None}
 use Rattle.std.specs.Prelude.{◌⊎◌}
 use Rattle.std.specs.List.{All, Contains}
 use Rattle.std.proofs.lemmas.List.Elements.{All-contains, Contains-append_cases}
@@ -14,8 +14,7 @@ use Rattle.sec_setup.specs.declared.ports.pairs.SignalPair.{SignalPair}
 use Rattle.sec_setup.specs.ports.Pairs.{NamedPair, places_of}
 use Rattle.cycle_sim.specs.declared.pair_runs.differences.Difference.{Difference}
 use Rattle.cycle_sim.specs.pair_runs.Listing.{differ}
-use Rattle.restart.specs.Agreement.{BeginsBy}
-use Rattle.restart.specs.Behind.{begun, IsBegun}
+use Rattle.restart.specs.Behind.{IsBegun}
 use Rattle.restart.proofs.Begun.{begun_starts, begun_circuit, begun_known, begins_with}
 use Rattle.job_known.specs.declared.known_pairs.KnownReplay.{KnownReplay}
 use Rattle.job_known.specs.Cycle.{AreWithin}

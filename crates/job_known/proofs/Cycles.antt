@@ -1,5 +1,5 @@
 -- The cycles of two runs, one after the other.
-use Rattle.std.proofs.Common.{◌≡◌, ℕ, zero, suc, ◌+◌, ◌<◌, ◌≤◌, Bool, true, false, cond, List, [], ◌∷◌, ◌++◌, map, length, replicate, get_or, slice_get, refl, sym, ap, ◌∙◌, subst, arith, Option, Some, None}
+use Rattle.std.proofs.Common.{◌≡◌, ℕ, zero, suc, ◌<◌, ◌≤◌, Bool, true, false, cond, List, [], ◌∷◌, ◌++◌, map, length, replicate, get_or, slice_get, refl, sym, ap, ◌∙◌, subst, arith, Option, Some, None}
 use Rattle.std.specs.Prelude.{◌||◌}
 use Rattle.std.proofs.lemmas.Option.{get_or_from_slice_get}
 use Rattle.flat_net.specs.declared.parts.LatchAt.{LatchAt}
@@ -15,7 +15,7 @@ use Rattle.restart.proofs.Ran.{Ran, ran_none, ran_grown, ran_inputs, ran_gates, 
 use Rattle.circuit_theory.proofs.Lists.{at_of, map_same}
 use Rattle.job_known.specs.declared.course.Course.{Course}
 use Rattle.job_known.specs.declared.known_pairs.KnownReplay.{KnownReplay}
-use Rattle.job_known.specs.Known.{known_at_first, IsThreeRunFrom, KnownRun}
+use Rattle.job_known.specs.Known.{known_at_first, KnownRun}
 use Rattle.job_known.specs.Course.{IsFirst, IsSized, Steps}
 use Rattle.job_known.specs.Cycle.{marked, PutsCycle}
 use Rattle.job_known.specs.Pairs.{both_known, differences_in, some_known, differences_of, is_seen, cycles_of, AreShown, ShowsKnown}

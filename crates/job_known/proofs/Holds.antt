@@ -1,14 +1,14 @@
 -- What the three-valued run of a net from its initial values knows is so in each run from these that reads the rows.
-use Rattle.std.proofs.Common.{◌≡◌, ℕ, zero, suc, ◌+◌, ◌<◌, ◌≤◌, Bool, true, false, List, [], ◌∷◌, length, map, slice_get, refl, sym, ◌∙◌, ap, subst, arith, add-one, inl, inr, Option, Some, None}
+use Rattle.std.proofs.Common.{◌≡◌, ℕ, zero, suc, ◌+◌, ◌<◌, ◌≤◌, Bool, true, false, List, [], ◌∷◌, length, map, refl, sym, ◌∙◌, ap, arith, add-one, inl, inr, Option, Some, None}
 use Rattle.std.specs.Prelude.{◌⊎◌}
 use Rattle.std.specs.List.{All, Contains}
 use Rattle.std.proofs.lemmas.List.{length-map}
 use Rattle.std.proofs.lemmas.List.Elements.{All-contains}
-use Rattle.circuit_theory.specs.Circuit.{Circuit, Equation, Gate, Latch, Port, Started, IsInput, IsLatch, Holds, Carries, out_of}
+use Rattle.circuit_theory.specs.Circuit.{Circuit, Equation, Gate, Latch, Port, IsInput, IsLatch, Holds, Carries, out_of}
 use Rattle.circuit_theory.specs.Net.{IsNet, IsAbove, IsWithin}
 use Rattle.circuit_theory.specs.Run.{IsResetRun}
 use Rattle.circuit_theory.proofs.Lists.{Contains-head, Contains-tail, of_at}
-use Rattle.circuit_laws.specs.start_laws.Known.{Completes, BeginsWith, cover_three}
+use Rattle.circuit_laws.specs.start_laws.Known.{Completes, BeginsWith}
 use Rattle.circuit_laws.proofs.start_laws.Covers.{cover_forces}
 use Rattle.circuit_laws.proofs.NetTrees.{has_number}
 use Rattle.circuit_laws.proofs.Pairs.{filter_map-has}

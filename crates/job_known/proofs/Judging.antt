@@ -1,24 +1,20 @@
 -- What is judged of two nets, by what they show.
-use Rattle.std.specs.Prelude.{◌≡◌, ◌<◌, ℕ, Bool, List, [], length, map, Option, Result, Ok, Err, IsErrAnd}
-use Rattle.std.proofs.Common.{sym, ap, subst, inl, inr}
-use Rattle.std.specs.List.{All, Contains}
+use Rattle.std.specs.Prelude.{◌≡◌, ℕ, Bool, List, [], length, map, Option, Ok}
+use Rattle.std.proofs.Common.{sym, ap, subst}
+use Rattle.std.specs.List.{All}
 use Rattle.flat_net.specs.Sound.{IsSound}
 use Rattle.flat_net.specs.View.{NetView, circuit_of}
 use Rattle.sec_setup.specs.Matching.{InterfacesMatch}
 use Rattle.sec_setup.specs.declared.ports.pairs.SignalPair.{SignalPair}
 use Rattle.sec_setup.specs.ports.Pairs.{NamedPair, places_of, named_pairs}
 use Rattle.restart.specs.Behind.{IsBegun}
-use Rattle.job_circuit.specs.declared.replay.replay_header.error.ReplayError.{ReplayError}
-use Rattle.job_circuit.specs.declared.replay.replay_header.error.ReplayError.TheVariants as header
-use Rattle.job_after.specs.declared.fault.AfterFault.{AfterFault}
-use Rattle.job_after.specs.declared.fault.AfterFault.TheVariants as fault
 use Rattle.job_after.specs.declared.judging.Judged.{Judged}
-use Rattle.job_after.specs.Ends.{FitsAfter, header_fault}
+use Rattle.job_after.specs.Ends.{FitsAfter}
 use Rattle.job_after.specs.Report.{begun_text}
 use Rattle.job_known.specs.declared.known_pairs.KnownReplay.{KnownReplay}
 use Rattle.job_known.specs.Cycle.{AreWithin}
 use Rattle.job_known.specs.Pairs.{ShowsKnown, ReadsFromReset, ReadsBehind, DifferAlways}
-use Rattle.job_known.specs.Judged.{MatchesAfter, IsTold, IsReplayedFrom, IsReplayedBehind, ReplaysFrom, ReplaysBehind}
+use Rattle.job_known.specs.Judged.{IsTold, IsReplayedFrom, IsReplayedBehind}
 use Rattle.job_known.proofs.Always.{differ_from_reset, differ_behind, places_within}
 
 module _ (settles : Bool) (a b : NetView) (names : List (List ℕ)) (rows : List (List Bool)) where

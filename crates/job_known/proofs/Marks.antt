@@ -1,7 +1,6 @@
 -- The pairs of a cycle, one after the other.
-use Rattle.std.proofs.Common.{◌≡◌, ℕ, zero, suc, ◌+◌, ◌<◌, Bool, true, false, List, [], ◌∷◌, ◌++◌, map, length, take, get_or, set, slice_get, refl, sym, ap, ◌∙◌, arith, Option, Some}
+use Rattle.std.proofs.Common.{◌≡◌, ℕ, zero, suc, ◌+◌, ◌<◌, Bool, false, List, [], ◌∷◌, ◌++◌, map, length, take, get_or, set, slice_get, refl, sym, ap, ◌∙◌, arith, Option, Some}
 use Rattle.std.specs.Prelude.{◌||◌}
-use Rattle.std.specs.List.{flat_map, list_any}
 use Rattle.std.proofs.lemmas.List.{map-append, take_more, flat_map_more}
 use Rattle.std.proofs.lemmas.Option.{none-some, same_Some}
 use Rattle.sec_setup.specs.declared.ports.pairs.SignalPair.{SignalPair}

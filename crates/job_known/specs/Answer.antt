@@ -1,5 +1,5 @@
 -- What the status of a replay of what is known says, and when there is one.
-use Rattle.std.specs.Prelude.{◌≡◌, ℕ, Bool, true, false, List, [], Option, Result, Ok, Err, IsSomeAnd}
+use Rattle.std.specs.Prelude.{◌≡◌, ℕ, Bool, true, List, Option, Result, Ok, IsSomeAnd}
 use Rattle.base_shelves.specs.Outside.{Takes}
 use Rattle.flat_net.specs.View.{NetView}
 use Rattle.sec_setup.specs.Matching.{InterfacesMatch}

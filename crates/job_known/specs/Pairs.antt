@@ -4,7 +4,7 @@ use Rattle.std.specs.List.{Contains, flat_map, list_any}
 use Rattle.circuit_theory.specs.Run.{IsRun, IsResetRun}
 use Rattle.flat_net.specs.View.{NetView, circuit_of}
 use Rattle.witness_report.specs.declared.witness.PairName.{PairName}
-use Rattle.sec_setup.specs.ports.Pairs.{NamedPair, named_pairs}
+use Rattle.sec_setup.specs.ports.Pairs.{NamedPair}
 use Rattle.cycle_sim.specs.declared.pair_runs.differences.Difference.{Difference}
 use Rattle.cycle_sim.specs.pair_runs.Listing.{differ}
 use Rattle.restart.specs.Agreement.{BeginsBy}

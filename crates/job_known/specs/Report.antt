@@ -1,5 +1,5 @@
 -- The report of a replay of what is known.
-use Rattle.std.specs.Prelude.{ℕ, Bool, true, false, ◌==◌, ◌&&◌, List, [], ◌∷◌, ◌++◌, length, codes, filter, if◌then◌else◌}
+use Rattle.std.specs.Prelude.{ℕ, Bool, true, false, ◌==◌, ◌&&◌, List, ◌++◌, length, codes, filter, if◌then◌else◌}
 use Rattle.std.specs.Fmt.{decimal}
 use Rattle.cycle_sim.specs.pair_runs.replay_report.Report.{replay_text}
 use Rattle.job_base.specs.declared.finding.Judgement.{Judgement}

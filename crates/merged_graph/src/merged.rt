@@ -7,13 +7,15 @@ ghost use Rattle.swept_queries.specs.node_agreement.Agreeing.{Agree};
 ghost use Rattle.swept_queries.specs.sweep.Swept.{IsSwept};
 ghost use Rattle.merged_graph.specs.Merged.{IsMerged};
 
-use crate::searches::agree;
+use crate::searches::{Found, agree};
 use crate::stand_ins::{literal_at, put_node, with_literal};
-use crate::targets::{is_any_open, is_any_told, is_one, put_open};
+use crate::targets::{is_any_open, is_any_told, is_one, is_told, put_open};
 use crate::words::words_for;
+use aig::lane_eval::SignatureTable;
 use aig::{Aig, Lit, Lits, MAX_CONFLICTS, MAX_TABLE_VARIABLES, NoMemory};
 use std::alloc::Global;
-use swept_queries::node_agreement::{Effort, signatures};
+use swept_queries::node_agreement::{Effort, Model, signatures};
+use swept_queries::put_models;
 use swept_queries::sweep::{Swept, sweep_across};
 
 /// The least conflicts with which nodes are tried.
@@ -29,8 +31,8 @@ pub struct MergedGraph {
     pub lits: Lits,
     /// How many of the other graph's nodes were there when nodes were last tried.
     pub tried: usize,
-    /// Whether one of the pairs that were tried last isn't one.
-    pub open: bool,
+    /// What told pairs apart that were decided last.
+    pub told: Vec<Model>,
 }
 
 /// It is let go by one call: an owner isn't taken apart field by field at each way out.
@@ -40,7 +42,7 @@ impl Drop for MergedGraph {
             graph: _,
             lits: _,
             tried: _,
-            open: _,
+            told: _,
         } = self;
     }
 }
@@ -54,26 +56,22 @@ impl MergedGraph {
             graph: Aig::new(alloc)?,
             lits: Lits::new(alloc),
             tried: 0,
-            open: false,
+            told: Vec::new(alloc),
         })
     }
 
-    /// Whether two literals of the other graph have one here, and each of the pairs that were tried last does: then they agree under
-    /// every assignment.
+    /// Whether two literals of the other graph have one here: then they agree under every assignment.
     pub fn is_one(&self, left: Lit, right: Lit) -> bool
         ensures { IsTrue result → (g : List Node) → IsMerged g self.now → Agree g left.0 right.0 }
     {
-        if self.open {
-            return false;
-        }
         is_one(self.lits.as_slice(), left, right)
     }
 
     /// Follows the other graph, which may have grown, and makes these pairs of its literals one, where they are proved to agree. They are
-    /// swept by small cuts, then decided one by one, each with at most a twentieth of so many conflicts, then swept by searches, and then
-    /// decided with all of them. By searches only nodes of right sides are tried that weren't there when nodes were last tried. Nothing is
-    /// done where all variables are at most 16, where a twentieth of the conflicts is less than one, where each pair is one already, and
-    /// where one of 512 assignments tells a pair apart.
+    /// swept by small cuts, then decided one by one, each with at most a twentieth of so many conflicts, and where no pair is told apart so,
+    /// nor by one of 512 assignments, swept by searches, and then decided with all of them. By searches only nodes of right sides are tried
+    /// that weren't there when nodes were last tried. Nothing is done where all variables are at most 16, where a twentieth of the conflicts
+    /// is less than one, and where each pair is one already.
     pub fn merge(
         &mut self,
         alloc: Global,
@@ -86,28 +84,35 @@ impl MergedGraph {
         ensures { OnOk result (IsMerged other.now self.new) }
     {
         let few = other.vars() as usize <= MAX_TABLE_VARIABLES;
-        self.open = is_any_open(self.lits.as_slice(), asked);
-        if few || conflicts < LEAST || !self.open {
+        self.told = Vec::new(alloc);
+        if few || conflicts < LEAST || !is_any_open(self.lits.as_slice(), asked) {
             return Ok(());
         }
         self.follow(other)?;
+        self.sweep(alloc, other, asked, conflicts, false)?;
+        self.decide(alloc, other, asked, conflicts / 20)?;
         if self.is_any_told(alloc, asked)? {
             return Ok(());
         }
-        self.sweep(alloc, other, asked, conflicts, false)?;
-        self.decide(alloc, other, asked, conflicts / 20)?;
         self.sweep(alloc, other, asked, conflicts, true)?;
         self.decide(alloc, other, asked, conflicts)?;
         self.tried = self.lits.len();
-        self.open = is_any_open(self.lits.as_slice(), asked);
         Ok(())
     }
 
     /// Whether one of 512 assignments tells a pair apart.
     fn is_any_told(&self, alloc: Global, asked: &[(Lit, Lit)]) -> Result<bool, NoMemory> {
-        let words = words_for(alloc, self.graph.vars())?;
-        let table = signatures(alloc, &self.graph, words.as_slice())?;
+        let table = self.values(alloc)?;
         Ok(is_any_told(&table, self.graph.size(), self.lits.as_slice(), asked))
+    }
+
+    /// The nodes' values under 512 assignments, of which 64 are near each of those that told pairs apart.
+    fn values(&self, alloc: Global) -> Result<SignatureTable, NoMemory>
+        ensures { IfOk result (λ table. length table ≡ length self.now.graph) }
+    {
+        let mut words = words_for(alloc, self.graph.vars())?;
+        put_models(words.as_mut_slice(), self.told.as_slice());
+        signatures(alloc, &self.graph, words.as_slice())
     }
 
     /// Puts a literal for each further node of the other graph, as long as there is room.
@@ -188,8 +193,8 @@ impl MergedGraph {
         )
     }
 
-    /// Decides the pairs that aren't one yet, each with at most so many conflicts, and makes those one that agree, up to the first that
-    /// isn't found to.
+    /// Decides the pairs that aren't one yet, each with at most so many conflicts, and makes those one that agree, up to the first that stays
+    /// open. What tells one apart is tried on those behind it.
     fn decide(
         &mut self,
         alloc: Global,
@@ -201,15 +206,25 @@ impl MergedGraph {
         requires conflicts { conflicts ≤ MAX_CONFLICTS }
         ensures { OnOk result (IsMerged other.now self.new) }
     {
+        let mut table = self.values(alloc)?;
+        let mut nodes = self.graph.size();
         for i in 0..asked.len() {
-            if !self.decide_pair(alloc, other, asked[i].0, asked[i].1, conflicts)? {
-                return Ok(());
+            let (left, right) = asked[i];
+            if !is_told(&table, nodes, self.lits.as_slice(), left, right) {
+                let before = self.told.len();
+                if !self.decide_pair(alloc, other, left, right, conflicts)? {
+                    return Ok(());
+                }
+                if before < self.told.len() {
+                    table = self.values(alloc)?;
+                    nodes = self.graph.size();
+                }
             }
         }
         Ok(())
     }
 
-    /// The same of one pair. Whether it is one then.
+    /// The same of one pair. Whether it doesn't stay open.
     fn decide_pair(
         &mut self,
         alloc: Global,
@@ -229,11 +244,17 @@ impl MergedGraph {
         if x.0 == y.0 {
             return Ok(true);
         }
-        if !agree(alloc, &self.graph, x, y, conflicts)? {
-            return Ok(false);
+        match agree(alloc, &self.graph, x, y, conflicts)? {
+            Found::Agree => {
+                let made = with_literal(alloc, lits, right, x)?;
+                self.lits = Lits::from_vec(made);
+                Ok(true)
+            }
+            Found::Apart(model) => {
+                self.told.push(model)?;
+                Ok(true)
+            }
+            Found::Open => Ok(false),
         }
-        let made = with_literal(alloc, lits, right, x)?;
-        self.lits = Lits::from_vec(made);
-        Ok(true)
     }
 }

@@ -48,7 +48,13 @@ pub(crate) fn is_any_told(
 }
 
 /// The same of one pair.
-fn is_told(table: &SignatureTable, nodes: u32, lits: &[Lit], left: Lit, right: Lit) -> bool
+pub(crate) fn is_told(
+    table: &SignatureTable,
+    nodes: u32,
+    lits: &[Lit],
+    left: Lit,
+    right: Lit,
+) -> bool
     requires { nodes ≡ length table.now }
 {
     let (Some(x), Some(y)) = (literal_at(lits, left), literal_at(lits, right)) else {

@@ -1,4 +1,5 @@
 pub mod Asked
+pub mod Agreed
 pub mod Found
 pub mod Decided
 pub mod Fits

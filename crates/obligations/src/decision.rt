@@ -2,16 +2,17 @@
 
 ghost use Rattle.std.specs.Prelude.{◌≡◌, ◌+◌, ◌<◌, ◌≤◌, ◌^◌, length, take, IfOk, OnOk};
 ghost use Rattle.obligations.specs.Asked.{AreAsked, AreKnown, queries_of};
+ghost use Rattle.obligations.specs.Agreed.{AreAgreed};
 ghost use Rattle.obligations.specs.Found.{differing};
 ghost use Rattle.obligations.specs.Decided.{HaveDecided, IsAnswerOf, IsPut};
 
-use crate::found::{Found, decide_queries};
+use crate::found::{Found, find};
+use crate::known::{KnownSides, known_sides};
 use crate::names::copy_name;
 use crate::obligation::{Difference, Obligation};
 use crate::outcome::{Aig, MAX_CONFLICTS, NoMemory, PairAnswer, PairName, PairResult, PairResults};
-use crate::sides::sweep_asked;
 use std::alloc::Global;
-use swept_queries::SweptQueries;
+use swept_queries::node_agreement::Model;
 
 /// What is found of all obligations.
 #[derive(Drop)]
@@ -25,7 +26,8 @@ pub struct Decided {
 }
 
 /// Decides all obligations in order, each query with at most so many conflicts, of which there are at most 200,000. The graph is swept once
-/// for all queries of more than 16 variables; a query of up to 16 variables is decided by its table, and its difference is the least.
+/// for all queries of more than 16 variables, and where it leaves bits of a word open, both words are rewritten as sums; a query of up to 16
+/// variables is decided by its table, and its difference is the least.
 pub fn decide_all(
     alloc: Global,
     aig: &Aig,
@@ -36,7 +38,23 @@ pub fn decide_all(
     requires conflicts { conflicts ≤ MAX_CONFLICTS }
     ensures { IfOk result (HaveDecided aig.now conflicts asked.now) }
 {
-    let swept = sweep_asked(alloc, aig, asked, conflicts)?;
+    let models = Vec::new(alloc);
+    decide_near(alloc, aig, asked, models.as_slice(), conflicts)
+}
+
+/// The same, where assignments near these models are tried first on queries of more than 16 variables.
+pub fn decide_near(
+    alloc: Global,
+    aig: &Aig,
+    asked: &[Obligation],
+    models: &[Model],
+    conflicts: u32,
+) -> Result<Decided, NoMemory>
+    requires asked { AreAsked aig.now asked.now }
+    requires conflicts { conflicts ≤ MAX_CONFLICTS }
+    ensures { IfOk result (HaveDecided aig.now conflicts asked.now) }
+{
+    let known = known_sides(alloc, aig, asked, models, conflicts)?;
     let mut decided = Decided {
         results: PairResults::new(alloc),
         different: None,
@@ -44,7 +62,7 @@ pub fn decide_all(
     };
     let mut place = 0;
     for i in 0..asked.len() {
-        decide_next(alloc, aig, asked, &swept, i, place, conflicts, &mut decided)?;
+        decide_next(alloc, aig, asked, &known, i, place, conflicts, &mut decided)?;
         place += asked[i].queries.len();
     }
     Ok(decided)
@@ -55,14 +73,15 @@ fn decide_next(
     alloc: Global,
     aig: &Aig,
     asked: &[Obligation],
-    swept: &SweptQueries,
+    known: &KnownSides,
     i: usize,
     place: usize,
     conflicts: u32,
     decided: &mut Decided,
 ) -> Result<(), NoMemory>
     requires asked { AreAsked aig.now asked.now }
-    requires known { AreKnown aig.now swept.now (queries_of asked.now) }
+    requires known { AreKnown aig.now known.now.swept (queries_of asked.now) }
+    requires agreed { AreAgreed aig.now known.now.bits.items }
     requires few { length (queries_of asked.now) < 2 ^ 64 }
     requires within { i < length asked.now }
     requires place { place ≡ length (queries_of (take i asked.now)) }
@@ -71,7 +90,7 @@ fn decide_next(
 {
     let obligation = &asked[i];
     let queries = obligation.queries.as_slice();
-    let found = decide_queries(alloc, aig, queries, swept, place, conflicts)?;
+    let found = find(alloc, aig, queries, known, i, place, conflicts)?;
     let name = copy_name(&obligation.name)?;
     let (result, difference) = answer_of(name, obligation.size, obligation.decisive, i, found);
     decided.results.push(result)?;

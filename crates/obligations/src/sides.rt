@@ -8,13 +8,15 @@ use crate::obligation::Obligation;
 use crate::outcome::{Aig, NoMemory, Query};
 use aig::MAX_TABLE_VARIABLES;
 use std::alloc::Global;
+use swept_queries::node_agreement::Model;
 use swept_queries::{Sides, SweptQueries, sweep_queries};
 
-/// Sweeps the graph for the queries that may need a search.
+/// Sweeps the graph for the queries that may need a search. Assignments near these models are tried on them.
 pub(crate) fn sweep_asked(
     alloc: Global,
     aig: &Aig,
     asked: &[Obligation],
+    models: &[Model],
     conflicts: u32,
 ) -> Result<SweptQueries, NoMemory>
     requires { AreAsked aig.now asked.now }
@@ -22,7 +24,7 @@ pub(crate) fn sweep_asked(
     ensures few { OnOk result (length (queries_of asked.now) < 2 ^ 64) }
 {
     let sides = all_sides(alloc, asked)?;
-    sweep_queries(alloc, aig, sides.as_slice(), conflicts)
+    sweep_queries(alloc, aig, sides.as_slice(), models, conflicts)
 }
 
 /// For each query, in order, its literals if it has many variables.

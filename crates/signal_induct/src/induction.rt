@@ -10,7 +10,7 @@ ghost use Rattle.induct.specs.Inductions.{IsRefusal};
 ghost use Rattle.signal_refine.specs.Assuming.{IsMet};
 ghost use Rattle.signal_induct.specs.Tied.{first_apart, AgreeFromResetWhere, IsInductionWhere, IsSignalInduction};
 
-use crate::outputs::{TiedPairs, output_pairs, tied_pairs};
+use crate::outputs::{TiedPairs, equal_count, output_pairs, tied_pairs};
 use aig::{Aig, Lit};
 use block_refine::latch_blocks::is_light;
 use flat_net::Net;
@@ -118,7 +118,8 @@ fn induct_light(
     Err(NoMemory)
 }
 
-/// The same where all inputs' numbers are small.
+/// The same where all inputs' numbers are small. Where these ties don't make all outputs equal, values in the next cycle are tied too, and
+/// the ties count that make more of them equal.
 fn tie(
     alloc: Global,
     a: &Net,
@@ -137,6 +138,38 @@ fn tie(
     ensures made { IfOk result (IsInductionWhere (IsMet assumed.now (record { left = a.entry; right = b.entry; orders = orders.entry })) a.now b.now) }
     ensures agree { IfOk result (λ made. first_apart made.pairs ≡ None → AgreeFromResetWhere (IsMet assumed.now (record { left = a.entry; right = b.entry; orders = orders.entry })) (circuit_of a.now) (circuit_of b.now)) }
 {
+    let made = tie_by(alloc, a, b, orders, assumed, conflicts, false)?;
+    let equal = equal_count(made.pairs.as_slice());
+    if equal == made.pairs.as_slice().len() {
+        return Ok(made);
+    }
+    let more = tie_by(alloc, a, b, orders, assumed, conflicts, true)?;
+    if equal_count(more.pairs.as_slice()) > equal {
+        return Ok(more);
+    }
+    Ok(made)
+}
+
+/// The same by ties of signals; if asked, by those of values in the next cycle too.
+fn tie_by(
+    alloc: Global,
+    a: &Net,
+    b: &Net,
+    orders: &Orders,
+    assumed: &Assumed<'_>,
+    conflicts: u32,
+    ahead: bool,
+) -> Result<SignalInduction, NoMemory>
+    requires matches { first_mismatch (ports_of a.now) (ports_of b.now) ≡ None }
+    requires right { IsComparable b.now }
+    requires orders { AreOrders (ports_of a.now) (ports_of b.now) orders.now.left orders.now.right }
+    requires assumed { assumed.now.lit.0 < 2 * length assumed.now.graph.now }
+    requires light { (net_weight a.now ≤ MAX_WEIGHT) × (net_weight b.now ≤ MAX_WEIGHT) }
+    requires left_small { All (λ i. i < 2 ^ 30) orders.now.left }
+    requires right_small { All (λ i. i < 2 ^ 30) orders.now.right }
+    ensures made { IfOk result (IsInductionWhere (IsMet assumed.now (record { left = a.entry; right = b.entry; orders = orders.entry })) a.now b.now) }
+    ensures agree { IfOk result (λ made. first_apart made.pairs ≡ None → AgreeFromResetWhere (IsMet assumed.now (record { left = a.entry; right = b.entry; orders = orders.entry })) (circuit_of a.now) (circuit_of b.now)) }
+{
     a.keeps();
     b.keeps();
     let nets = SignalNets {
@@ -144,7 +177,7 @@ fn tie(
         right: b,
         orders,
     };
-    let ties = correspond(alloc, &nets, assumed, conflicts)?;
+    let ties = correspond(alloc, &nets, assumed, conflicts, ahead)?;
     let outputs = output_pairs(alloc, a, b)?;
     let pairs = tied_pairs(alloc, a.size(), &ties.anchors, outputs)?;
     Ok(SignalInduction { ties, pairs })

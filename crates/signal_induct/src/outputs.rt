@@ -90,3 +90,14 @@ pub fn first_apart(pairs: &[TiedPair]) -> Option<&Word>
     }
     None
 }
+
+/// How many outputs are shown equal.
+pub(crate) fn equal_count(pairs: &[TiedPair]) -> usize {
+    let mut count = 0usize;
+    for pair in pairs {
+        if pair.equal {
+            count = count.saturating_add(1);
+        }
+    }
+    count
+}

@@ -25,13 +25,17 @@ use Rattle.signal_refine.specs.Told.{AreTold}
 use Rattle.signal_refine.specs.Showing.{AreBelow, free_cycle, AreLits, Begins, Steps, AreInductiveNodes, AreInductiveTies}
 use Rattle.signal_refine.proofs.Bits.{bits, bits_inputs, bits_latches, both, both_before, both_behind, number_below}
 use Rattle.signal_refine.proofs.Caring.{one_after}
-use Rattle.signal_refine.proofs.Framing.{values_grow}
+use Rattle.signal_refine.proofs.Framing.{within_grows, values_grow}
 
 zero_more : (i : ℕ) → 0 + i ≡ i
 zero_more i = omega arith
 
 pub are_lits : (n : SignalNets) (first : ℕ) (from base : List Node) (lits : List Lit) → AreSignalLits (free_cycle n first) from base (places_of n) lits → AreLits n first base lits
 are_lits n first from base lits are = (are.within, are.each, λ a v reading. are.values a v (record { meets = reading.meets; inputs = reading.inputs; latches = reading.latches }))
+
+-- they have them in a grown graph
+pub lits_grow : (n : SignalNets) (first : ℕ) (g h : List Node) → Grows g h → (lits : List Lit) → AreLits n first g lits → AreLits n first h lits
+lits_grow n first g h grows lits are = (within_grows g h grows lits are.0, are.1, λ a v reading. values_grow (λ p. v (side_at (size_of n) p)) g h grows a lits are.0 (are.2 a v (record { meets = reading.meets; inputs = reading.inputs; latches = reading.latches })))
 
 module _ (n : SignalNets) (first : ℕ) (below : AreBelow n first) (base : List Node) where
   -- each cycle is read by its bits

@@ -36,7 +36,7 @@ fn constant(bit: bool) -> Lit
 }
 
 /// The literal, or its complement.
-fn turned(l: Lit, flipped: bool) -> Lit
+pub(crate) fn turned(l: Lit, flipped: bool) -> Lit
     ensures value { (g : List Node) (a : ℕ → Bool) → value g a result.0 ≡ (if flipped then not (value g a l.0) else value g a l.0) }
     ensures within { (n : ℕ) → l.0 < 2 * n → result.0 < 2 * n }
 {

@@ -7,7 +7,7 @@ ghost use Rattle.swept_queries.specs.declared.node_agreement.proof.Proved.TheVar
 ghost use Rattle.signal_refine.specs.declared.ask.Answer.TheVariants as answer;
 ghost use Rattle.signal_refine.specs.Asking.{same_bit, IsCare, AreKnown, AreHeldWithin, IsOneWhere};
 
-use crate::assumed::and_both;
+use crate::assumed::{Assumed, and_both};
 use crate::copies::NodeLits;
 use crate::facts::Facts;
 use crate::leaves::is_full;
@@ -17,7 +17,7 @@ use sec_base::NoMemory;
 use std::alloc::Global;
 use sweep_candidates::Model;
 use swept_queries::node_agreement::Proved;
-use tie_candidates::{Classes, Frame, learn, pick_all};
+use tie_candidates::{Classes, Frame, learn};
 
 /// What is asked: of the nodes of `base`, whose variables have these literals, wherever the care is 1 and what nodes are read as in the cycle
 /// before has their values, with at most so many conflicts for each query.
@@ -29,6 +29,10 @@ pub(crate) struct Asked<'a> {
     pub before: &'a NodeLits,
     /// By what nodes are read so in the cycle before. No contract knows it.
     pub ties: &'a [Anchor],
+    /// What the care says. No contract knows it.
+    pub assumed: Assumed<'a>,
+    /// An input's variable is this and its number together. No contract knows it.
+    pub inputs: u32,
     pub conflicts: u32,
 }
 
@@ -38,8 +42,8 @@ impl<'a> Asked<'a> {
         Frame {
             base: self.base,
             ties: self.ties,
-            leaves: self.leaves,
-            care: self.care,
+            premise: self.assumed.premise(),
+            inputs: self.inputs,
         }
     }
 }
@@ -132,46 +136,43 @@ pub(crate) fn ask(
     if l.0 == r.0 {
         return Ok(Answer::Same);
     }
-    let mut picked = vec![in alloc; false; asked.before.own.len()]?;
+    classes.begin_picking(alloc, asked.before.own.len())?;
     match facts.prove_one(alloc, l, r)? {
         Proved::Same => return Ok(Answer::Same),
         told => {
-            if tells(alloc, classes, facts, asked, &told, &mut picked, PICKED)? {
+            if tells(alloc, classes, asked, &told, PICKED)? {
                 return Ok(Answer::Apart);
             }
         }
     }
-    ask_in_turns(alloc, classes, facts, asked, &mut picked, l, r)
+    ask_in_turns(alloc, classes, facts, asked, l, r)
 }
 
-/// Whether an assignment was found that counts, by which the classes are split. Else some equalities more are picked, at most so many.
+/// Whether an assignment was found by which they are told apart. Else some equalities more are picked, at most so many.
 fn tells(
     alloc: Global,
     classes: &mut Classes,
-    facts: &Facts,
     asked: &Asked<'_>,
     told: &Proved,
-    picked: &mut [bool],
     most: usize,
 ) -> Result<bool, NoMemory> {
     let Proved::Apart(model) = told else {
         return Ok(false);
     };
-    let lesson = learn(alloc, classes, &facts.aig, &asked.frame(), model)?;
-    if lesson.counts {
+    let lesson = learn(alloc, classes, &asked.frame(), model)?;
+    if lesson.tells {
         return Ok(true);
     }
-    lesson.marks.pick(picked, most);
+    classes.pick(&lesson.marks, most);
     Ok(false)
 }
 
-/// The same, where some equalities are picked, by one query after the other.
+/// The same, by one query after the other under the equalities that are picked.
 fn ask_in_turns(
     alloc: Global,
     classes: &mut Classes,
     facts: &mut Facts,
     asked: &Asked<'_>,
-    picked: &mut [bool],
     l: Lit,
     r: Lit,
 ) -> Result<Answer, NoMemory>
@@ -185,13 +186,13 @@ fn ask_in_turns(
 {
     for turn in 0..TURNS {
         if turn == TURNS - 1 {
-            pick_all(picked);
+            classes.pick_all();
         }
-        match ask_under(alloc, facts, asked, picked, l, r)? {
+        match ask_under(alloc, facts, asked, classes.picked(), l, r)? {
             Proved::Same => return Ok(Answer::Same),
             Proved::Open => return Ok(Answer::Open),
             told => {
-                if tells(alloc, classes, facts, asked, &told, picked, PICKED << turn)? {
+                if tells(alloc, classes, asked, &told, PICKED << turn)? {
                     return Ok(Answer::Apart);
                 }
             }

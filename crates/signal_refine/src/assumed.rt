@@ -11,6 +11,7 @@ use crate::leaves::is_full;
 use aig::{Aig, Lit};
 use sec_base::NoMemory;
 use std::alloc::Global;
+use tie_candidates::Premise;
 
 /// What is assumed of the inputs in each cycle: that a literal of a graph is 1, each of whose variables is the input with its number here.
 #[derive(Clone, Copy)]
@@ -20,6 +21,18 @@ pub struct Assumed<'a> {
     pub numbers: &'a [u32],
     /// Bits of the inputs by their numbers that make it 1, as a guess.
     pub row: &'a [bool],
+}
+
+impl<'a> Assumed<'a> {
+    /// As guesses see it.
+    pub(crate) fn premise(&self) -> Premise<'a> {
+        Premise {
+            graph: self.graph,
+            lit: self.lit,
+            numbers: self.numbers,
+            row: self.row,
+        }
+    }
 }
 
 /// The literal that is 1 where the assumption is met, where inputs have these literals by their numbers.

@@ -3,6 +3,7 @@
 //! of nodes are dropped until what is left is shown, at first and in each step.
 #![tactic(auto)]
 
+mod ahead;
 mod anchors;
 mod ask;
 mod assumed;

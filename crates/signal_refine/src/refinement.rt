@@ -7,6 +7,7 @@ ghost use Rattle.signal_refine.specs.Asking.{AreKnown};
 ghost use Rattle.signal_refine.specs.Assuming.{IsMet, IsStepCare};
 ghost use Rattle.signal_refine.specs.Showing.{AreLits, AreReady, AreBelow, Begins, Steps, AreInductiveNodes, AreInductiveTies};
 
+use crate::ahead::put_ahead;
 use crate::ask::Asked;
 use crate::assumed::{Assumed, and_both, met_literal};
 use crate::copies::{NodeLits, carried, copy_of};
@@ -21,7 +22,7 @@ use aig::{Aig, Lit};
 use circuit_laws::signal_laws::Anchor;
 use sec_base::{NoMemory, Orders};
 use std::alloc::Global;
-use tie_candidates::{Classes, Premise, candidates};
+use tie_candidates::{Classes, candidates};
 
 /// Ties that are an inductive invariant.
 #[derive(Drop)]
@@ -45,12 +46,13 @@ struct Round<'a> {
 }
 
 /// Guesses ties, and drops those that aren't shown where the assumption is met, with at most so many conflicts for each query, until all that
-/// are left are shown.
+/// are left are shown. If asked, what reads latches alone is tied by its value in the next cycle too.
 pub fn correspond(
     alloc: Global,
     nets: &SignalNets<'_>,
     assumed: &Assumed<'_>,
     conflicts: u32,
+    ahead: bool,
 ) -> Result<Correspondence, NoMemory>
     requires ready { AreReady nets.now }
     requires assumed { assumed.now.lit.0 < 2 * length assumed.now.graph.now }
@@ -60,13 +62,7 @@ pub fn correspond(
     nets.right.keeps();
     let first = first_latch(nets.orders);
     let mut base = Aig::new(alloc)?;
-    let cycle = Cycle {
-        nets: *nets,
-        inputs: 0,
-        first,
-        latches: Latches::Free,
-    };
-    let lits = signal_literals(alloc, &mut base, &cycle)?;
+    let lits = put_signals(alloc, &mut base, nets, first, ahead)?;
     let round = Round {
         nets: *nets,
         assumed: *assumed,
@@ -76,6 +72,33 @@ pub fn correspond(
         conflicts,
     };
     rounds(alloc, &round)
+}
+
+/// The signals' literals of the graph; if asked, with what nodes that read latches alone have in the next cycle as further nodes.
+fn put_signals(
+    alloc: Global,
+    base: &mut Aig,
+    nets: &SignalNets<'_>,
+    first: u32,
+    ahead: bool,
+) -> Result<Vec<Lit>, NoMemory>
+    requires ready { AreReady nets.now }
+    requires first { AreBelow nets.now first }
+    ensures { IfOk result (λ lits. AreLits nets.now first base.new lits.items) }
+{
+    let cycle = Cycle {
+        nets: *nets,
+        inputs: 0,
+        first,
+        latches: Latches::Free,
+    };
+    let lits = signal_literals(alloc, base, &cycle)?;
+    if !ahead {
+        return Ok(lits);
+    }
+    let flops = flops_of(alloc, nets, &lits, first)?;
+    put_ahead(alloc, base, &flops)?;
+    Ok(lits)
 }
 
 /// The ties that are left behind the last round.
@@ -106,13 +129,8 @@ fn rounds(alloc: Global, round: &Round<'_>) -> Result<Correspondence, NoMemory>
 /// The classes of nodes that seeded runs don't tell apart.
 fn guessed(alloc: Global, round: &Round<'_>) -> Result<Classes, NoMemory> {
     let flops = flops_of(alloc, &round.nets, round.lits, round.first)?;
-    let premise = Premise {
-        graph: round.assumed.graph,
-        lit: round.assumed.lit,
-        numbers: round.assumed.numbers,
-        row: round.assumed.row,
-    };
-    candidates(alloc, &flops, &premise, round.base, round.first)
+    let premise = round.assumed.premise();
+    candidates(alloc, flops, &premise, round.base, round.first)
 }
 
 /// Whether the ties of nodes are an inductive invariant, by queries that all say so.
@@ -178,6 +196,8 @@ fn do_step(
         care,
         before: &now,
         ties: nodes,
+        assumed: round.assumed,
+        inputs: later.inputs,
         conflicts: round.conflicts,
     };
     are_settled(alloc, classes, facts, &asked, nodes)
@@ -235,6 +255,8 @@ fn do_begin(
         care,
         before: &before,
         ties: &[],
+        assumed: round.assumed,
+        inputs: 0,
         conflicts: round.conflicts,
     };
     are_settled(alloc, classes, facts, &asked, nodes)

@@ -15,8 +15,8 @@ use sec_base::NoMemory;
 use std::alloc::Global;
 use tie_candidates::{Classes, learn, no_model};
 
-/// How often 512 assignments are drawn before the first query.
-const DRAWS: usize = 2;
+/// How often 64 assignments are drawn before the first query.
+const DRAWS: usize = 16;
 
 /// Whether all ties are shown, where assignments that are drawn don't split the classes.
 pub(crate) fn are_settled(
@@ -32,7 +32,7 @@ pub(crate) fn are_settled(
     ensures shown { IfOk result (λ same. IsTrue same → AreShown asked.now.base.now asked.now.leaves.now asked.now.care asked.now.before.now anchors.now facts.old.aig) }
     ensures known { OnOk result (AreKnown facts.new) }
 {
-    if is_split(alloc, classes, facts, asked)? {
+    if is_split(alloc, classes, asked)? {
         return Ok(false);
     }
     facts.begin(asked.conflicts);
@@ -64,15 +64,10 @@ fn settle(
 }
 
 /// Whether assignments that are drawn split the classes.
-fn is_split(
-    alloc: Global,
-    classes: &mut Classes,
-    facts: &Facts,
-    asked: &Asked<'_>,
-) -> Result<bool, NoMemory> {
+fn is_split(alloc: Global, classes: &mut Classes, asked: &Asked<'_>) -> Result<bool, NoMemory> {
     let mut split = false;
     for _n in 0..DRAWS {
-        let lesson = learn(alloc, classes, &facts.aig, &asked.frame(), &no_model(alloc))?;
+        let lesson = learn(alloc, classes, &asked.frame(), &no_model(alloc))?;
         split |= lesson.splits;
     }
     Ok(split)
@@ -136,7 +131,7 @@ fn try_tie(
     if n >= anchors.len() || is_own(anchors[n], n) {
         return Ok(Some(own));
     }
-    if classes.is_apart(n, anchors[n]) {
+    if !classes.asks(n, anchors[n]) {
         return Ok(None);
     }
     let Some(other) = anchor_literal(read, anchors[n]) else {
@@ -145,18 +140,19 @@ fn try_tie(
     let answer = ask(alloc, classes, facts, asked, own, other)?;
     match answer {
         Answer::Same => Ok(Some(other)),
-        told => {
-            part(classes, n, anchors[n], told);
+        _ => {
+            part(classes)?;
             Ok(None)
         }
     }
 }
 
-/// Puts the node into a class of its own, where its tie isn't shown and it isn't told apart.
-fn part(classes: &mut Classes, n: usize, anchor: Anchor, told: Answer) {
-    if matches!(told, Answer::Open) || !classes.is_apart(n, anchor) {
-        classes.drop_tie(n);
+/// Puts the node that was asked last into a class of its own, where it isn't told apart.
+fn part(classes: &mut Classes) -> Result<(), NoMemory> {
+    if classes.is_apart() {
+        return Ok(());
     }
+    classes.drop_tie()
 }
 
 /// Whether the anchor is the place itself.

@@ -10,25 +10,27 @@ use crate::rounds::more_words;
 use crate::sides::{Known, Sides};
 use crate::sweep::{Aig, Ids, Lit, NoMemory};
 use crate::targets::{is_any_left, is_any_told, lits_of};
-use crate::words::{put_model, seeded_words};
+use crate::words::{put_model, put_models, seeded_words};
 use std::alloc::Global;
 
 /// The least conflicts with which constants are looked for.
 const LEAST: u32 = 2_000;
 
-/// Eight words for each variable: those that are drawn. Where they tell some of the queries apart, others are drawn that tell more. Where
-/// they tell none, and assignments near one that gives some node the value that it has under none of them do, the last of the eight are
-/// those of these assignments.
+/// Eight words for each variable: those that are drawn, with assignments near these models. Where they tell some of the queries apart,
+/// others are drawn that tell more. Where they tell none, and assignments near one that gives some node the value that it has under none
+/// of them do, the last of the eight are those of these.
 pub(crate) fn tried_words(
     alloc: Global,
     aig: &Aig,
     given: &[Option<Sides>],
+    models: &[Model],
     conflicts: u32,
 ) -> Result<Vec<u64>, NoMemory>
     requires { All (MayBeWithin aig.now) given.now }
     ensures { IfOk result (λ words. length words.items ≡ 8 * vars_of aig.now) }
 {
     let mut words = seeded_words(alloc, aig.vars())?;
+    put_models(words.as_mut_slice(), models);
     let known = chosen(alloc, aig, given, words.as_slice())?;
     if conflicts < LEAST || !is_any_left(known.as_slice()) {
         return Ok(words);
@@ -93,7 +95,7 @@ impl Looks {
             return Ok(false);
         };
         self.budget.note_walk(u64::from(aig.size() / 16));
-        put_model(words.as_mut_slice(), &model);
+        put_model(words.as_mut_slice(), &model, 7);
         let known = chosen(alloc, aig, given, words.as_slice())?;
         Ok(is_any_told(known.as_slice()))
     }

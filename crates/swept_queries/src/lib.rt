@@ -16,3 +16,4 @@ mod words;
 
 pub use queries::{SweptQueries, sweep_queries};
 pub use sides::{Known, Sides};
+pub use words::put_models;

@@ -11,6 +11,7 @@ ghost use Rattle.swept_queries.specs.InStead.{MayBeWithin, AreKnownWithin, IsMov
 
 use crate::choice::{chosen, is_any_open};
 use crate::constants::tried_words;
+use crate::node_agreement::Model;
 use crate::query::query_in_stead;
 use crate::roots::{known_after, roots_of};
 use crate::sides::{Known, Sides};
@@ -42,12 +43,14 @@ impl Drop for SweptQueries {
     }
 }
 
-/// Tries 512 assignments on the given queries, of which 64 may be near one that gives a node its rare value, and sweeps the graph, with at most so many conflicts, for those that aren't told apart
-/// and whose sides are different literals. Where there is none, nothing is swept.
+/// Tries 512 assignments on the given queries, of which 64 are near each of these models, or some near one that gives a node its rare value,
+/// and sweeps the graph, with at most so many conflicts, for those that aren't told apart and whose sides are different literals. Where
+/// there is none, nothing is swept.
 pub fn sweep_queries(
     alloc: Global,
     aig: &Aig,
     given: &[Option<Sides>],
+    models: &[Model],
     conflicts: u32,
 ) -> Result<SweptQueries, NoMemory>
     requires { All (MayBeWithin aig.now) given.now }
@@ -60,7 +63,7 @@ pub fn sweep_queries(
             words: Vec::new(alloc),
         });
     }
-    let words = tried_words(alloc, aig, given, conflicts)?;
+    let words = tried_words(alloc, aig, given, models, conflicts)?;
     let asked = chosen(alloc, aig, given, words.as_slice())?;
     let swept = sweep_twice(alloc, aig, asked.as_slice(), conflicts, words.as_slice())?;
     Ok(SweptQueries {

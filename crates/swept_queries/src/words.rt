@@ -1,6 +1,6 @@
 //! Random words, eight for each variable: bit k of them is the variable's bit under assignment k.
 
-ghost use Rattle.std.specs.Prelude.{◌≡◌, ◌*◌, length, slice_index, IfOk};
+ghost use Rattle.std.specs.Prelude.{◌≡◌, ◌*◌, ◌<◌, length, slice_index, IfOk};
 ghost use Rattle.swept_queries.specs.sweep.lane_eval.Signatures.{word_lane};
 ghost use Rattle.swept_queries.specs.Lanes.{lane_bits};
 ghost use Rattle.swept_queries.specs.Words.{words_for};
@@ -56,14 +56,25 @@ fn word_at(words: &[u64], place: usize) -> u64
     if place < words.len() { words[place] } else { 0 }
 }
 
-/// Gives each variable of the model as its last word 64 times the model's bit, of which one is turned, or some where there are more than
-/// 63 variables. The first isn't.
-pub(crate) fn put_model(words: &mut [u64], model: &Model)
+/// Puts assignments near each of these models: near the first in place of the last 64 of the 512, near the next in place of the 64 before
+/// these, and so on.
+pub fn put_models(words: &mut [u64], models: &[Model])
+    ensures { length words.new ≡ length words.old }
+{
+    for i in 0..models.len() {
+        put_model(words, &models[i], 7 - i % 8);
+    }
+}
+
+/// Gives each variable of the model as the word of this number 64 times the model's bit, of which one is turned, or some where there are
+/// more than 63 variables. The first isn't.
+pub(crate) fn put_model(words: &mut [u64], model: &Model, number: usize)
+    requires { number < 8 }
     ensures { length words.new ≡ length words.old }
 {
     let count = model.vars.len().min(model.bits.len());
     for i in 0..count {
-        let place = 8 * (model.vars[i] as usize) + 7;
+        let place = 8 * (model.vars[i] as usize) + number;
         if place < words.len() {
             let word = if model.bits[i] { u64::MAX } else { 0 };
             words[place] = word ^ (2u64 << ((i % 63) as u32));

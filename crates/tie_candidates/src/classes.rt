@@ -1,152 +1,163 @@
 //! Classes of nodes that may be equal or complements.
 
-ghost use Rattle.std.specs.Prelude.{◌≤◌, length};
-
-use crate::lanes::{Block, mixed};
+use crate::lanes::{hashed, in_all, word_at};
+use crate::marks::{Marks, pick_all};
+use crate::runs::Runs;
 use aig::NoMemory;
-use aig::lane_eval::SignatureTable;
 use base_tables::PlaceTable;
 use circuit_laws::signal_laws::Anchor;
 use std::alloc::Global;
+
+/// How many ties of the cycle before stay picked for the next query at most.
+const MOST_PICKED: usize = 128;
 
 /// The class of the constant 0, and behind it that of each node by its number. A node whose phase is set has its complement there.
 #[derive(Drop)]
 pub struct Classes {
     blocks: Vec<u32>,
+    /// The first entry of each class.
+    firsts: Vec<u32>,
     phases: Vec<bool>,
-    /// All numbers of classes are below this one.
-    count: u32,
     /// How many ties were dropped at the limit.
     pub drops: u32,
-    /// How often assignments were drawn.
-    draws: u64,
+    /// By what they are split.
+    pub(crate) runs: Runs,
+    /// How many models were looked at.
+    pub(crate) turn: usize,
+    /// The entries that are asked whether they are one.
+    asked: (usize, usize),
+    /// Which ties of the cycle before queries are asked under.
+    picked: Vec<bool>,
 }
 
 impl Classes {
     /// One class of the constant and of so many nodes.
-    pub(crate) fn new(alloc: Global, nodes: u32) -> Result<Classes, NoMemory> {
+    pub(crate) fn new(alloc: Global, nodes: u32, runs: Runs) -> Result<Classes, NoMemory> {
         let entries = (nodes as usize).saturating_add(1);
         Ok(Classes {
             blocks: vec![in alloc; 0; entries]?,
+            firsts: vec![in alloc; 0; 1]?,
             phases: vec![in alloc; false; entries]?,
-            count: 1,
             drops: 0,
-            draws: 1,
+            runs,
+            turn: 0,
+            asked: (0, 0),
+            picked: Vec::new(alloc),
         })
     }
 
-    /// Complements each node whose first value is 1.
-    pub(crate) fn set_phases(&mut self, table: &SignatureTable, nodes: u32)
-        requires { nodes ≤ length table.now }
-    {
-        for n in 0..nodes {
-            let entry = (n as usize).saturating_add(1);
-            if entry < self.phases.len() {
-                self.phases[entry] = table.block(n)[0] % 2 == 1;
-            }
+    /// Complements each node whose value is 1 in the first run.
+    pub(crate) fn set_phases(&mut self) {
+        for entry in 0..self.phases.len() {
+            self.phases[entry] = self.word(entry) % 2 == 1;
         }
     }
 
-    /// A seed that is drawn once.
-    pub(crate) fn draw(&mut self) -> u64 {
-        self.draws = self.draws.wrapping_add(1);
-        self.draws
-    }
-
-    /// Whether the node's class isn't its anchor's any more.
-    pub fn is_apart(&self, place: usize, anchor: Anchor) -> bool {
+    /// Whether the node's class is its anchor's. The node is the one that was asked last, from now on.
+    pub fn asks(&mut self, place: usize, anchor: Anchor) -> bool {
         let other = match anchor {
             Anchor::Bit(_) => 0,
             Anchor::Place { place, flipped: _ } => place.saturating_add(1),
         };
-        self.blocks.get(place.saturating_add(1)) != self.blocks.get(other)
+        self.asked = (place.saturating_add(1), other);
+        !self.is_apart()
     }
 
-    pub(crate) fn phase(&self, entry: usize) -> bool {
-        self.phases.get(entry).copied().unwrap_or(false)
+    /// Whether the node that was asked last is in another class than its anchor since.
+    pub fn is_apart(&self) -> bool {
+        self.block_of(self.asked.0) != self.block_of(self.asked.1)
     }
 
-    /// Splits the classes by the nodes' values where they count. Whether there are more then.
-    pub(crate) fn split_where(
-        &mut self,
-        alloc: Global,
-        table: &SignatureTable,
-        nodes: u32,
-        counts: Block,
-    ) -> Result<bool, NoMemory>
-        requires { nodes ≤ length table.now }
-    {
-        let mut keys = Vec::new(alloc);
-        keys.push(mixed(0, [0; 8], false, counts))?;
-        for n in 0..nodes {
-            let flip = self.phase((n as usize).saturating_add(1));
-            keys.push(mixed(0, table.block(n), flip, counts))?;
-        }
-        self.split_by(alloc, &keys)
-    }
-
-    /// Splits the classes by a key for the constant and for each node. Whether there are more then.
-    pub(crate) fn split_by(&mut self, alloc: Global, keys: &[u64]) -> Result<bool, NoMemory> {
-        let mut firsts = vec![in alloc; usize::MAX; self.count as usize]?;
-        let mut table = PlaceTable::new(alloc);
-        for entry in 0..self.blocks.len() {
-            self.split_entry(&mut firsts, &mut table, keys, entry)?;
-        }
-        self.count = self.count.saturating_add(table.len());
-        Ok(table.len() > 0)
-    }
-
-    /// Puts the entry into a new class, where its key isn't that of the first one of its class.
-    fn split_entry(
-        &mut self,
-        firsts: &mut [usize],
-        table: &mut PlaceTable,
-        keys: &[u64],
-        entry: usize,
-    ) -> Result<(), NoMemory> {
-        let block = self.blocks.get(entry).copied().unwrap_or(0);
-        let first = first_of(firsts, block, entry);
-        let key = keys.get(entry).copied().unwrap_or(0);
-        if first == entry || keys.get(first).copied().unwrap_or(0) == key {
-            return Ok(());
-        }
-        let number = numbered(table, block, (key >> 32) as u32)?;
-        if entry < self.blocks.len() {
-            self.blocks[entry] = self.count.saturating_add(number);
+    /// Which ties of the cycle before the next query is asked under, of so many: those that were picked for the last ones, as long as they
+    /// are few.
+    pub fn begin_picking(&mut self, alloc: Global, ties: usize) -> Result<(), NoMemory> {
+        if self.picked.len() != ties || count_of(&self.picked) > MOST_PICKED {
+            self.picked = vec![in alloc; false; ties]?;
         }
         Ok(())
     }
 
-    /// Puts the node into a class of its own, since its tie isn't shown within the limit.
-    pub fn drop_tie(&mut self, place: usize) {
-        self.drops = self.drops.saturating_add(1);
-        self.put_apart(place);
+    /// Picks some more by these marks, at most so many.
+    pub fn pick(&mut self, marks: &Marks, most: usize) {
+        marks.pick(&mut self.picked, most);
     }
 
-    /// Puts the node into a class of its own.
-    pub(crate) fn put_apart(&mut self, place: usize) {
-        let entry = place.saturating_add(1);
-        if entry < self.blocks.len() {
-            self.blocks[entry] = self.count;
-            self.count = self.count.saturating_add(1);
+    /// Picks all.
+    pub fn pick_all(&mut self) {
+        pick_all(&mut self.picked);
+    }
+
+    /// Those that are picked.
+    pub fn picked(&self) -> &[bool] {
+        &self.picked
+    }
+
+    fn phase(&self, entry: usize) -> bool {
+        self.phases.get(entry).copied().unwrap_or(false)
+    }
+
+    /// The entry's values in the runs.
+    fn word(&self, entry: usize) -> u64 {
+        if entry == 0 {
+            return 0;
         }
+        word_at(&self.runs.stage.values, entry - 1) ^ in_all(self.phase(entry))
+    }
+
+    fn block_of(&self, entry: usize) -> u32 {
+        self.blocks.get(entry).copied().unwrap_or(0)
+    }
+
+    /// The first entry of the class.
+    fn first_of(&self, block: u32) -> usize {
+        self.firsts.get(block as usize).copied().unwrap_or(0) as usize
+    }
+
+    /// Splits the classes by the nodes' values in the runs that count. Whether there are more then.
+    pub(crate) fn split(&mut self, alloc: Global, counts: u64) -> Result<bool, NoMemory> {
+        let before = self.firsts.len();
+        let mut table = PlaceTable::new(alloc);
+        for entry in 0..self.blocks.len() {
+            let block = self.block_of(entry);
+            let apart = (self.word(entry) ^ self.word(self.first_of(block))) & counts;
+            if apart != 0 {
+                let number = numbered(&mut table, block, hashed(apart))?;
+                self.put(entry, before.saturating_add(number as usize))?;
+            }
+        }
+        Ok(self.firsts.len() > before)
+    }
+
+    /// Puts the entry into the class of this number, which is its first one where that is a new class.
+    fn put(&mut self, entry: usize, class: usize) -> Result<(), NoMemory> {
+        if class >= self.firsts.len() {
+            self.firsts.push(entry.min(1 << 30) as u32)?;
+        }
+        if entry < self.blocks.len() {
+            self.blocks[entry] = class.min(u32::MAX as usize) as u32;
+        }
+        Ok(())
+    }
+
+    /// Puts the node that was asked last into a class of its own, since its tie isn't shown within the limit.
+    pub fn drop_tie(&mut self) -> Result<(), NoMemory> {
+        self.drops = self.drops.saturating_add(1);
+        let class = self.firsts.len();
+        self.put(self.asked.0, class)
     }
 
     /// What each node is tied to: the first of its class.
     pub fn anchors(&self, alloc: Global) -> Result<Vec<Anchor>, NoMemory> {
-        let mut firsts = vec![in alloc; usize::MAX; self.count as usize]?;
         let mut anchors = Vec::new(alloc);
-        for entry in 0..self.blocks.len() {
-            let first = first_of(&mut firsts, self.blocks[entry], entry);
-            if entry > 0 {
-                anchors.push(self.anchor(first, entry))?;
-            }
+        for entry in 1..self.blocks.len() {
+            anchors.push(self.anchor(entry))?;
         }
         Ok(anchors)
     }
 
-    /// What the entry is tied to, where the first of its class is this one.
-    fn anchor(&self, first: usize, entry: usize) -> Anchor {
+    /// What the entry is tied to. An entry before the first of its class is tied to itself.
+    fn anchor(&self, entry: usize) -> Anchor {
+        let first = self.first_of(self.block_of(entry)).min(entry);
         let flipped = self.phase(first) != self.phase(entry);
         if first == 0 {
             return Anchor::Bit(flipped);
@@ -158,22 +169,21 @@ impl Classes {
     }
 }
 
+/// How many are picked.
+fn count_of(picked: &[bool]) -> usize {
+    let mut count = 0usize;
+    for i in 0..picked.len() {
+        if picked[i] {
+            count = count.saturating_add(1);
+        }
+    }
+    count
+}
+
 /// The number of a class and a key. A table that is full counts as no memory.
 fn numbered(table: &mut PlaceTable, block: u32, key: u32) -> Result<u32, NoMemory> {
     if table.len() >= u32::MAX - 1 {
         return Err(NoMemory);
     }
     table.intern(block, key)
-}
-
-/// The first entry of the class, which is this one where there was none.
-fn first_of(firsts: &mut [usize], block: u32, entry: usize) -> usize {
-    let at = block as usize;
-    if at >= firsts.len() {
-        return entry;
-    }
-    if firsts[at] == usize::MAX {
-        firsts[at] = entry;
-    }
-    firsts[at]
 }

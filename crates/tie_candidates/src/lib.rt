@@ -7,8 +7,9 @@ mod lanes;
 mod marks;
 mod runs;
 mod scenes;
+mod stage;
 
 pub use classes::Classes;
-pub use marks::{Marks, pick_all};
+pub use marks::Marks;
 pub use runs::{Flop, Premise, candidates};
 pub use scenes::{Frame, Lesson, learn, no_model};

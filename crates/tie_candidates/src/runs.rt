@@ -1,23 +1,27 @@
-//! Classes of nodes that have equal or complementary values in seeded runs from the initial values that meet the premise.
-
-ghost use Rattle.std.specs.Prelude.{◌≤◌, length};
+//! Seeded runs of a graph whose variables are inputs and flip-flops, and what they don't tell apart.
 
 use crate::classes::Classes;
-use crate::lanes::{Block, block_of, lit_block, mixed, played, put_block};
-use aig::lane_eval::SignatureTable;
+use crate::lanes::{in_all, put_word, word_at};
+use crate::stage::Stage;
 use aig::{Aig, Lit, NoMemory};
 use rand_core::{Rng, SeedableRng};
 use rand_xoshiro::Xoshiro256PlusPlus;
 use std::alloc::Global;
 
-/// For how many cycles 512 runs are made at least.
-const CYCLES: usize = 32;
+/// For how many cycles 64 runs are made at least.
+const CYCLES: usize = 256;
 
 /// For how many at most.
 const MOST: usize = 512;
 
 /// How many nodes are looked at in all cycles that there are beyond the least, roughly.
 const WORK: usize = 1 << 20;
+
+/// For how many cycles inputs lean to one side.
+const SPELL: usize = 16;
+
+/// The runs in which they do.
+const LEANING: u64 = 0xFFFF_FFFF_0000_0000;
 
 /// A flip-flop: its variable, its initial value, if it has one, and the literal of what it takes over.
 #[derive(Clone, Copy)]
@@ -37,29 +41,45 @@ pub struct Premise<'a> {
     pub row: &'a [bool],
 }
 
-/// Classes of nodes that have equal or complementary values in all of the runs. The first so many variables are the inputs'.
+/// 64 runs in one cycle.
+#[derive(Drop)]
+pub(crate) struct Runs {
+    flops: Vec<Flop>,
+    /// To which side each input leans. Inputs have the first variables.
+    sides: Vec<u64>,
+    pub stage: Stage,
+    pub generator: Xoshiro256PlusPlus,
+}
+
+/// Classes of nodes that have equal or complementary values in all of the runs from the initial values, whose inputs meet the premise. The
+/// first so many variables are the inputs'.
 pub fn candidates(
     alloc: Global,
-    flops: &[Flop],
+    flops: Vec<Flop>,
     premise: &Premise<'_>,
     aig: &Aig,
     inputs: u32,
 ) -> Result<Classes, NoMemory> {
-    let mut generator = Xoshiro256PlusPlus::seed_from_u64(1);
-    let mut words = vec![in alloc; 0u64; 8 * (aig.vars() as usize)]?;
-    let mut keys = vec![in alloc; 0u64; (aig.size() as usize).saturating_add(1)]?;
-    let mut classes = Classes::new(alloc, aig.size())?;
-    start(&mut words, flops, &mut generator);
+    let runs = Runs {
+        flops,
+        sides: vec![in alloc; 0u64; inputs as usize]?,
+        stage: Stage::new(alloc, aig)?,
+        generator: Xoshiro256PlusPlus::seed_from_u64(1),
+    };
+    let mut classes = Classes::new(alloc, aig.size(), runs)?;
+    classes.runs.start();
     for cycle in 0..cycles(aig.size()) {
-        draw(alloc, &mut words, inputs, premise, &mut generator)?;
-        let table = played(alloc, aig, &words)?;
-        if cycle == 0 {
-            classes.set_phases(&table, aig.size());
+        if cycle % SPELL == 0 {
+            classes.runs.lean();
         }
-        mix(&mut keys, &classes, &table, aig.size());
-        carry(&mut words, flops, &table, aig.size());
+        classes.runs.draw(alloc, premise)?;
+        classes.runs.stage.play(aig);
+        if cycle == 0 {
+            classes.set_phases();
+        }
+        classes.split(alloc, u64::MAX)?;
+        classes.runs.carry(u64::MAX);
     }
-    classes.split_by(alloc, &keys)?;
     Ok(classes)
 }
 
@@ -69,98 +89,83 @@ fn cycles(nodes: u32) -> usize {
     few.min(MOST).max(CYCLES)
 }
 
-/// Mixes the values of one cycle into the keys of the constant and of each node.
-fn mix(keys: &mut [u64], classes: &Classes, table: &SignatureTable, nodes: u32)
-    requires { nodes ≤ length table.now }
-{
-    if !keys.is_empty() {
-        keys[0] = mixed(keys[0], [0; 8], false, [u64::MAX; 8]);
-    }
-    for n in 0..nodes {
-        let entry = (n as usize).saturating_add(1);
-        if entry < keys.len() {
-            keys[entry] = mixed(
-                keys[entry],
-                table.block(n),
-                classes.phase(entry),
-                [u64::MAX; 8],
-            );
+impl Runs {
+    /// Gives flip-flops what they begin with: the initial value where there is one, and else seeded values.
+    pub(crate) fn start(&mut self) {
+        for i in 0..self.flops.len() {
+            if let Some(flop) = self.flops.get(i).copied() {
+                let word = match flop.init {
+                    Some(bit) => in_all(bit),
+                    None => self.generator.next_u64(),
+                };
+                self.stage.put(flop.variable as usize, word);
+            }
         }
     }
-}
 
-/// Gives flip-flops what they begin with: the initial value where there is one, and else seeded words.
-fn start(words: &mut [u64], flops: &[Flop], generator: &mut Xoshiro256PlusPlus) {
-    for flop in flops {
-        let block = match flop.init {
-            Some(bit) => [if bit { u64::MAX } else { 0 }; 8],
-            None => drawn(generator),
-        };
-        put_block(words, flop.variable, block);
-    }
-}
-
-/// Gives inputs seeded words, and the premise's row in each run whose inputs don't meet it.
-fn draw(
-    alloc: Global,
-    words: &mut [u64],
-    inputs: u32,
-    premise: &Premise<'_>,
-    generator: &mut Xoshiro256PlusPlus,
-) -> Result<(), NoMemory> {
-    for v in 0..inputs {
-        put_block(words, v, drawn(generator));
-    }
-    if premise.lit.0 == Lit::TRUE.0 {
-        return Ok(());
-    }
-    let met = met_by(alloc, words, premise)?;
-    for v in 0..inputs {
-        if let Some(bit) = premise.row.get(v as usize) {
-            put_block(words, v, block_where(block_of(words, v), met, *bit));
+    /// Gives flip-flops seeded values.
+    pub(crate) fn scatter(&mut self) {
+        for i in 0..self.flops.len() {
+            if let Some(flop) = self.flops.get(i).copied() {
+                let word = self.generator.next_u64();
+                self.stage.put(flop.variable as usize, word);
+            }
         }
     }
-    Ok(())
-}
 
-/// Seeded words.
-pub(crate) fn drawn(generator: &mut Xoshiro256PlusPlus) -> Block {
-    let mut block = [0; 8];
-    for i in 0..8 {
-        block[i] = generator.next_u64();
+    /// Gives each input a side to which it leans.
+    pub(crate) fn lean(&mut self) {
+        for v in 0..self.sides.len() {
+            let word = self.generator.next_u64();
+            put_word(&mut self.sides, v, word);
+        }
     }
-    block
-}
 
-/// In which runs the inputs meet the premise.
-fn met_by(alloc: Global, words: &[u64], premise: &Premise<'_>) -> Result<Block, NoMemory> {
-    let mut inputs = vec![in alloc; 0u64; 8 * (premise.graph.vars() as usize)]?;
-    for v in 0..premise.graph.vars() {
-        let number = premise.numbers.get(v as usize).copied().unwrap_or(0);
-        put_block(&mut inputs, v, block_of(words, number));
+    /// Gives inputs seeded values: in half of the runs it is one of eight that isn't on the input's side.
+    pub(crate) fn draw_any(&mut self) {
+        for v in 0..self.sides.len() {
+            let word = self.generator.next_u64();
+            let few = word & self.generator.next_u64() & self.generator.next_u64();
+            let word = word & !LEANING | (few ^ word_at(&self.sides, v)) & LEANING;
+            self.stage.put(v, word);
+        }
     }
-    let table = played(alloc, premise.graph, &inputs)?;
-    Ok(lit_block(&table, premise.graph.size(), premise.lit))
-}
 
-/// The block where the premise is met, and elsewhere the bit.
-fn block_where(block: Block, met: Block, bit: bool) -> Block {
-    let mut made = [0; 8];
-    for i in 0..8 {
-        made[i] = if bit {
-            block[i] | !met[i]
-        } else {
-            block[i] & met[i]
-        };
+    /// Gives inputs seeded values, and the premise's row in each run where these don't meet it.
+    pub(crate) fn draw(&mut self, alloc: Global, premise: &Premise<'_>) -> Result<(), NoMemory> {
+        self.draw_any();
+        let met = self.met(alloc, premise)?;
+        for v in 0..premise.row.len().min(self.sides.len()) {
+            let word = word_at(&self.stage.words, v) & met;
+            self.stage.put(v, word | in_all(premise.row[v]) & !met);
+        }
+        Ok(())
     }
-    made
-}
 
-/// Gives flip-flops what they take over.
-fn carry(words: &mut [u64], flops: &[Flop], table: &SignatureTable, nodes: u32)
-    requires { nodes ≤ length table.now }
-{
-    for flop in flops {
-        put_block(words, flop.variable, lit_block(table, nodes, flop.next));
+    /// In which runs the inputs meet the premise.
+    pub(crate) fn met(&self, alloc: Global, premise: &Premise<'_>) -> Result<u64, NoMemory> {
+        if premise.lit.0 == Lit::TRUE.0 {
+            return Ok(u64::MAX);
+        }
+        let mut stage = Stage::new(alloc, premise.graph)?;
+        for v in 0..premise.numbers.len() {
+            let word = word_at(&self.stage.words, premise.numbers[v] as usize);
+            stage.put(v, word);
+        }
+        stage.play(premise.graph);
+        Ok(stage.read(premise.lit))
+    }
+
+    /// Gives flip-flops what they take over. A run that doesn't count goes on from the first one that does.
+    pub(crate) fn carry(&mut self, counts: u64) {
+        let first = counts & counts.wrapping_neg();
+        for i in 0..self.flops.len() {
+            if let Some(flop) = self.flops.get(i).copied() {
+                let word = self.stage.read(flop.next);
+                let other = in_all(word & first != 0);
+                let word = word & counts | other & !counts;
+                self.stage.put(flop.variable as usize, word);
+            }
+        }
     }
 }

@@ -1,63 +1,69 @@
-//! What a counterexample of an inductive step tells: 512 assignments are made of it, and those that count split the classes.
-
-ghost use Rattle.std.specs.Prelude.{◌≤◌, length};
+//! What a counterexample of an inductive step tells: 64 assignments that are like it split the classes, and so do runs that go on from those
+//! that count.
 
 use crate::classes::Classes;
-use crate::lanes::{Block, and_blocks, is_some, lit_block, played, put_block};
+use crate::lanes::in_all;
 use crate::marks::Marks;
-use crate::runs::drawn;
-use aig::lane_eval::SignatureTable;
-use aig::{Aig, Lit, NoMemory, Node};
+use crate::runs::{Premise, Runs};
+use aig::{Aig, NoMemory};
 use circuit_laws::signal_laws::Anchor;
-use rand_core::SeedableRng;
+use rand_core::Rng;
 use rand_xoshiro::Xoshiro256PlusPlus;
 use std::alloc::Global;
 use sweep_candidates::Model;
 
-/// What is asked of the nodes of a graph in one cycle, by literals of another graph.
+/// How often 64 assignments are made of a model at most.
+const SCENES: usize = 8;
+
+/// For how many cycles runs go on from the one that is asked at most.
+const AHEAD: usize = 32;
+
+/// In how many runs behind those that are like the model one bit is turned.
+const SINGLE: usize = 24;
+
+/// The runs behind these, in which bits are turned at random.
+const SOME: u64 = 0xFF00_0000_0000_0000;
+
+/// What is asked of the nodes of a graph in one cycle.
 #[derive(Clone, Copy)]
 pub struct Frame<'a> {
     /// The graph whose nodes are tied.
     pub base: &'a Aig,
-    /// The ties that hold in the cycle before, where the other graph's first variables are this one's; none where there is no such cycle.
+    /// The ties that hold in the cycle before; none where there is no such cycle, and flip-flops have their initial values.
     pub ties: &'a [Anchor],
-    /// The literals of its variables in the cycle that is asked.
-    pub leaves: &'a [Lit],
-    /// What has to be 1.
-    pub care: Lit,
+    /// What inputs meet in both cycles.
+    pub premise: Premise<'a>,
+    /// Behind how many variables of a model those of the inputs in the cycle stand that is asked. The first ones are the graph's, in the
+    /// cycle before.
+    pub inputs: u32,
 }
 
 /// What came of some assignments.
 #[derive(Drop)]
 pub struct Lesson {
-    /// Whether one of them counts.
-    pub counts: bool,
+    /// Whether the node that was asked last is told apart from its anchor.
+    pub tells: bool,
     /// Whether there are more classes since.
     pub splits: bool,
     pub marks: Marks,
 }
 
-/// Splits the classes by the nodes' values under 512 assignments that give the model's variables its bits, and others seeded ones: by those
-/// that count, where all ties hold in the cycle before and the care is 1.
+/// Splits the classes by the nodes' values under assignments that are like the model, as long as there are more classes each time: by those
+/// that count, where all ties hold in the cycle before and the premise is met.
 pub fn learn(
     alloc: Global,
     classes: &mut Classes,
-    aig: &Aig,
     frame: &Frame<'_>,
     model: &Model,
 ) -> Result<Lesson, NoMemory> {
-    let mut words = seeded_words(alloc, aig, classes.draw())?;
-    put_model(&mut words, model);
-    let marks = Marks::of(alloc, frame, &mut words)?;
-    let table = played(alloc, aig, &words)?;
-    let care = lit_block(&table, aig.size(), frame.care);
-    let counts = and_blocks(marks.holds, care);
-    let splits = is_some(counts) && split(alloc, classes, &table, aig.size(), frame, counts)?;
-    Ok(Lesson {
-        counts: is_some(counts),
-        splits,
-        marks,
-    })
+    let lesson = see(alloc, classes, frame, model)?;
+    let mut goes = lesson.splits;
+    for _n in 1..SCENES {
+        if goes {
+            goes = see(alloc, classes, frame, model)?.splits;
+        }
+    }
+    Ok(lesson)
 }
 
 /// No variable has a given bit.
@@ -68,42 +74,101 @@ pub fn no_model(alloc: Global) -> Model {
     }
 }
 
-/// Splits the classes by the nodes' values in the cycle that is asked, where they count. Whether there are more then.
-fn split(
+/// The same by 64 assignments.
+fn see(
     alloc: Global,
     classes: &mut Classes,
-    table: &SignatureTable,
-    nodes: u32,
     frame: &Frame<'_>,
-    counts: Block,
-) -> Result<bool, NoMemory>
-    requires { nodes ≤ length table.now }
-{
-    let mut words = vec![in alloc; 0u64; 8 * (frame.base.vars() as usize)]?;
-    for v in 0..frame.base.vars() {
-        let leaf = frame.leaves.get(v as usize).copied().unwrap_or(Lit::FALSE);
-        put_block(&mut words, v, lit_block(table, nodes, leaf));
-    }
-    let later = played(alloc, frame.base, &words)?;
-    classes.split_where(alloc, &later, frame.base.size(), counts)
+    model: &Model,
+) -> Result<Lesson, NoMemory> {
+    classes.turn = classes.turn.wrapping_add(1);
+    let turn = classes.turn;
+    let marks = begin(alloc, &mut classes.runs, frame, model, turn)?;
+    classes.runs.draw_any();
+    put_model(&mut classes.runs, model, frame.inputs, turn);
+    let counts = marks.holds & classes.runs.met(alloc, &frame.premise)?;
+    let splits = counts != 0 && go_on(alloc, classes, frame, counts)?;
+    Ok(Lesson {
+        tells: classes.is_apart(),
+        splits,
+        marks,
+    })
 }
 
-/// Eight words for each variable, seeded ones for those that the graph reads.
-fn seeded_words(alloc: Global, aig: &Aig, seed: u64) -> Result<Vec<u64>, NoMemory> {
-    let mut generator = Xoshiro256PlusPlus::seed_from_u64(seed);
-    let mut words = vec![in alloc; 0u64; 8 * (aig.vars() as usize)]?;
-    for node in aig.nodes() {
-        if let Node::Input(v) = node {
-            put_block(&mut words, *v, drawn(&mut generator));
+/// Gives flip-flops the values that they have in the cycle that is asked. In which runs ties hold in the cycle before, and the premise is met.
+fn begin(
+    alloc: Global,
+    runs: &mut Runs,
+    frame: &Frame<'_>,
+    model: &Model,
+    turn: usize,
+) -> Result<Marks, NoMemory> {
+    if frame.ties.is_empty() {
+        runs.start();
+        return Ok(Marks::new(alloc));
+    }
+    runs.scatter();
+    runs.draw_any();
+    put_model(runs, model, 0, turn);
+    let mut marks = Marks::of(alloc, frame, &mut runs.stage)?;
+    marks.holds &= runs.met(alloc, &frame.premise)?;
+    runs.carry(u64::MAX);
+    Ok(marks)
+}
+
+/// Splits the classes by the nodes' values in the cycle that is asked, in the runs that count, and in those after it, as long as there are
+/// more in each: what is tied in each cycle that follows on these ties is so there. Whether there are more in the end.
+fn go_on(
+    alloc: Global,
+    classes: &mut Classes,
+    frame: &Frame<'_>,
+    counts: u64,
+) -> Result<bool, NoMemory> {
+    classes.runs.stage.play(frame.base);
+    let splits = classes.split(alloc, counts)?;
+    let mut goes = splits;
+    let mut from = counts;
+    for _n in 0..AHEAD {
+        if goes {
+            classes.runs.carry(from);
+            classes.runs.draw(alloc, &frame.premise)?;
+            classes.runs.stage.play(frame.base);
+            goes = classes.split(alloc, u64::MAX)?;
+            from = u64::MAX;
         }
     }
-    Ok(words)
+    Ok(splits)
 }
 
-/// Gives the model's variables its bits.
-fn put_model(words: &mut [u64], model: &Model) {
-    for i in 0..model.vars.len().min(model.bits.len()) {
-        let word = if model.bits[i] { u64::MAX } else { 0 };
-        put_block(words, model.vars[i], [word; 8]);
+/// Gives variables the bits of those of the model that stand behind so many, or bits near them.
+fn put_model(runs: &mut Runs, model: &Model, behind: u32, turn: usize) {
+    let count = model.vars.len().min(model.bits.len());
+    for i in 0..count {
+        if model.vars[i] >= behind {
+            let at = place_behind(i, turn.wrapping_mul(SINGLE), count);
+            let word = near(in_all(model.bits[i]), at, &mut runs.generator);
+            runs.stage.put((model.vars[i] - behind) as usize, word);
+        }
     }
+}
+
+/// The place in a circle of so many that stands so far behind, where this one is the first.
+fn place_behind(place: usize, from: usize, count: usize) -> usize {
+    let first = from % count.max(1);
+    if place < first {
+        place.saturating_add(count).saturating_sub(first)
+    } else {
+        place - first
+    }
+}
+
+/// The word, but for one of the runs, where this is less than `SINGLE`, and for some of the last ones.
+fn near(word: u64, at: usize, generator: &mut Xoshiro256PlusPlus) -> u64 {
+    let few = generator.next_u64() & generator.next_u64() & generator.next_u64();
+    let one = if at < SINGLE {
+        1 << (32 + at as u32)
+    } else {
+        0
+    };
+    word ^ one ^ few & SOME
 }

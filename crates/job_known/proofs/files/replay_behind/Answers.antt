@@ -1,6 +1,6 @@
 -- One of the files isn't loaded, those before it being so; or all are, and the circuits are run.
 use Rattle.std.specs.Prelude.{IfSome}
-use Rattle.std.proofs.Common.{◌≡◌, ◌∙◌, ℕ, List, sym, subst, Option, Result}
+use Rattle.std.proofs.Common.{ℕ, List, sym, subst, Option, Result}
 use Rattle.job_base.specs.sec_files.Stimuli.{IsStimulus}
 use Rattle.job_base.specs.declared.finding.Finding.{Finding}
 use Rattle.job_base.specs.declared.finding.Stop.{Stop}

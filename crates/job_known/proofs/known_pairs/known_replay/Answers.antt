@@ -1,5 +1,5 @@
 -- The row that the loop is at is that of its cycle.
-use Rattle.std.proofs.Common.{◌≡◌, ◌∙◌, ◌+◌, ◌<◌, ℕ, suc, Bool, List, Option, None, Some, length, map, slice_get, refl, sym, ap, subst, arith, slice_index_or}
+use Rattle.std.proofs.Common.{◌≡◌, ◌∙◌, ◌+◌, ℕ, suc, Bool, List, Option, None, Some, length, map, refl, sym, ap, subst, arith, slice_index_or}
 use Rattle.std.proofs.lemmas.List.{length-map}
 use Rattle.cycle_sim.proofs.Lists.{item_at}
 use Rattle.sec_setup.specs.ports.Pairs.{places_of}

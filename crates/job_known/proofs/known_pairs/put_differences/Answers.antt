@@ -1,9 +1,8 @@
 -- The pair that the loop is at may have a difference.
-use Rattle.std.proofs.Common.{◌≡◌, ◌∙◌, ◌<◌, ◌++◌, ℕ, List, None, map, length, refl, sym, ap, subst, slice_index_or}
+use Rattle.std.proofs.Common.{◌∙◌, ◌<◌, ◌++◌, List, None, map, length, refl, sym, ap, slice_index_or}
 use Rattle.std.proofs.lemmas.List.{take_all, append-nil}
 use Rattle.flat_net.proofs.Places.{All-at}
 use Rattle.cycle_sim.proofs.Lists.{item_at}
-use Rattle.cycle_sim.specs.declared.pair_runs.differences.Difference.{Difference}
 use Rattle.sec_setup.specs.declared.ports.pairs.SignalPair.{SignalPair}
 use Rattle.sec_setup.specs.ports.Pairs.{places_of}
 use Rattle.job_known.specs.Pairs.{difference_of, differences_in}

@@ -1,10 +1,7 @@
 -- Both nets begin, and so it is told.
 use Rattle.std.specs.Prelude.{OnOk}
-use Rattle.std.proofs.Common.{◌≡◌, ◌∙◌, ℕ, Bool, List, length, ap, subst, Option, Result, Ok, Err}
-use Rattle.restart.specs.Behind.{IsBegun}
-use Rattle.job_after.specs.Report.{begun_text}
+use Rattle.std.proofs.Common.{◌∙◌, Bool, List, length, ap, Option, Result, Ok, Err}
 use Rattle.job_after.proofs.Starts.{long}
-use Rattle.job_known.specs.Begins.{BeginsBoth}
 use Rattle.job_known.proofs.replaying.begin_both.Goals as goal
 
 on_ok : {E : Type 0} {P Q : Type 0} (r : Result (Unit {0}) E) → (P → Q) → OnOk r P → OnOk r Q

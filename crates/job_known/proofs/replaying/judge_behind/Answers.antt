@@ -5,7 +5,7 @@ use Rattle.sec_setup.specs.ports.Pairs.{places_of}
 use Rattle.job_after.specs.Report.{begun_text}
 use Rattle.job_known.specs.Pairs.{ShowsKnown}
 use Rattle.job_known.specs.Judged.{IsTold}
-use Rattle.job_known.proofs.Judging.{begun_within, replayed_behind}
+use Rattle.job_known.proofs.Judging.{replayed_behind}
 use Rattle.job_known.proofs.replaying.judge_behind.Goals as goal
 
 pub returns : goal.returns

@@ -1,7 +1,7 @@
 -- No latch is cut open, so the pairs are those of the outputs.
-use Rattle.std.specs.Prelude.{◌↔◌, IfOk}
-use Rattle.std.proofs.Common.{◌≡◌, ◌<◌, ℕ, List, [], map, length, refl, sym, subst, Result, Ok, Err}
-use Rattle.std.specs.List.{All, Contains}
+use Rattle.std.specs.Prelude.{IfOk}
+use Rattle.std.proofs.Common.{◌<◌, ℕ, List, length, refl, subst, Result, Ok, Err}
+use Rattle.std.specs.List.{Contains}
 use Rattle.std.proofs.lemmas.List.Elements.{All-contains}
 use Rattle.circuit_theory.specs.Interface.{shared_inputs}
 use Rattle.circuit_theory.proofs.Lists.{All-from_each, Contains-map, Contains-map_from}

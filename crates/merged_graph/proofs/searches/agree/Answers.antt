@@ -12,6 +12,6 @@ decide-requires-clause-query c =
     query-of c.args.graph.now c.keeps.ensures.graph (record { left = c.args.x; right = c.args.y; care = record { 0 = 1 }; vars = c.in_ok-vars.vars }) c.requires.x c.requires.y one c.in_ok-vars.ensures
 
 pub returns-in-Same : goal.returns-in-Same
-returns-in-Same c = λ e.
+returns-in-Same c = λ _.
     let q : Query = record { left = c.args.x; right = c.args.y; care = record { 0 = 1 }; vars = c.in_ok-vars.vars } in
     same-agree c.args.graph.now c.keeps.ensures.graph q refl (same-of c.args.graph.now q c.args.conflicts c.in_ok-decision.decision c.in_ok-decision.ensures (c.in-Same.field-0, c.in-Same.is))

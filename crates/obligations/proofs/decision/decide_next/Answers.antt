@@ -13,8 +13,8 @@ use Rattle.obligations.proofs.Listed.{item-at, take-next, query-at, queries-with
 use Rattle.obligations.proofs.Results.{more, put-alike}
 use Rattle.obligations.proofs.decision.decide_next.Goals as goal
 
-pub decide_queries-requires-clause-known : goal.decide_queries-requires-clause-known
-decide_queries-requires-clause-known c = λ j q there new here.
+pub find-requires-clause-known : goal.find-requires-clause-known
+find-requires-clause-known c = λ j q there new here.
     let asked = c.args.asked.now in
     let o : Obligation = c.index-asked-i.result in
     let at = item-at asked c.args.i o c.requires.within c.index-asked-i.is in
@@ -23,8 +23,8 @@ decide_queries-requires-clause-known c = λ j q there new here.
     ap (λ p. slice_get (queries_of asked) (p + j)) c.requires.place ∙ query-at asked c.args.i j o q at (ap (λ (qs : List Query). slice_get qs j) (sym own) ∙ there) in
     c.requires.known (c.args.place + j) q stands new here
 
-pub decide_queries-requires-clause-few : goal.decide_queries-requires-clause-few
-decide_queries-requires-clause-few c =
+pub find-requires-clause-few : goal.find-requires-clause-few
+find-requires-clause-few c =
     let asked = c.args.asked.now in
     let o : Obligation = c.index-asked-i.result in
     let at = item-at asked c.args.i o c.requires.within c.index-asked-i.is in

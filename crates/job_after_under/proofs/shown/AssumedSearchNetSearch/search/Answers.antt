@@ -13,6 +13,6 @@ returns-in-Ok-Searched c =
     let b = c.args.b.now in
     let s = c.args.self.now in
     let k = s.assumed.now in
-    let made = subst (λ (m : SearchUnder). IsMadeUnder a b k s.cycles s.conflicts m) c.in-Ok-Searched.field-0-is
-    (subst (λ (r : Result SearchUnder UnderError). SearchesUnder a b k s.cycles s.conflicts r) c.in-Ok-Searched.is c.search_cycles_under.ensures) in
-    goes_on_meeting a b k s.cycles s.conflicts c.in-Ok-Searched.searched made.0 c.requires.right.distinct
+    let made = subst (λ (m : SearchUnder). IsMadeUnder a b k c.min-last.result c.min-most.result m) c.in-Ok-Searched.field-0-is
+    (subst (λ (r : Result SearchUnder UnderError). SearchesUnder a b k c.min-last.result c.min-most.result r) c.in-Ok-Searched.is c.search_cycles_under.ensures) in
+    goes_on_meeting a b k c.min-last.result c.min-most.result c.in-Ok-Searched.searched made.0 c.requires.right.distinct

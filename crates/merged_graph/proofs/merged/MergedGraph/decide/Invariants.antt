@@ -1,5 +1,6 @@
+use Rattle.std.proofs.Common.{◌≡◌, length}
 use Rattle.merged_graph.specs.Merged.{IsMerged}
 use Rattle.merged_graph.proofs.merged.MergedGraph.decide.Given as goal
 
 abbrev pub invariant-loop-i : goal.invariant-loop-i
-invariant-loop-i l = IsMerged l.other l.self
+invariant-loop-i l = record { merged : IsMerged l.other l.self; each : l.nodes ≡ length l.table }

@@ -1,0 +1,18 @@
+-- Bits of words that spell one number.
+use Rattle.std.specs.Prelude.{◌≡◌, ℕ, ◌*◌, ◌<◌, List, length}
+use Rattle.std.specs.List.{All}
+use Rattle.aig.specs.declared.node.Lit.{Lit}
+use Rattle.aig.specs.lane_eval.root_classes.Agreeing.{Agree}
+use Rattle.obligations.specs.outcome.aig.Node.{Node}
+use Rattle.obligations.specs.declared.words.WordBit.{WordBit}
+use Rattle.obligations.specs.declared.words.BothWords.{BothWords}
+
+-- both literals of each have one value under every assignment
+abbrev pub AreAgreed : List Node → List WordBit → Type 0
+AreAgreed g bits = All (λ (b : WordBit). Agree g b.left.0 b.right.0) bits
+
+-- the words are of one length, and their literals of the graph
+pub record IsWord (g : List Node) (w : BothWords) : Type 0 where
+  pub left : All (λ (l : Lit). l.0 < 2 * length g) w.left.items
+  pub right : All (λ (l : Lit). l.0 < 2 * length g) w.right.items
+  pub lengths : length w.left.items ≡ length w.right.items

@@ -1,0 +1,167 @@
+//! Sides that are bits of words: words of the one sides and of the others that are shown to spell one number.
+
+ghost use Rattle.std.specs.Prelude.{◌≡◌, ℕ, ◌*◌, ◌<◌, List, length, IfOk, IsTrue, OnOk};
+ghost use Rattle.std.specs.List.{All};
+ghost use Rattle.aig.specs.lane_eval.root_classes.Agreeing.{Agree};
+ghost use Rattle.word_sums.specs.Words.{AgreeEach};
+ghost use Rattle.obligations.specs.outcome.aig.Node.{Node};
+ghost use Rattle.obligations.specs.outcome.Queries.{IsSame};
+ghost use Rattle.obligations.specs.Agreed.{AreAgreed, IsWord};
+
+use crate::numbered::{Run, open_runs};
+use crate::obligation::Obligation;
+use crate::outcome::{Aig, NoMemory, Query};
+use aig::Lit;
+use std::alloc::Global;
+use swept_queries::SweptQueries;
+use word_sums::{Words, same_words};
+
+/// The literals of one bit of two words.
+#[derive(Clone, Copy)]
+pub(crate) struct WordBit {
+    pub(crate) left: Lit,
+    pub(crate) right: Lit,
+}
+
+/// Two words, with the lowest bit first.
+#[derive(Drop)]
+struct BothWords {
+    left: Vec<Lit>,
+    right: Vec<Lit>,
+}
+
+/// Where nothing is known.
+const NONE: WordBit = WordBit {
+    left: Lit::FALSE,
+    right: Lit::FALSE,
+};
+
+/// How many terms the difference of two words may have.
+const MOST_TERMS: usize = 60_000;
+
+/// For each obligation two literals that agree: its sides, if it is a bit of two words that are shown to spell one number. Words are
+/// guessed by the names, and asked where the sweep left bits open.
+pub(crate) fn agreed_words(
+    alloc: Global,
+    aig: &Aig,
+    asked: &[Obligation],
+    swept: &SweptQueries,
+) -> Result<Vec<WordBit>, NoMemory>
+    ensures { IfOk result (λ bits. AreAgreed aig.now bits.items) }
+{
+    let runs = open_runs(alloc, asked, swept, aig.size())?;
+    let mut bits = vec![in alloc; NONE; asked.len()]?;
+    for i in 0..runs.len() {
+        ask_word(alloc, aig, asked, &runs[i], bits.as_mut_slice())?;
+    }
+    Ok(bits)
+}
+
+/// Asks of the run whether its words are the same, and puts their bits if they are.
+fn ask_word(
+    alloc: Global,
+    aig: &Aig,
+    asked: &[Obligation],
+    run: &Run,
+    bits: &mut [WordBit],
+) -> Result<(), NoMemory>
+    requires { AreAgreed aig.now bits.old }
+    ensures { OnOk result (AreAgreed aig.now bits.new) }
+{
+    let word = words_of(alloc, aig, asked, run)?;
+    let left = word.left.as_slice();
+    let right = word.right.as_slice();
+    let told = same_words(alloc, aig, left, right, MOST_TERMS)?;
+    if let Words::Same = told {
+        put_bits(bits, run, left, right);
+    }
+    Ok(())
+}
+
+/// The words of the run's sides, of queries that stand alone.
+fn words_of(
+    alloc: Global,
+    aig: &Aig,
+    asked: &[Obligation],
+    run: &Run,
+) -> Result<BothWords, NoMemory>
+    ensures { IfOk result (IsWord aig.now) }
+{
+    let mut word = BothWords {
+        left: Vec::new(alloc),
+        right: Vec::new(alloc),
+    };
+    for k in 0..run.count {
+        let bit = bit_of(asked, run.place(k));
+        put_bit(aig, &mut word, bit)?;
+    }
+    Ok(word)
+}
+
+/// Puts the literals behind the words, if they are of the graph.
+fn put_bit(aig: &Aig, word: &mut BothWords, bit: WordBit) -> Result<(), NoMemory>
+    ensures { OnOk result (IsWord aig.now word.old → IsWord aig.now word.new) }
+{
+    aig.keeps();
+    let size = 2 * aig.size();
+    if bit.left.0 < size && bit.right.0 < size {
+        word.left.push(bit.left)?;
+        word.right.push(bit.right)?;
+    }
+    Ok(())
+}
+
+/// The sides of the obligation at this place, if it has one query.
+fn bit_of(asked: &[Obligation], place: usize) -> WordBit {
+    if place >= asked.len() {
+        return NONE;
+    }
+    let queries = asked[place].queries.as_slice();
+    if queries.len() != 1 {
+        return NONE;
+    }
+    WordBit {
+        left: queries[0].left,
+        right: queries[0].right,
+    }
+}
+
+/// Puts the bits of words that agree at the places of the run.
+fn put_bits(bits: &mut [WordBit], run: &Run, left: &[Lit], right: &[Lit])
+    requires { length left.now ≡ length right.now }
+    ensures { (g : List Node) → AgreeEach g left.now right.now → AreAgreed g bits.old → AreAgreed g bits.new }
+{
+    for k in 0..left.len() {
+        let bit = WordBit {
+            left: left[k],
+            right: right[k],
+        };
+        put_at(bits, run.place(k), bit);
+    }
+}
+
+/// Puts the bit at the place, if there is one.
+fn put_at(bits: &mut [WordBit], place: usize, bit: WordBit)
+    ensures { (g : List Node) → Agree g bit.left.0 bit.right.0 → AreAgreed g bits.old → AreAgreed g bits.new }
+{
+    if place < bits.len() {
+        bits[place] = bit;
+    }
+}
+
+/// Whether there is one query, whose sides are the bits at this place.
+pub(crate) fn are_agreed(bits: &[WordBit], place: usize, queries: &[Query]) -> bool
+    ensures { IsTrue result → (g : List Node) → AreAgreed g bits.now → All (IsSame g) queries.now }
+{
+    if place >= bits.len() || queries.len() != 1 {
+        return false;
+    }
+    is_bit(bits[place], &queries[0])
+}
+
+/// Whether the sides of the query are this bit.
+fn is_bit(bit: WordBit, query: &Query) -> bool
+    ensures { IsTrue result → (g : List Node) → Agree g bit.left.0 bit.right.0 → IsSame g query.now }
+{
+    query.left == bit.left && query.right == bit.right
+}

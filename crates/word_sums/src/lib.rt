@@ -1,0 +1,16 @@
+//! Words of literals that are sums and products of others in another shape: whether two words spell one number under every assignment,
+//! by rewriting their difference as a sum of literals.
+#![tactic(auto)]
+
+mod adders;
+mod answer;
+mod coefficients;
+mod cut_lists;
+mod cuts;
+mod difference;
+mod rewriting;
+mod vanishing;
+mod words;
+
+pub use answer::Words;
+pub use words::{MAX_WORD, same_words};
