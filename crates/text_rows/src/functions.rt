@@ -4,6 +4,7 @@ mod calls;
 mod decisions;
 mod lanes;
 mod sketch;
+mod sums;
 mod sweeps;
 
 use crate::row_text::{show, split_at};

@@ -7,6 +7,7 @@ ghost use Rattle.pair_decide.specs.Queries.{IsQuery};
 use crate::functions::decisions::{query_of, show_clauses, show_decision, show_least};
 use crate::functions::lanes::{numbers_of, show_blocks, show_both};
 use crate::functions::sketch::{NODES, Sketch};
+use crate::functions::sums::show_same_words;
 use crate::functions::sweeps::{show_cases, show_swept};
 use crate::pieces::show_numbers;
 use crate::row_text::{number_of, show, show_count, show_number, split_at};
@@ -27,6 +28,7 @@ pub(crate) fn show_call(rt: &HostRuntime, sketch: &Sketch, call: &[u8]) {
         "size" => show_size(rt, &sketch.graph),
         "signatures" => show_blocks(rt, &sketch.graph, numbers_of(rt, given).as_slice()),
         "and_block" => show_both(rt, numbers_of(rt, given).as_slice()),
+        "same_words" => show_same_words(rt, sketch, given),
         other => show_of_literals(rt, sketch, other, given),
     }
 }

@@ -39,8 +39,8 @@ ask-requires c =
           (λ u k. let at = at_of right u k in let x = zip_left Right s.pairs right h.right_are at.0 u at.1 in in_order s.right.now s.orders.right b.right f.aig f.places x.0.right.0 c.args.cycle u x.2);
     }
 
-pub decide_all-requires-clause-asked : goal.decide_all-requires-clause-asked
-decide_all-requires-clause-asked c =
+pub decide_near-requires-clause-asked : goal.decide_near-requires-clause-asked
+decide_near-requires-clause-asked c =
     let s = c.args.setup.now in
     let b = c.args.bases in
     let f = c.args.unfolded.now.functions in
