@@ -4,7 +4,7 @@ ghost use Rattle.std.specs.Prelude.{◌<◌, ◌^◌, length, IfOk, OnOk};
 ghost use Rattle.obligations.specs.Asked.{AreAsked, AreKnown, queries_of};
 ghost use Rattle.obligations.specs.Agreed.{AreAgreed};
 
-use crate::numbered::{is_product, left_open, wide};
+use crate::numbered::{left_open, wide};
 use crate::obligation::Obligation;
 use crate::outcome::{Aig, NoMemory};
 use crate::sides::sweep_asked;
@@ -34,16 +34,11 @@ pub(crate) fn known_sides(
     ensures agreed { IfOk result (λ known. AreAgreed aig.now known.bits.items) }
     ensures few { OnOk result (length (queries_of asked.now) < 2 ^ 64) }
 {
-    let product = is_product(aig);
     let mut bits = no_bits(alloc, asked.len())?;
-    if product {
-        let open = wide(alloc, asked)?;
-        ask_words(alloc, aig, asked, open.as_slice(), bits.as_mut_slice())?;
-    }
+    let wide = wide(alloc, aig, asked)?;
+    ask_words(alloc, aig, asked, wide.as_slice(), bits.as_mut_slice())?;
     let swept = sweep_asked(alloc, aig, asked, bits.as_slice(), models, conflicts)?;
-    if !product {
-        let open = left_open(alloc, asked, &swept)?;
-        ask_words(alloc, aig, asked, open.as_slice(), bits.as_mut_slice())?;
-    }
+    let open = left_open(alloc, aig, asked, &swept)?;
+    ask_words(alloc, aig, asked, open.as_slice(), bits.as_mut_slice())?;
     Ok(KnownSides { swept, bits })
 }

@@ -45,7 +45,7 @@ impl Run {
 }
 
 /// Whether the graph looks like products: ands of two variables are many of its nodes, and more than twice the variables.
-pub(crate) fn is_product(aig: &Aig) -> bool {
+fn is_product(aig: &Aig) -> bool {
     let mut products = 0u32;
     for n in 0..aig.size() {
         if is_and_of_inputs(aig, n) {
@@ -77,11 +77,12 @@ fn is_input(aig: &Aig, l: Lit) -> bool {
     }
 }
 
-/// For each obligation whether it has one query, of more than 16 variables and with two literals.
-pub(crate) fn wide(alloc: Global, asked: &[Obligation]) -> Result<Vec<bool>, NoMemory> {
+/// For each obligation whether it has one query, of more than 16 variables and with two literals, in a graph that looks like products.
+pub(crate) fn wide(alloc: Global, aig: &Aig, asked: &[Obligation]) -> Result<Vec<bool>, NoMemory> {
+    let product = is_product(aig);
     let mut open = Vec::new(alloc);
     for i in 0..asked.len() {
-        open.push(is_wide(asked[i].queries.as_slice()))?;
+        open.push(product && is_wide(asked[i].queries.as_slice()))?;
     }
     Ok(open)
 }
@@ -95,16 +96,18 @@ fn is_wide(queries: &[Query]) -> bool {
     query.vars.len() > MAX_TABLE_VARIABLES && query.left != query.right
 }
 
-/// For each obligation whether the sweep left its first query open.
+/// For each obligation whether the sweep left its first query open, in a graph that doesn't look so.
 pub(crate) fn left_open(
     alloc: Global,
+    aig: &Aig,
     asked: &[Obligation],
     swept: &SweptQueries,
 ) -> Result<Vec<bool>, NoMemory> {
+    let other = !is_product(aig);
     let mut open = Vec::new(alloc);
     let mut place = 0usize;
     for i in 0..asked.len() {
-        open.push(is_open(swept, place))?;
+        open.push(other && is_open(swept, place))?;
         place = place.saturating_add(asked[i].queries.len());
     }
     Ok(open)

@@ -46,11 +46,7 @@ fn all_sides(
 }
 
 /// Puts what may be swept for these queries behind the rest.
-fn put_sides(
-    sides: &mut Vec<Option<Sides>>,
-    queries: &[Query],
-    known: bool,
-) -> Result<(), NoMemory>
+fn put_sides(sides: &mut Vec<Option<Sides>>, queries: &[Query], known: bool) -> Result<(), NoMemory>
     ensures { OnOk result (HaveMore queries.now sides.old.items sides.new.items) }
 {
     for query in queries {
