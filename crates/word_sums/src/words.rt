@@ -55,7 +55,12 @@ fn told(
     let mut copy = copy_graph(alloc, graph)?;
     let own_left = copies_of(alloc, copy.lits.as_slice(), left)?;
     let own_right = copies_of(alloc, copy.lits.as_slice(), right)?;
-    let rules = rules_of(alloc, &mut copy.aig)?;
+    let rules = rules_of(
+        alloc,
+        &mut copy.aig,
+        own_left.as_slice(),
+        own_right.as_slice(),
+    )?;
     copy.aig.keeps();
     let rest = left_over(
         alloc,
