@@ -4,10 +4,10 @@ use aig::{Aig, Lit, NoMemory, Node};
 use std::alloc::Global;
 
 /// Read by the left word.
-const LEFT: u8 = 1;
+pub(crate) const LEFT: u8 = 1;
 
 /// Read by the right one.
-const RIGHT: u8 = 2;
+pub(crate) const RIGHT: u8 = 2;
 
 /// For each node of the graph the words that read it.
 pub(crate) fn sides_of(
