@@ -120,7 +120,13 @@ fn make_carry(graph: &mut Aig, cut: Cut, n: u32, sides: &mut Vec<u8>) -> Result<
 }
 
 /// The node's rule: by a full adder whose carry the word reads, else by a half adder, else by the and.
-fn rule_of(graph: &mut Aig, cuts: &[Cut], n: u32, sides: &[u8]) -> Result<Option<Rule>, NoMemory>
+fn rule_of(
+    graph: &mut Aig,
+    cuts: &[Cut],
+    n: u32,
+    sides: &[u8],
+    by: u8,
+) -> Result<Option<Rule>, NoMemory>
     ensures { Grows graph.old graph.new }
 {
     let full = full_rule(graph, cuts, n, sides, by)?;
@@ -135,7 +141,13 @@ fn rule_of(graph: &mut Aig, cuts: &[Cut], n: u32, sides: &[u8]) -> Result<Option
 }
 
 /// By a cut of three leaves over which the node is their sum or carry.
-fn full_rule(graph: &mut Aig, cuts: &[Cut], n: u32, sides: &[u8]) -> Result<Option<Rule>, NoMemory>
+fn full_rule(
+    graph: &mut Aig,
+    cuts: &[Cut],
+    n: u32,
+    sides: &[u8],
+    by: u8,
+) -> Result<Option<Rule>, NoMemory>
     ensures { Grows graph.old graph.new }
 {
     for k in 0..CUTS as u32 {
@@ -148,7 +160,13 @@ fn full_rule(graph: &mut Aig, cuts: &[Cut], n: u32, sides: &[u8]) -> Result<Opti
 }
 
 /// The same of one cut.
-fn full_rule_by(graph: &mut Aig, cut: Cut, n: u32, sides: &[u8]) -> Result<Option<Rule>, NoMemory>
+fn full_rule_by(
+    graph: &mut Aig,
+    cut: Cut,
+    n: u32,
+    sides: &[u8],
+    by: u8,
+) -> Result<Option<Rule>, NoMemory>
     ensures { Grows graph.old graph.new }
 {
     if cut.third == NO_LEAF {
