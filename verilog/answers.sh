@@ -225,6 +225,6 @@ compare() {
       and_from_initial_values
     fi
   fi
-  ! grep -q '^verdict' "${reports[@]}" "$report" || starts[number]=$(told_of "$start")
+  if [ -n "$behind" ] || grep -q '^verdict' "${reports[@]}" "$report"; then starts[number]=$(told_of "$start"); fi
   answered
 }

@@ -338,7 +338,8 @@ behind_a_reset() {
         behind="; no difference within $(searched) cycles $it$assumed"
       fi
       ;;
-    3 | 124) behind="; nothing decided $it" ;;
+    3) behind="; nothing decided $it" ;;
+    124) behind="; nothing decided within 30 seconds $it" ;;
   esac
 }
 
