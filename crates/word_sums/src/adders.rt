@@ -6,7 +6,8 @@ ghost use Rattle.aig.specs.Graph.{Grows};
 
 use crate::cut_lists::{CUTS, cut_at, cuts_of, is_none, table_of};
 use crate::cuts::{Cut, NO_LEAF};
-use crate::rewriting::{MINUS_ONE, Rule, term};
+use crate::rewriting::{MINUS_ONE, Rule, Rules, term};
+use crate::sides::{LEFT, RIGHT, mark_later, sides_at, sides_of};
 use aig::{Aig, Lit, NoMemory};
 use std::alloc::Global;
 
@@ -28,18 +29,46 @@ const HALF_SUM: u32 = 0x66;
 /// Those of its complement.
 const NOT_HALF_SUM: u32 = 0x99;
 
-/// A rule for each node that is a sum or a carry of an adder, or an and with a complemented operand, in the order of the nodes. Carries
-/// that the graph doesn't have are made.
-pub(crate) fn rules_of(alloc: Global, graph: &mut Aig) -> Result<Vec<Rule>, NoMemory>
+/// For each of both words a rule for each node that it reads and that is a sum or a carry of an adder, or an and with a complemented
+/// operand, in the order of the nodes. Carries that the graph doesn't have are made.
+pub(crate) fn rules_of(
+    alloc: Global,
+    graph: &mut Aig,
+    left: &[Lit],
+    right: &[Lit],
+) -> Result<Rules, NoMemory>
     ensures { Grows graph.old graph.new }
 {
     let cuts = cuts_of(alloc, graph)?;
     let size = graph.size();
-    make_carries(graph, cuts.as_slice(), size)?;
-    let known = graph.size();
+    let mut sides = sides_of(alloc, graph, left, right)?;
+    make_carries(graph, cuts.as_slice(), size, &mut sides)?;
+    let own = rules_by(alloc, graph, cuts.as_slice(), size, sides.as_slice(), LEFT)?;
+    let other = rules_by(alloc, graph, cuts.as_slice(), size, sides.as_slice(), RIGHT)?;
+    Ok(Rules {
+        left: own,
+        right: other,
+    })
+}
+
+/// The rules of one word.
+fn rules_by(
+    alloc: Global,
+    graph: &mut Aig,
+    cuts: &[Cut],
+    size: u32,
+    sides: &[u8],
+    by: u8,
+) -> Result<Vec<Rule>, NoMemory>
+    ensures { Grows graph.old graph.new }
+{
     let mut rules = Vec::new(alloc);
     for n in 0..size {
-        let found = rule_of(graph, cuts.as_slice(), n, known)?;
+        let found = if sides_at(sides, n) & by == 0 {
+            None
+        } else {
+            rule_of(graph, cuts, n, sides, by)?
+        };
         if let Some(rule) = found {
             rules.push(rule)?;
         }
@@ -48,42 +77,59 @@ pub(crate) fn rules_of(alloc: Global, graph: &mut Aig) -> Result<Vec<Rule>, NoMe
 }
 
 /// Makes the carry of each cut over which a node is one, or one of complements.
-fn make_carries(graph: &mut Aig, cuts: &[Cut], size: u32) -> Result<(), NoMemory>
+fn make_carries(
+    graph: &mut Aig,
+    cuts: &[Cut],
+    size: u32,
+    sides: &mut Vec<u8>,
+) -> Result<(), NoMemory>
     ensures { Grows graph.old graph.new }
 {
     for n in 0..size {
-        make_carries_of(graph, cuts, n)?;
+        make_carries_of(graph, cuts, n, sides)?;
     }
     Ok(())
 }
 
 /// The same of the cuts of one node.
-fn make_carries_of(graph: &mut Aig, cuts: &[Cut], n: u32) -> Result<(), NoMemory>
+fn make_carries_of(
+    graph: &mut Aig,
+    cuts: &[Cut],
+    n: u32,
+    sides: &mut Vec<u8>,
+) -> Result<(), NoMemory>
     ensures { Grows graph.old graph.new }
 {
     for k in 0..CUTS as u32 {
-        make_carry(graph, cut_at(cuts, n, k), n)?;
+        make_carry(graph, cut_at(cuts, n, k), n, sides)?;
     }
     Ok(())
 }
 
-/// The same of one cut.
-fn make_carry(graph: &mut Aig, cut: Cut, n: u32) -> Result<(), NoMemory>
+/// The same of one cut. The words that read the node read the carry.
+fn make_carry(graph: &mut Aig, cut: Cut, n: u32, sides: &mut Vec<u8>) -> Result<(), NoMemory>
     ensures { Grows graph.old graph.new }
 {
     let fits = cut.third != NO_LEAF && is_carry(values(graph, cut, n));
     if !fits {
         return Ok(());
     }
-    carry_of(graph, cut)?;
-    Ok(())
+    let carry = carry_of(graph, cut)?;
+    let by = sides_at(sides.as_slice(), n);
+    mark_later(sides, graph.size(), carry.node(), by)
 }
 
-/// The node's rule: by a full adder whose carry the graph had, else by a half adder, else by the and.
-fn rule_of(graph: &mut Aig, cuts: &[Cut], n: u32, known: u32) -> Result<Option<Rule>, NoMemory>
+/// The node's rule: by a full adder whose carry the word reads, else by a half adder, else by the and.
+fn rule_of(
+    graph: &mut Aig,
+    cuts: &[Cut],
+    n: u32,
+    sides: &[u8],
+    by: u8,
+) -> Result<Option<Rule>, NoMemory>
     ensures { Grows graph.old graph.new }
 {
-    let full = full_rule(graph, cuts, n, known)?;
+    let full = full_rule(graph, cuts, n, sides, by)?;
     if full.is_some() {
         return Ok(full);
     }
@@ -94,12 +140,18 @@ fn rule_of(graph: &mut Aig, cuts: &[Cut], n: u32, known: u32) -> Result<Option<R
     half_rule(graph, cuts, n, false)
 }
 
-/// By a cut of three leaves over which the node is their sum or carry. The carry has a number below the one that is given.
-fn full_rule(graph: &mut Aig, cuts: &[Cut], n: u32, known: u32) -> Result<Option<Rule>, NoMemory>
+/// By a cut of three leaves over which the node is their sum or carry.
+fn full_rule(
+    graph: &mut Aig,
+    cuts: &[Cut],
+    n: u32,
+    sides: &[u8],
+    by: u8,
+) -> Result<Option<Rule>, NoMemory>
     ensures { Grows graph.old graph.new }
 {
     for k in 0..CUTS as u32 {
-        let found = full_rule_by(graph, cut_at(cuts, n, k), n, known)?;
+        let found = full_rule_by(graph, cut_at(cuts, n, k), n, sides, by)?;
         if found.is_some() {
             return Ok(found);
         }
@@ -108,7 +160,13 @@ fn full_rule(graph: &mut Aig, cuts: &[Cut], n: u32, known: u32) -> Result<Option
 }
 
 /// The same of one cut.
-fn full_rule_by(graph: &mut Aig, cut: Cut, n: u32, known: u32) -> Result<Option<Rule>, NoMemory>
+fn full_rule_by(
+    graph: &mut Aig,
+    cut: Cut,
+    n: u32,
+    sides: &[u8],
+    by: u8,
+) -> Result<Option<Rule>, NoMemory>
     ensures { Grows graph.old graph.new }
 {
     if cut.third == NO_LEAF {
@@ -120,7 +178,7 @@ fn full_rule_by(graph: &mut Aig, cut: Cut, n: u32, known: u32) -> Result<Option<
         return Ok(None);
     }
     let carry = carry_of(graph, cut)?;
-    if carry.node() >= known {
+    if sides_at(sides, carry.node()) & by == 0 {
         return Ok(None);
     }
     Ok(Some(rule_by(n, cut, table, carry)))

@@ -9,6 +9,7 @@ mod cut_lists;
 mod cuts;
 mod difference;
 mod rewriting;
+mod sides;
 mod vanishing;
 mod words;
 
