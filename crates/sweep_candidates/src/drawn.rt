@@ -30,11 +30,13 @@ impl Drawn {
     }
 
     /// For so many nodes.
-    pub(crate) fn new(alloc: Global, nodes: u32) -> Drawn {
-        Drawn {
-            words: Vec::new(alloc),
-            each: (ROOM / nodes.max(1) as usize).min(WORDS),
-        }
+    pub(crate) fn new(alloc: Global, nodes: u32) -> Result<Drawn, NoMemory> {
+        let nodes = nodes.max(1) as usize;
+        let each = (ROOM / nodes).min(WORDS);
+        Ok(Drawn {
+            words: Vec::with_capacity(alloc, each.saturating_mul(nodes))?,
+            each,
+        })
     }
 
     /// Puts the values of one more node behind the others'.
