@@ -8,6 +8,7 @@ ghost use Rattle.obligations.specs.outcome.aig.Node.{Node};
 ghost use Rattle.obligations.specs.outcome.Queries.{IsSame};
 ghost use Rattle.obligations.specs.Agreed.{AreAgreed, IsWord};
 
+use crate::carries::same_by_carries;
 use crate::numbered::{Run, open_runs};
 use crate::obligation::Obligation;
 use crate::outcome::{Aig, NoMemory, Query};
@@ -79,11 +80,24 @@ fn ask_word(
     let word = words_of(alloc, aig, asked, run)?;
     let left = word.left.as_slice();
     let right = word.right.as_slice();
-    let told = same_words(alloc, aig, left, right, MOST_TERMS)?;
-    if let Words::Same = told {
+    if are_same(alloc, aig, left, right)? {
         put_bits(bits, run, left, right);
     }
     Ok(())
+}
+
+/// Whether the words are shown to spell one number: as they stand, or else over a graph in which carries are majorities.
+fn are_same(alloc: Global, aig: &Aig, left: &[Lit], right: &[Lit]) -> Result<bool, NoMemory>
+    requires left { All (λ (l : Lit). l.0 < 2 * length aig.now) left.now }
+    requires right { All (λ (l : Lit). l.0 < 2 * length aig.now) right.now }
+    requires lengths { length left.now ≡ length right.now }
+    ensures { IfOk result (λ same. IsTrue same → AgreeEach aig.now left.now right.now) }
+{
+    match same_words(alloc, aig, left, right, MOST_TERMS)? {
+        Words::Same => Ok(true),
+        Words::Differ(_) => Ok(false),
+        Words::Open => same_by_carries(alloc, aig, left, right, MOST_TERMS),
+    }
 }
 
 /// The words of the run's sides, of queries that stand alone.

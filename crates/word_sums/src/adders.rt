@@ -18,10 +18,10 @@ const ROOM: u32 = 1 << 29;
 const MINUS_TWO: u64 = u64::MAX - 1;
 
 /// The values of a sum of three leaves.
-const SUM: u32 = 0x96;
+pub(crate) const SUM: u32 = 0x96;
 
 /// Those of its complement.
-const NOT_SUM: u32 = 0x69;
+pub(crate) const NOT_SUM: u32 = 0x69;
 
 /// The values of a sum of two leaves.
 const HALF_SUM: u32 = 0x66;
@@ -215,7 +215,7 @@ fn half_rule_by(graph: &mut Aig, cut: Cut, n: u32, sum: bool) -> Result<Option<R
 }
 
 /// Whether these are the values of a sum of two leaves or its complement, or else of an and with a complemented operand.
-fn is_half(table: u32, sum: bool) -> bool {
+pub(crate) fn is_half(table: u32, sum: bool) -> bool {
     if sum {
         table == HALF_SUM || table == NOT_HALF_SUM
     } else {
@@ -224,7 +224,7 @@ fn is_half(table: u32, sum: bool) -> bool {
 }
 
 /// The node's values over the cut, or 0.
-fn values(graph: &Aig, cut: Cut, n: u32) -> u32 {
+pub(crate) fn values(graph: &Aig, cut: Cut, n: u32) -> u32 {
     if is_none(cut) || n >= graph.size() {
         return 0;
     }
@@ -232,7 +232,7 @@ fn values(graph: &Aig, cut: Cut, n: u32) -> u32 {
 }
 
 /// Whether these are the values of a carry, or of one with a complemented leaf, or of the complement of one of these.
-fn is_carry(table: u32) -> bool {
+pub(crate) fn is_carry(table: u32) -> bool {
     match table {
         0xE8 | 0x17 | 0xD4 | 0x2B | 0xB2 | 0x4D | 0x8E | 0x71 => true,
         _ => false,
@@ -277,7 +277,7 @@ fn weights(table: u32) -> [u64; 5] {
 }
 
 /// The literal of the node, or 0 for no leaf.
-fn node_lit(n: u32) -> Lit {
+pub(crate) fn node_lit(n: u32) -> Lit {
     if n == NO_LEAF {
         Lit::FALSE
     } else {
@@ -289,13 +289,25 @@ fn node_lit(n: u32) -> Lit {
 fn carry_of(graph: &mut Aig, cut: Cut) -> Result<Lit, NoMemory>
     ensures { Grows graph.old graph.new }
 {
-    let (a, b) = (node_lit(cut.first), node_lit(cut.second));
+    majority(
+        graph,
+        node_lit(cut.first),
+        node_lit(cut.second),
+        node_lit(cut.third),
+    )
+}
+
+/// The majority of three literals: the and of two where the third is 0. Where they aren't the graph's or there is no room it is another
+/// literal.
+pub fn majority(graph: &mut Aig, a: Lit, b: Lit, c: Lit) -> Result<Lit, NoMemory>
+    ensures { Grows graph.old graph.new }
+{
     let both = and_of(graph, a, b)?;
-    if cut.third == NO_LEAF {
+    if c == Lit::FALSE {
         return Ok(both);
     }
     let neither = and_of(graph, Aig::not(a), Aig::not(b))?;
-    let either = and_of(graph, node_lit(cut.third), Aig::not(neither))?;
+    let either = and_of(graph, c, Aig::not(neither))?;
     let none = and_of(graph, Aig::not(both), Aig::not(either))?;
     Ok(Aig::not(none))
 }
