@@ -132,7 +132,11 @@ fn majority_of(graph: &mut Aig, lits: &[Lit], carry: Carry) -> Result<Lit, NoMem
     let second = known_for(lits, carry.second);
     let third = known_for(lits, carry.third);
     let made = majority(graph, first, second, third)?;
-    Ok(if carry.complement { Aig::not(made) } else { made })
+    Ok(if carry.complement {
+        Aig::not(made)
+    } else {
+        made
+    })
 }
 
 /// Puts the levels of the nodes that have none yet.

@@ -65,7 +65,13 @@ pub fn guessed_carries(
     for n in 0..graph.size() {
         let may = addends.get(n as usize) == Some(&true) && !is_made(graph, cuts.as_slice(), n);
         let found = if may {
-            carry_at(&drawn, trials.as_slice(), slots.as_slice(), sides_at(sides.as_slice(), n), n)
+            carry_at(
+                &drawn,
+                trials.as_slice(),
+                slots.as_slice(),
+                sides_at(sides.as_slice(), n),
+                n,
+            )
         } else {
             None
         };
@@ -231,7 +237,9 @@ fn drawn_word(round: u64, v: u32) -> u64 {
 
 /// A mix of both.
 fn mixed(key: u64, word: u64) -> u64 {
-    let x = (key ^ word).wrapping_add(0x9E37_79B9_7F4A_7C15).wrapping_mul(0xBF58_476D_1CE4_E5B9);
+    let x = (key ^ word)
+        .wrapping_add(0x9E37_79B9_7F4A_7C15)
+        .wrapping_mul(0xBF58_476D_1CE4_E5B9);
     let y = (x ^ (x >> 27)).wrapping_mul(0x94D0_49BB_1331_11EB);
     y ^ (y >> 31)
 }
@@ -313,7 +321,12 @@ fn carry_at(drawn: &Drawn, trials: &[Trial], slots: &[u32], sides: u8, n: u32) -
 
 /// The carry that the node may be in one word.
 fn carry_by(drawn: &Drawn, trials: &[Trial], slots: &[u32], by: u8, n: u32) -> Option<Carry> {
-    let place = slot_of(slots, trials, word_at(drawn.keys.as_slice(), n as usize), by)?;
+    let place = slot_of(
+        slots,
+        trials,
+        word_at(drawn.keys.as_slice(), n as usize),
+        by,
+    )?;
     if place >= slots.len() || by == 0 {
         return None;
     }
