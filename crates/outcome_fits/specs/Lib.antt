@@ -1,6 +1,7 @@
 pub mod Fitting
 pub mod Outcome
 pub mod ResetOutcome
+pub mod Results
 pub mod plain_meaning
 pub use Rattle.sec_setup.specs.Cuts
 pub use Rattle.sec_setup.specs.ports.Pairs
