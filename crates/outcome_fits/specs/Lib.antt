@@ -7,3 +7,4 @@ pub use Rattle.sec_setup.specs.Cuts
 pub use Rattle.sec_setup.specs.ports.Pairs
 pub use Rattle.obligations.specs.declared.obligation.Difference
 pub use Rattle.obligations.specs.declared.obligation.Obligation
+pub use Rattle.obligations.specs.declared.outcome.verdict.PairResult

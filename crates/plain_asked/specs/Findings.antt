@@ -4,7 +4,7 @@ use Rattle.std.specs.List.{AllZip}
 use Rattle.circuit_theory.specs.Circuit.{Circuit}
 use Rattle.sec_base.specs.declared.basics.PairAnswer.{PairAnswer}
 use Rattle.witness_report.specs.declared.witness.Witness.{Witness}
-use Rattle.obligations.specs.declared.outcome.verdict.PairResult.{PairResult}
+use Rattle.outcome_fits.specs.PairResult.{PairResult}
 use Rattle.sec_setup.specs.ports.Pairs.{NamedPair}
 use Rattle.outcome_fits.specs.Outcome.{PairFits, IsFirstOfAnswer, VerdictOf, greatest_size}
 use Rattle.plain_asked.specs.declared.findings.Findings.{Findings}
