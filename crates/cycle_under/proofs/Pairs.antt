@@ -268,10 +268,12 @@ module _ (c : Assumption) (s : Setup) (b : Bases) (f : Functions) (setting : IsS
         result_is = first.result_at;
         answered = first.answered;
         earlier = first.earlier;
-        named = is.sequence.pair_is ∙ pair.asks.name_is;
-        cycle_is = is.sequence.cycle_is;
-        names_are = is.sequence.names_are;
-        witness = is_witness p (own.left p member) (own.right p member) pair.l pair.r q k d.bits o.name w first.differs.differs is;
+        shown = record {
+          named = is.sequence.pair_is ∙ pair.asks.name_is;
+          cycle_is = is.sequence.cycle_is;
+          names_are = is.sequence.names_are;
+          witness = is_witness p (own.left p member) (own.right p member) pair.l pair.r q k d.bits o.name w first.differs.differs is;
+        };
       }
 
   module _ (conflicts : ℕ) (d : Decided) (decided : HaveDecided f.aig conflicts asked d) where
