@@ -19,6 +19,7 @@ use Rattle.reset_form.specs.reset_unfold.Places.{starts_of}
 use Rattle.reset_form.specs.reset_functions.Pairs.{IsRefusalOf, IsTooLarge}
 use Rattle.reset_form.specs.declared.reset_functions.functions.Functions.{Functions}
 use Rattle.reset_form.specs.reset_unfold.View.{ResetView}
+use Rattle.reset_form.specs.reset_unfold.Unfolded.{FitsReset}
 use Rattle.cycle_search.specs.declared.apart.CycleFunctions.{CycleFunctions}
 use Rattle.cycle_search.specs.Apart.{AreApart, AreTwo}
 use Rattle.cycle_search.specs.Cycles.{Compared, AreFunctionsIn}
@@ -34,6 +35,10 @@ done_of side cycle pairs old new done = All-from_each (λ (x : SignalPair). Cont
 apart_as : (n m : NetView) → m ≡ n → (order numbers : List ℕ) → numbers ≡ order → (base first : ℕ) → first ≡ base → (g : List Node) (places : List (ℕ × ℕ)) (s cycle other : ℕ) (u : Unfolded) → IsApart m numbers first g places s cycle other u → IsApart n order base g places s cycle other u
 apart_as n m net order numbers order_is base first base_is g places s cycle other u is =
     subst (λ (k : ℕ). IsApart n order k g places s cycle other u) base_is (subst (λ (l : List ℕ). IsApart n l first g places s cycle other u) order_is (subst (λ (k : NetView). IsApart k numbers first g places s cycle other u) net is))
+
+-- an unfolder fits the same graph and table
+pub fits_as : (u : ResetView) (g h : List Node) (places more : List (ℕ × ℕ)) → h ≡ g → more ≡ places → FitsReset u g places → FitsReset u h more
+fits_as u g h places more aig table fits = subst (λ (k : List Node). FitsReset u k more) (sym aig) (subst (λ (m : List (ℕ × ℕ)). FitsReset u g m) (sym table) fits)
 
 -- the functions of the pairs are those of the setup's
 pub functions_of : (s : Setup) (b : Bases) (f : Functions) (cycle : ℕ) (u v : ResetView) (g : List Node) (places : List (ℕ × ℕ)) (pairs : List SignalPair) (found : CycleFunctions) (left right : List Unfolded) → AreApart u v g places cycle pairs found →

@@ -1,17 +1,19 @@
 -- A's functions stay while B is unfolded, and a refusal is that of a circuit's outputs in the cycles up to this one.
-use Rattle.std.proofs.Common.{◌≡◌, ◌∙◌, ◌<◌, List, length, Err, sym, subst, arith, rules}
+use Rattle.std.proofs.Common.{◌≡◌, ◌∙◌, ◌<◌, ℕ, List, length, Err, sym, ap, subst, arith, rules}
 use Rattle.std.specs.List.{All, AllZip, Contains}
 use Rattle.circuit_theory.specs.declared.Side.TheVariants.{A, B}
 use Rattle.circuit_theory.proofs.Lists.{All-from_each}
 use Rattle.flat_net.specs.View.{NetView}
+use Rattle.aig.specs.declared.node.Node.{Node}
 use Rattle.sec_setup.specs.declared.ports.pairs.SignalPair.{SignalPair}
 use Rattle.reset_form.proofs.reset_functions.OwnPairs.{output_within}
 use Rattle.reset_form.proofs.reset_unfold.Known.{fits_later}
+use Rattle.merged_graph.specs.Merged.{IsMerged}
 use Rattle.merged_graph.proofs.Standing.{later}
 use Rattle.cycle_search.specs.Outputs.{side_of, IsLiteralIn}
 use Rattle.cycle_search.specs.Cycles.{Compared}
 use Rattle.cycle_search.proofs.PairsIn.{own_pairs}
-use Rattle.cycle_search.proofs.Sides.{left_refused, right_refused, functions_of, done_of, done_all}
+use Rattle.cycle_search.proofs.Sides.{left_refused, right_refused, functions_of, done_of, done_all, fits_as}
 use Rattle.cycle_search.proofs.cycle.compare_cycle.Goals as goal
 
 pub unfold_side-requires-clause-signals : goal.unfold_side-requires-clause-signals
@@ -82,7 +84,8 @@ pub merge-requires-clause-merged : goal.merge-requires-clause-merged
 merge-requires-clause-merged c =
     let f = c.args.unfolded.now.functions in
     let m = c.args.unfolded.now.merged in
-    later c.unfold_side.new.aig c.unfold_side-2.new.aig m c.unfold_side-2.ensures.later.grows (later f.aig c.unfold_side.new.aig m c.unfold_side.ensures.later.grows c.requires.before.merged)
+    subst (λ (g : List Node). IsMerged g m) (sym c.functions_apart.ensures.same_aig)
+    (later c.unfold_side.new.aig c.unfold_side-2.new.aig m c.unfold_side-2.ensures.later.grows (later f.aig c.unfold_side.new.aig m c.unfold_side.ensures.later.grows c.requires.before.merged))
 
 pub returns-clause-after : goal.returns-clause-after
 returns-clause-after c =
@@ -91,6 +94,10 @@ returns-clause-after c =
     let before = c.requires.before in
     let one = c.unfold_side.ensures.later in
     let two = c.unfold_side-2.ensures.later in
+    let h = c.functions_apart.new.functions in
+    let same = c.functions_apart.ensures in
+    let nodes = ap length same.same_aig in
+    let entries = ap length same.same_places in
     record {
       left_net = one.net ∙ before.left_net;
       left_order = one.order ∙ before.left_order;
@@ -98,11 +105,13 @@ returns-clause-after c =
       right_net = two.net ∙ before.right_net;
       right_order = two.order ∙ before.right_order;
       right_base = two.base ∙ before.right_base;
-      left_fits = fits_later c.unfold_side.new.unfolder c.unfold_side.new.aig c.unfold_side-2.new.aig c.unfold_side.new.places c.unfold_side-2.new.places two.grows two.adds c.in_ok-left.ensures.fits;
-      right_fits = c.in_ok-right.ensures.fits;
+      left_fits =
+          fits_as c.unfold_side.new.unfolder c.unfold_side-2.new.aig h.aig c.unfold_side-2.new.places h.places same.same_aig same.same_places
+          (fits_later c.unfold_side.new.unfolder c.unfold_side.new.aig c.unfold_side-2.new.aig c.unfold_side.new.places c.unfold_side-2.new.places two.grows two.adds c.in_ok-left.ensures.fits);
+      right_fits = fits_as c.unfold_side-2.new.unfolder c.unfold_side-2.new.aig h.aig c.unfold_side-2.new.places h.places same.same_aig same.same_places c.in_ok-right.ensures.fits;
       left_done = done_all A c.args.cycle s.pairs c.as_slice.result.now c.as_slice.ensures u.left.done c.unfold_side.new.unfolder.done before.left_done c.in_ok-left.ensures.done;
       right_done = done_all B c.args.cycle s.pairs c.as_slice-2.result.now c.as_slice-2.ensures u.right.done c.unfold_side-2.new.unfolder.done before.right_done c.in_ok-right.ensures.done;
       merged = c.in_ok-merge.ensures;
-      nodes = omega (arith, before.nodes, one.nodes, two.nodes);
-      entries = omega (arith, before.entries, one.entries, two.entries);
+      nodes = omega (arith, before.nodes, one.nodes, two.nodes, nodes);
+      entries = omega (arith, before.entries, one.entries, two.entries, entries);
     }

@@ -1,5 +1,5 @@
 -- A's functions stay while B is unfolded and the assumption is put, and a refusal is that of a circuit's outputs in the cycles up to this one.
-use Rattle.std.proofs.Common.{◌≡◌, ◌∙◌, ◌+◌, ◌*◌, ◌<◌, List, length, Err, refl, sym, subst, arith, rules}
+use Rattle.std.proofs.Common.{◌≡◌, ◌∙◌, ◌+◌, ◌*◌, ◌<◌, List, length, Err, refl, sym, ap, subst, arith, rules}
 use Rattle.std.specs.List.{All, Contains}
 use Rattle.circuit_theory.specs.declared.Side.TheVariants.{A, B}
 use Rattle.circuit_theory.proofs.Lists.{All-from_each}
@@ -12,9 +12,9 @@ use Rattle.reset_form.proofs.reset_functions.OwnPairs.{output_within}
 use Rattle.reset_form.proofs.reset_unfold.Known.{fits_later}
 use Rattle.cycle_search.specs.Outputs.{side_of}
 use Rattle.cycle_search.proofs.PairsIn.{own_pairs}
-use Rattle.cycle_search.proofs.Sides.{left_refused, right_refused, functions_of, done_of, done_all}
+use Rattle.cycle_search.proofs.Sides.{left_refused, right_refused, functions_of, done_of, done_all, fits_as}
 use Rattle.cycle_under.specs.Cycles.{ComparedUnder}
-use Rattle.cycle_under.proofs.Cares.{care_later}
+use Rattle.cycle_under.proofs.Cares.{care_later, care_as}
 use Rattle.cycle_under.proofs.cycle.compare_cycle.Goals as goal
 
 pub unfold_side-requires-clause-signals : goal.unfold_side-requires-clause-signals
@@ -98,10 +98,20 @@ decide_cycle-requires-clause-functions c =
     c.functions_apart.ensures.same_aig c.functions_apart.ensures.same_places c.as_slice-pairs.ensures refl refl
 
 pub decide_cycle-requires-clause-cared : goal.decide_cycle-requires-clause-cared
-decide_cycle-requires-clause-cared c = let w = c.requires.premise in (assumption_of w.net w.inputs w.output, c.in_ok-care.ensures.care w.net w.inputs w.output w.size w.function w.assumption)
+decide_cycle-requires-clause-cared c =
+    let w = c.requires.premise in
+    (
+      assumption_of w.net w.inputs w.output,
+      care_as (assumption_of w.net w.inputs w.output) c.care_with.new.aig c.functions_apart.new.functions.aig c.care_with.new.places c.functions_apart.new.functions.places (c.args.cycle + 1) c.in_ok-care.care c.functions_apart.ensures.same_aig
+      c.functions_apart.ensures.same_places (c.in_ok-care.ensures.care w.net w.inputs w.output w.size w.function w.assumption),
+    )
 
 pub returns-clause-compared : goal.returns-clause-compared
-returns-clause-compared c = λ n inputs output size function assumption. c.in_ok-found.ensures (assumption_of n inputs output) (c.in_ok-care.ensures.care n inputs output size function assumption)
+returns-clause-compared c =
+    λ n inputs output size function assumption.
+    c.in_ok-found.ensures (assumption_of n inputs output)
+    (care_as (assumption_of n inputs output) c.care_with.new.aig c.functions_apart.new.functions.aig c.care_with.new.places c.functions_apart.new.functions.places (c.args.cycle + 1) c.in_ok-care.care c.functions_apart.ensures.same_aig
+    c.functions_apart.ensures.same_places (c.in_ok-care.ensures.care n inputs output size function assumption))
 
 pub returns-clause-after : goal.returns-clause-after
 returns-clause-after c =
@@ -118,6 +128,10 @@ returns-clause-after c =
     let adds = c.in_ok-care.ensures.adds in
     let w = c.args.premise.now.weight in
     let next : w * (c.args.cycle + 1) ≡ w * c.args.cycle + w = grind arith in
+    let f = c.functions_apart.new.functions in
+    let same = c.functions_apart.ensures in
+    let few = ap length same.same_aig in
+    let short = ap length same.same_places in
     record {
       left_net = one.net ∙ before.left_net;
       left_order = one.order ∙ before.left_order;
@@ -125,11 +139,13 @@ returns-clause-after c =
       right_net = two.net ∙ before.right_net;
       right_order = two.order ∙ before.right_order;
       right_base = two.base ∙ before.right_base;
-      left_fits = fits_later c.unfold_side.new.unfolder g h places more grows adds (fits_later c.unfold_side.new.unfolder c.unfold_side.new.aig g c.unfold_side.new.places places two.grows two.adds c.in_ok-left.ensures.fits);
-      right_fits = fits_later c.unfold_side-2.new.unfolder g h places more grows adds c.in_ok-right.ensures.fits;
+      left_fits =
+          fits_as c.unfold_side.new.unfolder h f.aig more f.places same.same_aig same.same_places
+          (fits_later c.unfold_side.new.unfolder g h places more grows adds (fits_later c.unfold_side.new.unfolder c.unfold_side.new.aig g c.unfold_side.new.places places two.grows two.adds c.in_ok-left.ensures.fits));
+      right_fits = fits_as c.unfold_side-2.new.unfolder h f.aig more f.places same.same_aig same.same_places (fits_later c.unfold_side-2.new.unfolder g h places more grows adds c.in_ok-right.ensures.fits);
       left_done = done_all A c.args.cycle s.pairs c.as_slice-pairs.result.now c.as_slice-pairs.ensures u.left.done c.unfold_side.new.unfolder.done before.left_done c.in_ok-left.ensures.done;
       right_done = done_all B c.args.cycle s.pairs c.as_slice-pairs.result.now c.as_slice-pairs.ensures u.right.done c.unfold_side-2.new.unfolder.done before.right_done c.in_ok-right.ensures.done;
-      care = c.in_ok-care.ensures.care;
-      nodes = omega (arith, before.nodes, one.nodes, two.nodes, c.in_ok-care.ensures.nodes, next);
-      entries = omega (arith, before.entries, one.entries, two.entries, c.in_ok-care.ensures.entries, next);
+      care = λ n inputs output size function assumption. care_as (assumption_of n inputs output) h f.aig more f.places (c.args.cycle + 1) c.in_ok-care.care same.same_aig same.same_places (c.in_ok-care.ensures.care n inputs output size function assumption);
+      nodes = omega (arith, before.nodes, one.nodes, two.nodes, c.in_ok-care.ensures.nodes, next, few);
+      entries = omega (arith, before.entries, one.entries, two.entries, c.in_ok-care.ensures.entries, next, short);
     }
