@@ -13,6 +13,7 @@ use Rattle.obligations.specs.Fits.{AnswerFits}
 use Rattle.merged_graph.specs.Merged.{IsMerged}
 use Rattle.outcome_fits.specs.ResetOutcome.{Numbered, pair_at}
 use Rattle.outcome_fits.specs.Results.{ResultFits, IsFirst, IsSequenceOf}
+use Rattle.sec_setup.specs.declared.ports.pairs.SignalPair.{SignalPair}
 use Rattle.sec_setup.specs.declared.setup.Setup.{Setup}
 use Rattle.sec_setup.specs.ports.Pairs.{NamedPair, places_of}
 use Rattle.reset_form.specs.declared.reset_functions.bases.Bases.{Bases}
@@ -25,7 +26,7 @@ use Rattle.reset_form.specs.reset_asked.Numbers.{numbered}
 use Rattle.reset_form.specs.reset_unfold.Unfolded.{FitsReset}
 use Rattle.cycle_search.specs.declared.cycle.InCycle.{InCycle}
 use Rattle.cycle_search.specs.declared.cycle.Unfolding.{Unfolding}
-use Rattle.cycle_search.specs.Outputs.{IsFunctionIn, HasDoneBefore, IsOneTooLarge}
+use Rattle.cycle_search.specs.Outputs.{IsApart, HasDoneBefore, IsOneTooLarge}
 
 -- What each answer says of a pair in the cycle, and the proof that stands beside it: each difference is one of the circuits.
 abbrev pub AnswerIn : Numbered → ℕ → ℕ → ℕ → ℕ → PairAnswer → Option Proof → Type 0
@@ -68,10 +69,12 @@ pub record IsUnfoldedBefore (s : Setup) (b : Bases) (cycle : ℕ) (u : Unfolding
   pub nodes : length u.functions.aig ≤ 1 + u.left.weight + u.right.weight
   pub entries : length u.functions.places ≤ u.left.weight + u.right.weight
 
--- the functions of both signals of each pair in the cycle
+-- The functions of both signals of each pair in the cycle. Where both have one literal, no variables need be listed.
 pub record AreFunctionsIn (s : Setup) (b : Bases) (f : Functions) (cycle : ℕ) (left right : List Unfolded) : Type 0 where
-  pub left_are : AllZip (IsFunctionIn s.left.now s.orders.left b.left f.aig f.places A cycle) s.pairs left
-  pub right_are : AllZip (IsFunctionIn s.right.now s.orders.right b.right f.aig f.places B cycle) s.pairs right
+  pub left_each : length left ≡ length s.pairs
+  pub right_each : length right ≡ length s.pairs
+  pub left_are : (i : ℕ) (x : SignalPair) (l r : Unfolded) → slice_get s.pairs i ≡ Some x → slice_get left i ≡ Some l → slice_get right i ≡ Some r → IsApart s.left.now s.orders.left b.left f.aig f.places x.left.0 cycle r.lit.0 l
+  pub right_are : (i : ℕ) (x : SignalPair) (l r : Unfolded) → slice_get s.pairs i ≡ Some x → slice_get left i ≡ Some l → slice_get right i ≡ Some r → IsApart s.right.now s.orders.right b.right f.aig f.places x.right.0 cycle l.lit.0 r
 
 -- what is found in the cycle, or the circuit whose outputs in the cycles up to this one weigh more than 2,000,000 together
 abbrev pub Compared : Setup → Bases → ℕ → ℕ → Result InCycle ResetError → Type 0

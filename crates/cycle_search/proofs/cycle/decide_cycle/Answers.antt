@@ -16,7 +16,7 @@ use Rattle.reset_form.proofs.reset_asked.PairCycles.{AreSoundFunctions}
 use Rattle.cycle_search.specs.Asked.{AreAskedIn}
 use Rattle.cycle_search.specs.Outputs.{IsFunctionIn}
 use Rattle.cycle_search.specs.Shown.{CanBeShownIn, IsShownIn}
-use Rattle.cycle_search.proofs.PairsIn.{queries_are, pairs_fit, can_be_shown, verdict_in}
+use Rattle.cycle_search.proofs.PairsIn.{left_in_order, right_in_order, queries_are, pairs_fit, can_be_shown, verdict_in}
 use Rattle.cycle_search.proofs.cycle.decide_cycle.Goals as goal
 
 pub ask-requires : goal.ask-requires
@@ -27,16 +27,12 @@ ask-requires c =
     let left = c.args.left.now in
     let right = c.args.right.now in
     let h = c.requires.functions in
-    let Left : SignalPair → Unfolded → Type 0 = IsFunctionIn s.left.now s.orders.left b.left f.aig f.places A c.args.cycle in
-    let Right : SignalPair → Unfolded → Type 0 = IsFunctionIn s.right.now s.orders.right b.right f.aig f.places B c.args.cycle in
     record {
       merged = c.requires.merged;
-      left_each = sym (zip_length Left s.pairs left h.left_are) ∙ ap length (sym c.as_slice.ensures);
-      right_each = sym (zip_length Right s.pairs right h.right_are) ∙ ap length (sym c.as_slice.ensures);
-      left = All-from_each (λ (u : Unfolded). AreInCycles f.places u.vars) left
-          (λ u k. let at = at_of left u k in let x = zip_left Left s.pairs left h.left_are at.0 u at.1 in in_order s.left.now s.orders.left b.left f.aig f.places x.0.left.0 c.args.cycle u x.2);
-      right = All-from_each (λ (u : Unfolded). AreInCycles f.places u.vars) right
-          (λ u k. let at = at_of right u k in let x = zip_left Right s.pairs right h.right_are at.0 u at.1 in in_order s.right.now s.orders.right b.right f.aig f.places x.0.right.0 c.args.cycle u x.2);
+      left_each = h.left_each ∙ ap length (sym c.as_slice.ensures);
+      right_each = h.right_each ∙ ap length (sym c.as_slice.ensures);
+      left = left_in_order s b f c.args.cycle left right h;
+      right = right_in_order s b f c.args.cycle left right h;
     }
 
 pub decide_near-requires-clause-asked : goal.decide_near-requires-clause-asked

@@ -7,7 +7,7 @@ use Rattle.reset_form.specs.reset_unfold.View.{ResetView}
 use Rattle.reset_form.specs.reset_unfold.Building.{IsLaterReset}
 use Rattle.reset_form.proofs.reset_unfold.Going.{later_none, met_later}
 use Rattle.reset_form.proofs.reset_unfold.Finish.{begun, room_first, reach_is, reach_begun, holds_from, room_from, over_begun, over_more, over_walk, later_begun, there_met, fits_from}
-use Rattle.reset_form.proofs.reset_unfold.unfolder.ResetUnfolder.root.Goals as goal
+use Rattle.reset_form.proofs.reset_unfold.unfolder.ResetUnfolder.literal_at.Goals as goal
 
 pub reach-requires-clause-signal : goal.reach-requires-clause-signal
 reach-requires-clause-signal c = subst (λ (n : NetView). c.args.start.1 < length n.drivers) (sym c.net-net.ensures) c.requires.signal
