@@ -1,6 +1,4 @@
 -- The literal alone, or the whole function.
-use Rattle.std.proofs.Common.{◌≡◌, ◌<◌, ℕ, [], sym, subst}
-use Rattle.cbf_unfold.specs.shift_variables.cycle_variables.Cycles.{AreInCycles}
 use Rattle.reset_form.proofs.reset_asked.CycleQueries.{in_order}
 use Rattle.cycle_search.proofs.apart.function_apart.Goals as goal
 

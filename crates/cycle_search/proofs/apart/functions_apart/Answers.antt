@@ -1,6 +1,5 @@
 -- Pair after pair.
-use Rattle.std.proofs.Common.{◌≡◌, ◌∙◌, ◌<◌, ℕ, List, length, take, get_or, slice_get, Some, refl, sym, ap, subst, arith}
-use Rattle.std.specs.List.{Contains}
+use Rattle.std.proofs.Common.{◌≡◌, ◌∙◌, ℕ, List, length, get_or, slice_get, Some, refl, sym, ap, subst, arith}
 use Rattle.std.proofs.lemmas.List.{take_all}
 use Rattle.std.proofs.lemmas.Option.{slice_get-get_or, same_Some}
 use Rattle.circuit_theory.specs.declared.Side.TheVariants.{A, B}
@@ -11,7 +10,7 @@ use Rattle.cbf_unfold.specs.declared.unfold_places.signal_function.Unfolded.{Unf
 use Rattle.cbf_unfold.proofs.shift_variables.Reading.{item_at}
 use Rattle.sec_setup.specs.declared.ports.pairs.SignalPair.{SignalPair}
 use Rattle.reset_form.specs.reset_unfold.View.{ResetView}
-use Rattle.cycle_search.specs.Apart.{AreApart, AreTwo}
+use Rattle.cycle_search.specs.Apart.{AreApart}
 use Rattle.cycle_search.specs.Outputs.{side_of, IsApart, IsLiteralIn}
 use Rattle.cycle_search.proofs.Parting.{literal_of, done_at, apart_more}
 use Rattle.cycle_search.proofs.apart.functions_apart.Goals as goal

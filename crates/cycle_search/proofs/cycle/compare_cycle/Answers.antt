@@ -1,5 +1,5 @@
 -- A's functions stay while B is unfolded, and a refusal is that of a circuit's outputs in the cycles up to this one.
-use Rattle.std.proofs.Common.{◌≡◌, ◌∙◌, ◌<◌, ℕ, List, length, Err, sym, ap, subst, arith, rules}
+use Rattle.std.proofs.Common.{◌≡◌, ◌∙◌, ◌<◌, List, length, Err, sym, ap, subst, arith, rules}
 use Rattle.std.specs.List.{All, AllZip, Contains}
 use Rattle.circuit_theory.specs.declared.Side.TheVariants.{A, B}
 use Rattle.circuit_theory.proofs.Lists.{All-from_each}

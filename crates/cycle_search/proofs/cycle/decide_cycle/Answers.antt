@@ -1,20 +1,13 @@
 -- The parts fit together.
 use Rattle.std.proofs.Common.{◌∙◌, List, length, sym, ap, subst}
-use Rattle.circuit_theory.proofs.Lists.{All-from_each, at_of, zip_length}
-use Rattle.circuit_theory.specs.declared.Side.TheVariants.{A, B}
-use Rattle.cbf_unfold.specs.declared.unfold_places.signal_function.Unfolded.{Unfolded}
-use Rattle.cbf_unfold.specs.shift_variables.cycle_variables.Cycles.{AreInCycles}
-use Rattle.cbf_unfold.proofs.unfold_places.Zips.{zip_left}
 use Rattle.obligations.specs.declared.outcome.verdict.PairResult.{PairResult}
 use Rattle.obligations.specs.declared.obligation.Obligation.{Obligation}
 use Rattle.obligations.specs.Asked as graph_level
 use Rattle.obligations.specs.Decided.{HaveDecided}
 use Rattle.obligations.specs.Verdict.{IsVerdictAt}
 use Rattle.sec_setup.specs.declared.ports.pairs.SignalPair.{SignalPair}
-use Rattle.reset_form.proofs.reset_asked.CycleQueries.{in_order}
 use Rattle.reset_form.proofs.reset_asked.PairCycles.{AreSoundFunctions}
 use Rattle.cycle_search.specs.Asked.{AreAskedIn}
-use Rattle.cycle_search.specs.Outputs.{IsFunctionIn}
 use Rattle.cycle_search.specs.Shown.{CanBeShownIn, IsShownIn}
 use Rattle.cycle_search.proofs.PairsIn.{left_in_order, right_in_order, queries_are, pairs_fit, can_be_shown, verdict_in}
 use Rattle.cycle_search.proofs.cycle.decide_cycle.Goals as goal
