@@ -149,16 +149,7 @@ pub(crate) fn compare_cycle(
     let right = sides.right.as_slice();
     let asked = wide_pairs(alloc, left, right)?;
     unfolded.merged.merge(alloc, &unfolded.functions.aig, asked.as_slice(), conflicts)?;
-    let found = decide_cycle(
-        alloc,
-        setup,
-        bases,
-        unfolded,
-        left,
-        right,
-        cycle,
-        conflicts,
-    )?;
+    let found = decide_cycle(alloc, setup, bases, unfolded, left, right, cycle, conflicts)?;
     Ok(found)
 }
 

@@ -14,7 +14,7 @@ pub mod search_report;
 mod setting;
 mod shown;
 
-pub use apart::{Literals, CycleFunctions, functions_apart};
+pub use apart::{CycleFunctions, Literals, functions_apart};
 pub use cycle::InCycle;
 pub use found::{SearchError, SearchVerdict, Searched};
 pub use outputs::unfold_side;

@@ -99,11 +99,10 @@ decide_cycle-requires-clause-functions c =
 
 pub decide_cycle-requires-clause-cared : goal.decide_cycle-requires-clause-cared
 decide_cycle-requires-clause-cared c =
-    let w = c.requires.premise in
-    (
+    let w = c.requires.premise in (
       assumption_of w.net w.inputs w.output,
       care_as (assumption_of w.net w.inputs w.output) c.care_with.new.aig c.functions_apart.new.functions.aig c.care_with.new.places c.functions_apart.new.functions.places (c.args.cycle + 1) c.in_ok-care.care c.functions_apart.ensures.same_aig
-      c.functions_apart.ensures.same_places (c.in_ok-care.ensures.care w.net w.inputs w.output w.size w.function w.assumption),
+          c.functions_apart.ensures.same_places (c.in_ok-care.ensures.care w.net w.inputs w.output w.size w.function w.assumption),
     )
 
 pub returns-clause-compared : goal.returns-clause-compared
