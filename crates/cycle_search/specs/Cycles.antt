@@ -1,5 +1,5 @@
 -- What is found of pairs of signals in one cycle of runs from the initial values.
-use Rattle.std.specs.Prelude.{◌≡◌, ℕ, ◌+◌, ◌≤◌, List, length, map, Option, Result, Ok, Err}
+use Rattle.std.specs.Prelude.{◌≡◌, ℕ, ◌+◌, ◌≤◌, List, length, map, Option, Some, slice_get, Result, Ok, Err}
 use Rattle.std.specs.List.{AllZip}
 use Rattle.circuit_theory.specs.declared.Side.TheVariants.{A, B}
 use Rattle.sec_base.specs.declared.basics.PairAnswer.{PairAnswer}
