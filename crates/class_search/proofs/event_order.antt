@@ -1,4 +1,5 @@
 pub mod Pairs
 pub mod LatchDepths
+pub mod SignalDepths
 pub mod Sorting
 pub mod BothLatches

@@ -6,7 +6,6 @@ use Rattle.std.proofs.lemmas.List.{length-take-le}
 use Rattle.std.proofs.lemmas.Option.{same_Some, slice_get_within}
 use Rattle.circuit_theory.proofs.Lists.{Contains-cases}
 use Rattle.flat_net.proofs.Growth.{length-push}
-use Rattle.aig.specs.declared.node.Node.{Node}
 use Rattle.cbf_unfold.specs.declared.unfold_places.signal_function.Unfolded.{Unfolded}
 use Rattle.cbf_unfold.proofs.shift_variables.Assignments.{take_next}
 use Rattle.cbf_unfold.proofs.unfold_places.Lists.{append_cases}

@@ -8,23 +8,19 @@ use Rattle.circuit_theory.proofs.Lists.{zip_weaker, of_at, at_of}
 use Rattle.base_tables.proofs.TableLemmas.{slice_get-take}
 use Rattle.flat_net.specs.View.{NetView, circuit_of}
 use Rattle.circuit_laws.specs.reset_laws.Weight.{IsResetOver}
-use Rattle.aig.specs.declared.node.Node.{Node}
-use Rattle.aig.specs.Graph.{Grows}
-use Rattle.cbf_unfold.specs.declared.unfold_places.signal_function.Unfolded.{Unfolded}
+use Rattle.aig.specs.declared.node.Lit.{Lit}
+use Rattle.aig.proofs.Lists.{adds_contains}
 use Rattle.cbf_unfold.specs.unfold_places.Reach.{Adds}
 use Rattle.cbf_unfold.proofs.shift_variables.Assignments.{take_next}
 use Rattle.sec_setup.specs.declared.ports.pairs.SignalPair.{SignalPair}
 use Rattle.reset_form.specs.reset_unfold.Places.{starts_of}
 use Rattle.reset_form.specs.reset_functions.Pairs.{IsTooLarge}
-use Rattle.reset_form.proofs.reset_unfold.Known.{unfolded_later}
-use Rattle.cycle_search.specs.Outputs.{side_of, IsFunctionIn, IsDoneOrIn, HasDoneIn}
+use Rattle.cycle_search.specs.Outputs.{side_of, IsLiteralIn, IsDoneOrIn, HasDoneIn}
 
--- functions stay those of their signals
-pub functions_later : (n : NetView) (order : List ℕ) (base : ℕ) (g h : List Node) (places more : List (ℕ × ℕ)) → Grows g h → Adds (λ p. Unit {0}) places more → (side : Side) (cycle : ℕ) (pairs : List SignalPair) (us : List Unfolded) →
-    AllZip (IsFunctionIn n order base g places side cycle) pairs us → AllZip (IsFunctionIn n order base h more side cycle) pairs us
-functions_later n order base g h places more grows adds side cycle pairs us zip =
-    zip_weaker (IsFunctionIn n order base g places side cycle) (IsFunctionIn n order base h more side cycle)
-    (λ x u is. unfolded_later n order base g h places more (side_of side x) cycle u.lit.0 u.vars grows adds is) pairs us zip
+-- literals stay those of their signals
+pub literals_later : (memo more : List ((ℕ × ℕ) × Lit)) → Adds (λ e. Unit {0}) memo more → (side : Side) (cycle : ℕ) (pairs : List SignalPair) (xs : List Lit) → AllZip (IsLiteralIn memo side cycle) pairs xs → AllZip (IsLiteralIn more side cycle) pairs xs
+literals_later memo more adds side cycle pairs xs zip =
+    zip_weaker (IsLiteralIn memo side cycle) (IsLiteralIn more side cycle) (λ x lit is. adds_contains (λ e. Unit {0}) memo more ((cycle, side_of side x), lit) adds is) pairs xs zip
 
 nothing : {X : Type 0} {x : X} → Contains [] x → ⊥
 nothing h = omega (arith, h.1)

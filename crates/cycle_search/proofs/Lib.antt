@@ -1,5 +1,6 @@
 pub mod Growing
 pub mod Asking
+pub mod Parting
 pub mod Uncut
 pub mod PairsIn
 pub mod Sides

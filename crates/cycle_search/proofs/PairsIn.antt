@@ -4,7 +4,6 @@ use Rattle.std.specs.Prelude.{◌⊎◌}
 use Rattle.std.specs.List.{All, AllZip, Contains}
 use Rattle.std.proofs.lemmas.List.Elements.{All-map}
 use Rattle.std.proofs.lemmas.Option.{slice_get_within, same_Some, get_or_from_slice_get}
-use Rattle.circuit_theory.specs.declared.Side.TheVariants.{A, B}
 use Rattle.circuit_theory.specs.Tree.{tree_value}
 use Rattle.circuit_theory.specs.Query.{Variable, bits_of, pair_query, same_shift}
 use Rattle.circuit_theory.specs.Query as query
@@ -19,6 +18,7 @@ use Rattle.circuit_laws.specs.reset_laws.Reset.{IsResetWitness}
 use Rattle.aig.specs.lane_eval.root_classes.Agreeing.{Agree}
 use Rattle.cbf_unfold.specs.declared.unfold_places.signal_function.Unfolded.{Unfolded}
 use Rattle.cbf_unfold.specs.shift_variables.Variables.{variable_of, variables_of}
+use Rattle.cbf_unfold.specs.shift_variables.cycle_variables.Cycles.{AreInCycles}
 use Rattle.pair_decide.specs.declared.query.Query.{Query}
 use Rattle.pair_decide.specs.declared.query.Proof.{Proof}
 use Rattle.pair_decide.specs.Queries.{IsQuery, IsSame}
@@ -52,7 +52,7 @@ use Rattle.reset_form.proofs.reset_asked.PairCycles.{AreSoundFunctions, AsksIn}
 use Rattle.reset_form.proofs.reset_functions.OwnPairs.{ArePairsIn}
 use Rattle.cycle_search.specs.Asked.{AskedIn, AreAskedIn, AreQueriesOf}
 use Rattle.cycle_search.specs.Cycles.{AnswerIn, ResultIn, IsDifferenceIn, VerdictIn, AreFunctionsIn}
-use Rattle.cycle_search.specs.Outputs.{IsFunctionIn}
+use Rattle.cycle_search.specs.Outputs.{IsApart}
 use Rattle.cycle_search.specs.Settings.{IsSetting}
 use Rattle.cycle_search.specs.Shown.{CanBeShownIn, IsShowableIn, IsWitnessIn, IsShownIn}
 
@@ -80,21 +80,44 @@ answer_left answer.Different d l n = absurd (d refl)
 answer_left answer.NotShown d l n = absurd (n refl)
 answer_left answer.Limit d l n = absurd (l refl)
 
+-- the variables of each function stand in order
+module _ (s : Setup) (b : Bases) (f : Functions) (cycle : ℕ) (left right : List Unfolded) (functions : AreFunctionsIn s b f cycle left right) where
+  pub left_in_order : All (λ (u : Unfolded). AreInCycles f.places u.vars) left
+  left_in_order =
+      All-from_each (λ (u : Unfolded). AreInCycles f.places u.vars) left
+      (λ u k.
+      let at = at_of left u k in
+      let w = slice_get_within left at.0 u at.1 in
+      let x = some_at s.pairs at.0 (let e = functions.left_each in omega (arith, w, e)) in
+      let r = some_at right at.0 (let e = functions.left_each in let d = functions.right_each in omega (arith, w, e, d)) in
+      (functions.left_are at.0 x.0 u r.0 x.1 at.1 r.1).in_order)
+
+  pub right_in_order : All (λ (u : Unfolded). AreInCycles f.places u.vars) right
+  right_in_order =
+      All-from_each (λ (u : Unfolded). AreInCycles f.places u.vars) right
+      (λ u k.
+      let at = at_of right u k in
+      let w = slice_get_within right at.0 u at.1 in
+      let x = some_at s.pairs at.0 (let e = functions.right_each in omega (arith, w, e)) in
+      let l = some_at left at.0 (let e = functions.left_each in let d = functions.right_each in omega (arith, w, e, d)) in
+      (functions.right_are at.0 x.0 l.0 u x.1 l.1 at.1).in_order)
+
 module _ (s : Setup) (b : Bases) (f : Functions) (setting : IsSetting s) (bases : AreBases s b) (sound : AreSoundFunctions f) (cycle : ℕ) (left right : List Unfolded) (functions : AreFunctionsIn s b f cycle left right) (asked : List Obligation)
     (are : AreAskedIn f.aig f.places cycle s.pairs left right asked) where
   -- the functions of a pair, and what is asked of it
   pub record PairIn (x : SignalPair) (o : Obligation) : Type 0 where
     pub l : Unfolded
     pub r : Unfolded
-    pub left_is : IsFunctionIn s.left.now s.orders.left b.left f.aig f.places A cycle x l
-    pub right_is : IsFunctionIn s.right.now s.orders.right b.right f.aig f.places B cycle x r
+    pub left_is : IsApart s.left.now s.orders.left b.left f.aig f.places x.left.0 cycle r.lit.0 l
+    pub right_is : IsApart s.right.now s.orders.right b.right f.aig f.places x.right.0 cycle l.lit.0 r
     pub asks : AskedIn f.aig f.places cycle x l r o
 
   pair_in : (i : ℕ) (x : SignalPair) (o : Obligation) → slice_get s.pairs i ≡ Some x → slice_get asked i ≡ Some o → PairIn x o
   pair_in i x o hx ho =
-      let l = zip_right (IsFunctionIn s.left.now s.orders.left b.left f.aig f.places A cycle) s.pairs left functions.left_are i x hx in
-      let r = zip_right (IsFunctionIn s.right.now s.orders.right b.right f.aig f.places B cycle) s.pairs right functions.right_are i x hx in
-      record { l = l.0; r = r.0; left_is = l.2; right_is = r.2; asks = are.are i x l.0 r.0 o hx l.1 r.1 ho }
+      let w = slice_get_within s.pairs i x hx in
+      let l = some_at left i (let e = functions.left_each in omega (arith, w, e)) in
+      let r = some_at right i (let e = functions.right_each in omega (arith, w, e)) in
+      record { l = l.0; r = r.0; left_is = functions.left_are i x l.0 r.0 hx l.1 r.1; right_is = functions.right_are i x l.0 r.0 hx l.1 r.1; asks = are.are i x l.0 r.0 o hx l.1 r.1 ho }
 
   -- the pair of an obligation
   pair_of : (i : ℕ) (o : Obligation) → slice_get asked i ≡ Some o → (x : SignalPair) × (slice_get s.pairs i ≡ Some x)
@@ -111,27 +134,27 @@ module _ (s : Setup) (b : Bases) (f : Functions) (setting : IsSetting s) (bases 
 
         go : AreQueriesOf f.aig f.places k.l k.r o.queries → AsksIn s b f x cycle k.l k.r q
         go (inl none) = absurd (let w = slice_get_within [] place q (ap (λ (qs : List Query). slice_get qs place) (sym none.1) ∙ at) in omega (arith, w))
-        go (inr (p, is, asks)) =
+        go (inr (apart, p, is, asks)) =
             let same : p ≡ q = one p place (ap (λ (qs : List Query). slice_get qs place) (sym is) ∙ at) in
-            record { graph = sound.graph; distinct = sound.distinct; values = sound.values; left_is = k.left_is; right_is = k.right_is; asks = subst (IsCycleQuery f.places k.l k.r) same asks }
+            record { graph = sound.graph; distinct = sound.distinct; values = sound.values; left_is = k.left_is.function apart; right_is = k.right_is.function (λ e. apart (sym e)); asks = subst (IsCycleQuery f.places k.l k.r) same asks }
 
     own_queries : All (IsQuery f.aig) o.queries
     own_queries = All-from_each (IsQuery f.aig) o.queries (λ q h. let at = at_of o.queries q h in is_query (asks_at at.0 q at.1))
 
     -- what agrees in the graph agrees
-    same_by_value : Agree f.aig k.l.lit.0 k.r.lit.0 → (bits : ℕ → ℕ → Bool) → tree_value bits k.left_is.tree ≡ tree_value bits k.right_is.tree
+    same_by_value : Agree f.aig k.l.lit.0 k.r.lit.0 → (bits : ℕ → ℕ → Bool) → tree_value bits k.left_is.known.tree ≡ tree_value bits k.right_is.known.tree
     same_by_value e bits =
         let y : ℕ → Bool = λ v. bits (get_or f.places v (0, 0)).0 (get_or f.places v (0, 0)).1 in
         let takes : (v : ℕ) (p : ℕ × ℕ) → slice_get f.places v ≡ Some p → y v ≡ bits p.0 p.1 = λ v p at. ap (λ (z : ℕ × ℕ). bits z.0 z.1) (get_or_from_slice_get f.places v p (0, 0) at) in
-        sym (sound.values f.places bits y k.left_is.tree k.l.lit.0 takes k.left_is.builds) ∙ (e y ∙ sound.values f.places bits y k.right_is.tree k.r.lit.0 takes k.right_is.builds)
+        sym (sound.values f.places bits y k.left_is.known.tree k.l.lit.0 takes k.left_is.known.builds) ∙ (e y ∙ sound.values f.places bits y k.right_is.known.tree k.r.lit.0 takes k.right_is.known.builds)
 
     -- both functions agree where the queries are same
     agree : All (IsSame f.aig) o.queries → AgreeAt (numbered s b) x.left.0 x.right.0 cycle
     agree same = go k.asks.queries_are
       where
         go : AreQueriesOf f.aig f.places k.l k.r o.queries → AgreeAt (numbered s b) x.left.0 x.right.0 cycle
-        go (inl none) = record { left_tree = k.left_is.tree; right_tree = k.right_is.tree; left_unfolds = k.left_is.unfolds; right_unfolds = k.right_is.unfolds; same = λ bits care. same_by_value none.0 bits }
-        go (inr (p, is, asks)) =
+        go (inl none) = record { left_tree = k.left_is.known.tree; right_tree = k.right_is.known.tree; left_unfolds = k.left_is.known.unfolds; right_unfolds = k.right_is.known.unfolds; same = λ bits care. same_by_value none.0 bits }
+        go (inr (apart, p, is, asks)) =
             let here : slice_get o.queries 0 ≡ Some p = ap (λ (qs : List Query). slice_get qs 0) is in
             equal (asks_pair (asks_at 0 p here)) (All-at (IsSame f.aig) o.queries 0 p here same)
 
@@ -287,10 +310,12 @@ module _ (s : Setup) (b : Bases) (f : Functions) (setting : IsSetting s) (bases 
         result_is = first.result_at;
         answered = first.answered;
         earlier = first.earlier;
-        named = is.sequence.pair_is ∙ pair.asks.name_is;
-        cycle_is = is.sequence.cycle_is;
-        names_are = is.sequence.names_are;
-        witness = is_witness p (own.left p member) (own.right p member) pair.l pair.r q k d.bits o.name w first.differs.differs is;
+        shown = record {
+          named = is.sequence.pair_is ∙ pair.asks.name_is;
+          cycle_is = is.sequence.cycle_is;
+          names_are = is.sequence.names_are;
+          witness = is_witness p (own.left p member) (own.right p member) pair.l pair.r q k d.bits o.name w first.differs.differs is;
+        };
       }
 
   module _ (conflicts : ℕ) (d : Decided) (decided : HaveDecided f.aig conflicts asked d) where

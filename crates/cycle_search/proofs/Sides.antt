@@ -1,7 +1,8 @@
 -- The pairs' signals of one circuit in cycles: what is unfolded, and a refusal because of it.
-use Rattle.std.proofs.Common.{◌≡◌, ℕ, ◌+◌, ◌<◌, List, [], Err, sym, subst, arith, inl, inr}
+use Rattle.std.proofs.Common.{◌≡◌, ◌∙◌, ℕ, ◌+◌, ◌<◌, List, [], length, slice_get, Some, Err, refl, sym, ap, subst, arith, inl, inr}
 use Rattle.std.specs.Prelude.{◌⊎◌}
-use Rattle.std.specs.List.{AllZip, Contains}
+use Rattle.std.specs.List.{All, Contains}
+use Rattle.circuit_theory.proofs.Lists.{All-from_each}
 use Rattle.circuit_theory.specs.declared.Side.{Side}
 use Rattle.circuit_theory.specs.declared.Side.TheVariants.{A, B}
 use Rattle.circuit_laws.specs.reset_laws.Weight.{IsResetOver}
@@ -16,19 +17,45 @@ use Rattle.reset_form.specs.declared.reset_functions.error.ResetError.{ResetErro
 use Rattle.reset_form.specs.declared.reset_functions.error.ResetError.TheVariants as refused
 use Rattle.reset_form.specs.reset_unfold.Places.{starts_of}
 use Rattle.reset_form.specs.reset_functions.Pairs.{IsRefusalOf, IsTooLarge}
-use Rattle.cycle_search.specs.Cycles.{Compared}
-use Rattle.cycle_search.specs.Outputs.{side_of, IsFunctionIn, IsSideOf, IsDoneOrIn, HasDoneIn, HasDoneBefore, IsOutputUpTo, IsOneTooLarge}
+use Rattle.reset_form.specs.declared.reset_functions.functions.Functions.{Functions}
+use Rattle.reset_form.specs.reset_unfold.View.{ResetView}
+use Rattle.reset_form.specs.reset_unfold.Unfolded.{FitsReset}
+use Rattle.cycle_search.specs.declared.apart.CycleFunctions.{CycleFunctions}
+use Rattle.cycle_search.specs.Apart.{AreApart, AreTwo}
+use Rattle.cycle_search.specs.Cycles.{Compared, AreFunctionsIn}
+use Rattle.cycle_search.specs.Outputs.{side_of, IsApart, IsSideOf, IsDoneOrIn, HasDoneIn, HasDoneBefore, IsOutputUpTo, IsOneTooLarge}
 use Rattle.cycle_search.specs.Settings.{IsSetting}
 use Rattle.cycle_search.proofs.PairsIn.{own_pairs}
 
--- the same functions, of the setup's own net, numbers and pairs
-pub functions_as : (n m : NetView) → m ≡ n → (order numbers : List ℕ) → numbers ≡ order → (base first : ℕ) → first ≡ base → (g : List Node) (places : List (ℕ × ℕ)) (side : Side) (cycle : ℕ) (items pairs : List SignalPair) → items ≡ pairs →
-    (us vs : List Unfolded) → vs ≡ us → AllZip (IsFunctionIn m numbers first g places side cycle) items us → AllZip (IsFunctionIn n order base g places side cycle) pairs vs
-functions_as n m net order numbers order_is base first base_is g places side cycle items pairs same us vs slice are =
-    subst (AllZip (IsFunctionIn n order base g places side cycle) pairs) (sym slice)
-    (subst (λ (ps : List SignalPair). AllZip (IsFunctionIn n order base g places side cycle) ps us) same
-    (subst (λ (k : ℕ). AllZip (IsFunctionIn n order k g places side cycle) items us) base_is
-    (subst (λ (l : List ℕ). AllZip (IsFunctionIn n l first g places side cycle) items us) order_is (subst (λ (k : NetView). AllZip (IsFunctionIn k numbers first g places side cycle) items us) net are))))
+-- each pair's signal is unfolded
+pub done_of : (side : Side) (cycle : ℕ) (pairs : List SignalPair) (old new : List (ℕ × ℕ)) → HasDoneIn side pairs cycle old new → All (λ (x : SignalPair). Contains new (cycle, side_of side x)) pairs
+done_of side cycle pairs old new done = All-from_each (λ (x : SignalPair). Contains new (cycle, side_of side x)) pairs (λ x there. (done (cycle, side_of side x)).1 (inr (refl, (x, there, refl))))
+
+-- functions of a net are those of the same net with the same numbers
+apart_as : (n m : NetView) → m ≡ n → (order numbers : List ℕ) → numbers ≡ order → (base first : ℕ) → first ≡ base → (g : List Node) (places : List (ℕ × ℕ)) (s cycle other : ℕ) (u : Unfolded) → IsApart m numbers first g places s cycle other u → IsApart n order base g places s cycle other u
+apart_as n m net order numbers order_is base first base_is g places s cycle other u is =
+    subst (λ (k : ℕ). IsApart n order k g places s cycle other u) base_is (subst (λ (l : List ℕ). IsApart n l first g places s cycle other u) order_is (subst (λ (k : NetView). IsApart k numbers first g places s cycle other u) net is))
+
+-- an unfolder fits the same graph and table
+pub fits_as : (u : ResetView) (g h : List Node) (places more : List (ℕ × ℕ)) → h ≡ g → more ≡ places → FitsReset u g places → FitsReset u h more
+fits_as u g h places more aig table fits = subst (λ (k : List Node). FitsReset u k more) (sym aig) (subst (λ (m : List (ℕ × ℕ)). FitsReset u g m) (sym table) fits)
+
+-- the functions of the pairs are those of the setup's
+pub functions_of : (s : Setup) (b : Bases) (f : Functions) (cycle : ℕ) (u v : ResetView) (g : List Node) (places : List (ℕ × ℕ)) (pairs : List SignalPair) (found : CycleFunctions) (left right : List Unfolded) → AreApart u v g places cycle pairs found →
+    u.net ≡ s.left.now → u.order ≡ s.orders.left → u.base ≡ b.left → v.net ≡ s.right.now → v.order ≡ s.orders.right → v.base ≡ b.right → f.aig ≡ g → f.places ≡ places → pairs ≡ s.pairs → left ≡ found.left.items → right ≡ found.right.items →
+    AreFunctionsIn s b f cycle left right
+functions_of s b f cycle u v g places pairs found left right is left_net left_order left_base right_net right_order right_base aig table own left_same right_same = record {
+  left_each = ap length left_same ∙ (is.left_each ∙ ap length own);
+  right_each = ap length right_same ∙ (is.right_each ∙ ap length own);
+  left_are = λ i x l r hx hl hr. apart_as s.left.now u.net left_net s.orders.left u.order left_order b.left u.base left_base f.aig f.places x.left.0 cycle r.lit.0 l (moved u x.left.0 r.lit.0 l (two i x l r hx hl hr).left);
+  right_are = λ i x l r hx hl hr. apart_as s.right.now v.net right_net s.orders.right v.order right_order b.right v.base right_base f.aig f.places x.right.0 cycle l.lit.0 r (moved v x.right.0 l.lit.0 r (two i x l r hx hl hr).right);
+}
+  where
+    two : (i : ℕ) (x : SignalPair) (l r : Unfolded) → slice_get s.pairs i ≡ Some x → slice_get left i ≡ Some l → slice_get right i ≡ Some r → AreTwo u v g places cycle x l r
+    two i x l r hx hl hr = is.are i x l r (ap (λ (ps : List SignalPair). slice_get ps i) own ∙ hx) (ap (λ (us : List Unfolded). slice_get us i) (sym left_same) ∙ hl) (ap (λ (us : List Unfolded). slice_get us i) (sym right_same) ∙ hr)
+
+    moved : (w : ResetView) (t other : ℕ) (y : Unfolded) → IsApart w.net w.order w.base g places t cycle other y → IsApart w.net w.order w.base f.aig f.places t cycle other y
+    moved w t other y a = subst (λ (h : List Node). IsApart w.net w.order w.base h f.places t cycle other y) (sym aig) (subst (λ (m : List (ℕ × ℕ)). IsApart w.net w.order w.base g m t cycle other y) (sym table) a)
 
 -- all cycles up to this one
 pub done_all : (side : Side) (cycle : ℕ) (pairs items : List SignalPair) → items ≡ pairs → (old new : List (ℕ × ℕ)) → HasDoneBefore side pairs cycle old → HasDoneIn side items cycle old new → HasDoneBefore side pairs (cycle + 1) new

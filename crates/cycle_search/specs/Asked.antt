@@ -1,5 +1,5 @@
 -- What is asked of pairs of signals in one cycle.
-use Rattle.std.specs.Prelude.{◌≡◌, ◌⊎◌, ℕ, true, List, [], ◌∷◌, length, slice_get, Some}
+use Rattle.std.specs.Prelude.{◌≡◌, ◌≢◌, ◌⊎◌, ℕ, true, List, [], ◌∷◌, length, slice_get, Some}
 use Rattle.aig.specs.declared.node.Node.{Node}
 use Rattle.aig.specs.lane_eval.root_classes.Agreeing.{Agree}
 use Rattle.cbf_unfold.specs.declared.unfold_places.signal_function.Unfolded.{Unfolded}
@@ -10,7 +10,7 @@ use Rattle.reset_form.specs.reset_asked.Asked.{IsCycleQuery}
 
 -- whether two functions agree always, as a query, or nothing where they do
 abbrev pub AreQueriesOf : List Node → List (ℕ × ℕ) → Unfolded → Unfolded → List Query → Type 0
-AreQueriesOf g places left right queries = (Agree g left.lit.0 right.lit.0 × (queries ≡ [])) ⊎ ((q : Query) × (queries ≡ q ∷ []) × IsCycleQuery places left right q)
+AreQueriesOf g places left right queries = (Agree g left.lit.0 right.lit.0 × (queries ≡ [])) ⊎ ((left.lit.0 ≢ right.lit.0) × (q : Query) × (queries ≡ q ∷ []) × IsCycleQuery places left right q)
 
 -- What is asked of a pair: its name, the cycle, and the query of both functions. A difference shows always that the circuits differ.
 pub record AskedIn (g : List Node) (places : List (ℕ × ℕ)) (cycle : ℕ) (x : SignalPair) (left right : Unfolded) (o : Obligation) : Type 0 where

@@ -1,6 +1,6 @@
 -- What is found of pairs of signals in one cycle of runs from the initial values.
-use Rattle.std.specs.Prelude.{◌≡◌, ◌≢◌, ℕ, ◌+◌, ◌<◌, ◌≤◌, List, length, map, Option, Some, slice_get, Result, Ok, Err}
-use Rattle.std.specs.List.{All, AllZip}
+use Rattle.std.specs.Prelude.{◌≡◌, ℕ, ◌+◌, ◌≤◌, List, length, map, Option, Some, slice_get, Result, Ok, Err}
+use Rattle.std.specs.List.{AllZip}
 use Rattle.circuit_theory.specs.declared.Side.TheVariants.{A, B}
 use Rattle.sec_base.specs.declared.basics.PairAnswer.{PairAnswer}
 use Rattle.sec_base.specs.declared.basics.PairAnswer.TheVariants as answer
@@ -11,7 +11,9 @@ use Rattle.obligations.specs.declared.outcome.verdict.PairResult.{PairResult}
 use Rattle.obligations.specs.declared.outcome.verdict.ResetWitness.{ResetWitness}
 use Rattle.obligations.specs.Fits.{AnswerFits}
 use Rattle.merged_graph.specs.Merged.{IsMerged}
-use Rattle.outcome_fits.specs.ResetOutcome.{Numbered, IsFirstLimit, pair_at}
+use Rattle.outcome_fits.specs.ResetOutcome.{Numbered, pair_at}
+use Rattle.outcome_fits.specs.Results.{ResultFits, IsFirst, IsSequenceOf}
+use Rattle.sec_setup.specs.declared.ports.pairs.SignalPair.{SignalPair}
 use Rattle.sec_setup.specs.declared.setup.Setup.{Setup}
 use Rattle.sec_setup.specs.ports.Pairs.{NamedPair, places_of}
 use Rattle.reset_form.specs.declared.reset_functions.bases.Bases.{Bases}
@@ -19,43 +21,31 @@ use Rattle.reset_form.specs.declared.reset_functions.functions.Functions.{Functi
 use Rattle.reset_form.specs.declared.reset_functions.error.ResetError.{ResetError}
 use Rattle.reset_form.specs.declared.reset_functions.error.ResetError.TheVariants as refused
 use Rattle.reset_form.specs.declared.reset_asked.findings.ResetVerdict.{ResetVerdict}
-use Rattle.reset_form.specs.declared.reset_asked.findings.ResetVerdict.TheVariants as verdict
+use Rattle.reset_form.specs.Findings.{VerdictOf}
 use Rattle.reset_form.specs.reset_asked.Numbers.{numbered}
 use Rattle.reset_form.specs.reset_unfold.Unfolded.{FitsReset}
 use Rattle.cycle_search.specs.declared.cycle.InCycle.{InCycle}
 use Rattle.cycle_search.specs.declared.cycle.Unfolding.{Unfolding}
-use Rattle.cycle_search.specs.Outputs.{IsFunctionIn, HasDoneBefore, IsOneTooLarge}
+use Rattle.cycle_search.specs.Outputs.{IsApart, HasDoneBefore, IsOneTooLarge}
 
 -- What each answer says of a pair in the cycle, and the proof that stands beside it: each difference is one of the circuits.
 abbrev pub AnswerIn : Numbered → ℕ → ℕ → ℕ → ℕ → PairAnswer → Option Proof → Type 0
 AnswerIn n conflicts p q t result proof = AnswerFits (pair_at n p q t) (Unit {0}) conflicts result proof
 
 -- the result of a pair: its name, the cycle, and the answer
-pub record ResultIn (n : Numbered) (conflicts t : ℕ) (x : NamedPair ℕ ℕ) (result : PairResult) : Type 0 where
-  pub name_is : result.name ≡ x.name
-  pub size_is : result.size ≡ t
-  pub answer_is : AnswerIn n conflicts x.left x.right t result.answer result.proof
+abbrev pub ResultIn : Numbered → ℕ → ℕ → NamedPair ℕ ℕ → PairResult → Type 0
+ResultIn n conflicts t x result = ResultFits x.name (λ size. size ≡ t) (λ size. AnswerIn n conflicts x.left x.right t) result
 
 -- The first pair that is different in the cycle, and a sequence with two power-ups that make it differ there: by an assignment of the
 -- variables of both functions, up to 16 variables the least one.
-pub record IsDifferenceIn (n : Numbered) (t : ℕ) (pairs : List (NamedPair ℕ ℕ)) (results : List PairResult) (w : ResetWitness) : Type 0 where
-  pub index : ℕ
-  pub place : NamedPair ℕ ℕ
-  pub result : PairResult
-  pub place_is : slice_get pairs index ≡ Some place
-  pub result_is : slice_get results index ≡ Some result
-  pub answered : result.answer ≡ answer.Different
-  pub earlier : (i : ℕ) (r : PairResult) → i < index → slice_get results i ≡ Some r → r.answer ≢ answer.Different
-  pub named : w.witness.pair ≡ place.name
-  pub cycle_is : w.witness.cycle ≡ t
-  pub names_are : w.witness.stimulus.names ≡ n.columns
-  pub witness : IsResetWitness n.a n.b n.left n.right n.left_base n.right_base place.left place.right (length n.columns) w.witness.stimulus.rows w.left_power w.right_power t w.witness.left w.witness.right
+abbrev pub IsDifferenceIn : Numbered → ℕ → List (NamedPair ℕ ℕ) → List PairResult → ResetWitness → Type 0
+IsDifferenceIn n t pairs results w =
+    IsFirst answer.Different (λ x r. IsSequenceOf x.name n.columns (λ cycle. cycle ≡ t)
+    (λ rows cycle left right. IsResetWitness n.a n.b n.left n.right n.left_base n.right_base x.left x.right (length n.columns) rows w.left_power w.right_power t left right) w.witness) pairs results
 
--- the first of different and limit that some pair has, and equal where every pair is equal
+-- the verdict of pairs in the cycle
 abbrev pub VerdictIn : Numbered → ℕ → List (NamedPair ℕ ℕ) → List PairResult → ResetVerdict → Type 0
-VerdictIn n t pairs results verdict.Equal = All (λ (r : PairResult). r.answer ≡ answer.Equal) results
-VerdictIn n t pairs results (verdict.Different w) = IsDifferenceIn n t pairs results w
-VerdictIn n t pairs results (verdict.Limit name) = IsFirstLimit results name
+VerdictIn n t pairs results v = VerdictOf (IsDifferenceIn n t pairs results) results v
 
 -- one result for each pair in order, and the verdict
 pub record IsFoundIn (n : Numbered) (conflicts t : ℕ) (pairs : List (NamedPair ℕ ℕ)) (f : InCycle) : Type 0 where
@@ -79,10 +69,12 @@ pub record IsUnfoldedBefore (s : Setup) (b : Bases) (cycle : ℕ) (u : Unfolding
   pub nodes : length u.functions.aig ≤ 1 + u.left.weight + u.right.weight
   pub entries : length u.functions.places ≤ u.left.weight + u.right.weight
 
--- the functions of both signals of each pair in the cycle
+-- The functions of both signals of each pair in the cycle. Where both have one literal, no variables need be listed.
 pub record AreFunctionsIn (s : Setup) (b : Bases) (f : Functions) (cycle : ℕ) (left right : List Unfolded) : Type 0 where
-  pub left_are : AllZip (IsFunctionIn s.left.now s.orders.left b.left f.aig f.places A cycle) s.pairs left
-  pub right_are : AllZip (IsFunctionIn s.right.now s.orders.right b.right f.aig f.places B cycle) s.pairs right
+  pub left_each : length left ≡ length s.pairs
+  pub right_each : length right ≡ length s.pairs
+  pub left_are : (i : ℕ) (x : SignalPair) (l r : Unfolded) → slice_get s.pairs i ≡ Some x → slice_get left i ≡ Some l → slice_get right i ≡ Some r → IsApart s.left.now s.orders.left b.left f.aig f.places x.left.0 cycle r.lit.0 l
+  pub right_are : (i : ℕ) (x : SignalPair) (l r : Unfolded) → slice_get s.pairs i ≡ Some x → slice_get left i ≡ Some l → slice_get right i ≡ Some r → IsApart s.right.now s.orders.right b.right f.aig f.places x.right.0 cycle l.lit.0 r
 
 -- what is found in the cycle, or the circuit whose outputs in the cycles up to this one weigh more than 2,000,000 together
 abbrev pub Compared : Setup → Bases → ℕ → ℕ → Result InCycle ResetError → Type 0

@@ -1,5 +1,6 @@
 pub mod Settings
 pub mod Outputs
+pub mod Apart
 pub mod Asked
 pub mod Shown
 pub mod Cycles

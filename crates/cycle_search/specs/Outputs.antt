@@ -1,14 +1,16 @@
 -- The outputs of one circuit in cycles.
-use Rattle.std.specs.Prelude.{◌≡◌, ◌⊎◌, ◌↔◌, ℕ, ◌<◌, ◌≤◌, List, Contains}
+use Rattle.std.specs.Prelude.{◌≡◌, ◌≢◌, ◌⊎◌, ◌↔◌, ℕ, ◌<◌, ◌≤◌, List, Contains}
 use Rattle.circuit_theory.specs.declared.Side.{Side}
 use Rattle.circuit_theory.specs.declared.Side.TheVariants.{A, B}
 use Rattle.flat_net.specs.View.{NetView}
+use Rattle.aig.specs.declared.node.Lit.{Lit}
 use Rattle.aig.specs.declared.node.Node.{Node}
 use Rattle.cbf_unfold.specs.declared.unfold_places.signal_function.Unfolded.{Unfolded}
+use Rattle.cbf_unfold.specs.shift_variables.cycle_variables.Cycles.{AreInCycles}
 use Rattle.sec_setup.specs.declared.ports.pairs.SignalPair.{SignalPair}
 use Rattle.sec_setup.specs.ports.Pairs.{outputs_of}
 use Rattle.reset_form.specs.reset_functions.Pairs.{IsTooLarge}
-use Rattle.reset_form.specs.reset_unfold.Unfolded.{IsResetUnfolded}
+use Rattle.reset_form.specs.reset_unfold.Unfolded.{IsResetUnfolded, IsKnown}
 
 -- the pair's signal in this circuit
 abbrev pub side_of : Side → SignalPair → ℕ
@@ -18,6 +20,16 @@ side_of B x = x.right.0
 -- the function of the pair's signal in the cycle
 abbrev pub IsFunctionIn : NetView → List ℕ → ℕ → List Node → List (ℕ × ℕ) → Side → ℕ → SignalPair → Unfolded → Type 0
 IsFunctionIn n order base g places side cycle x u = IsResetUnfolded n order base g places (side_of side x) cycle u.lit.0 u.vars
+
+-- the unfolder keeps the literal of the pair's signal in the cycle
+abbrev pub IsLiteralIn : List ((ℕ × ℕ) × Lit) → Side → ℕ → SignalPair → Lit → Type 0
+IsLiteralIn memo side cycle x lit = Contains memo ((cycle, side_of side x), lit)
+
+-- The function of a signal in a cycle. Where the other signal has the same literal, it needn't have all variables.
+pub record IsApart (n : NetView) (order : List ℕ) (base : ℕ) (g : List Node) (places : List (ℕ × ℕ)) (s cycle other : ℕ) (u : Unfolded) : Type 0 where
+  pub known : IsKnown n order base g places (cycle, s) u.lit.0
+  pub in_order : AreInCycles places u.vars
+  pub function : u.lit.0 ≢ other → IsResetUnfolded n order base g places s cycle u.lit.0 u.vars
 
 -- a signal of one of the pairs
 abbrev pub IsSideOf : Side → List SignalPair → ℕ → Type 0

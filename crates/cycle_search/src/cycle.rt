@@ -8,6 +8,7 @@ ghost use Rattle.reset_form.specs.reset_functions.Bases.{AreBases};
 ghost use Rattle.cycle_search.specs.Settings.{IsSetting};
 ghost use Rattle.cycle_search.specs.Cycles.{IsUnfoldedBefore, Compared, AreFunctionsIn, IsFoundIn};
 
+use crate::apart::{Literals, functions_apart};
 use crate::asked::ask;
 use crate::merging::wide_pairs;
 use crate::outputs::unfold_side;
@@ -134,18 +135,21 @@ pub(crate) fn compare_cycle(
         &mut unfolded.functions.aig,
         &mut unfolded.functions.places,
     )?;
-    let asked = wide_pairs(alloc, left.as_slice(), right.as_slice())?;
-    unfolded.merged.merge(alloc, &unfolded.functions.aig, asked.as_slice(), conflicts)?;
-    let found = decide_cycle(
+    let literals = Literals { left, right };
+    let sides = functions_apart(
         alloc,
-        setup,
-        bases,
-        unfolded,
-        left.as_slice(),
-        right.as_slice(),
+        &unfolded.left,
+        &unfolded.right,
+        &mut unfolded.functions,
+        setup.pairs.as_slice(),
+        &literals,
         cycle,
-        conflicts,
     )?;
+    let left = sides.left.as_slice();
+    let right = sides.right.as_slice();
+    let asked = wide_pairs(alloc, left, right)?;
+    unfolded.merged.merge(alloc, &unfolded.functions.aig, asked.as_slice(), conflicts)?;
+    let found = decide_cycle(alloc, setup, bases, unfolded, left, right, cycle, conflicts)?;
     Ok(found)
 }
 

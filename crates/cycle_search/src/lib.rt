@@ -2,6 +2,7 @@
 //! not.
 #![tactic(auto)]
 
+mod apart;
 mod asked;
 mod cycle;
 mod depths;
@@ -13,6 +14,7 @@ pub mod search_report;
 mod setting;
 mod shown;
 
+pub use apart::{CycleFunctions, Literals, functions_apart};
 pub use cycle::InCycle;
 pub use found::{SearchError, SearchVerdict, Searched};
 pub use outputs::unfold_side;

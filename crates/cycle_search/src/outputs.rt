@@ -6,12 +6,11 @@ ghost use Rattle.cbf_unfold.specs.declared.unfold_places.error.UnfoldError.TheVa
 ghost use Rattle.reset_form.specs.reset_unfold.Unfolded.{FitsReset};
 ghost use Rattle.reset_form.specs.reset_unfold.Building.{IsLaterReset};
 ghost use Rattle.reset_form.specs.reset_functions.Pairs.{IsRefusalOf, IsTooLarge};
-ghost use Rattle.cycle_search.specs.Outputs.{side_of, IsFunctionIn, HasDoneIn, IsDoneOrIn};
+ghost use Rattle.cycle_search.specs.Outputs.{side_of, IsLiteralIn, HasDoneIn, IsDoneOrIn};
 
-use aig::Aig;
+use aig::{Aig, Lit};
 use base_tables::PlaceTable;
-use cbf_unfold::unfold_places::{UnfoldError, Unfolded};
-use flat_net::Signal;
+use cbf_unfold::unfold_places::UnfoldError;
 use reset_form::ResetError;
 use reset_form::reset_unfold::ResetUnfolder;
 use sec_base::Side;
@@ -19,16 +18,16 @@ use sec_setup::SignalPair;
 use std::alloc::Global;
 
 /// The signal of the pair in this circuit.
-fn side_of(side: Side, pair: &SignalPair) -> Signal
-    ensures { result.0 ≡ side_of side pair.now }
+pub(crate) fn side_of(side: Side, pair: &SignalPair) -> u32
+    ensures { result ≡ side_of side pair.now }
 {
     match side {
-        Side::A => pair.left,
-        Side::B => pair.right,
+        Side::A => pair.left.0,
+        Side::B => pair.right.0,
     }
 }
 
-/// The signals of the pairs in one circuit, as functions in a cycle, in order. `TooLarge` comes exactly where all that was unfolded before
+/// The literals of the signals of the pairs in one circuit, in a cycle, in order. `TooLarge` comes exactly where all that was unfolded before
 /// weighs more than 2,000,000 together with these.
 pub fn unfold_side(
     alloc: Global,
@@ -38,19 +37,19 @@ pub fn unfold_side(
     unfolder: &mut ResetUnfolder<'_>,
     aig: &mut Aig,
     places: &mut PlaceTable,
-) -> Result<Vec<Unfolded>, ResetError>
+) -> Result<Vec<Lit>, ResetError>
     requires signals { All (λ x. side_of side x < length unfolder.old.net.drivers) pairs.now }
     requires fits { FitsReset unfolder.old aig.old places.old }
     requires nodes { length aig.old ≤ 2 ^ 28 + unfolder.old.weight }
     requires entries { length places.old ≤ 2 ^ 28 + unfolder.old.weight }
-    ensures unfolded { IfOk result (λ us. AllZip (IsFunctionIn unfolder.old.net unfolder.old.order unfolder.old.base aig.new places.new side cycle) pairs.now us.items) }
+    ensures literals { IfOk result (λ xs. AllZip (IsLiteralIn unfolder.new.memo side cycle) pairs.now xs.items) }
     ensures fits { OnOk result (FitsReset unfolder.new aig.new places.new) }
     ensures done { OnOk result (HasDoneIn side pairs.now cycle unfolder.old.done unfolder.new.done) }
     ensures refused { IfErr result (IsRefusalOf side unfolder.old.net (IsDoneOrIn side pairs.now cycle unfolder.old.done)) }
     ensures later { IsLaterReset unfolder.old unfolder.new aig.old aig.new places.old places.new }
 {
     match unfold_signals(alloc, side, pairs, cycle, unfolder, aig, places) {
-        Ok(unfolded) => Ok(unfolded),
+        Ok(literals) => Ok(literals),
         Err(UnfoldError::TooLarge) => Err(ResetError::TooLarge(side)),
         Err(UnfoldError::NoMemory) => Err(ResetError::NoMemory),
     }
@@ -65,12 +64,12 @@ fn unfold_signals(
     unfolder: &mut ResetUnfolder<'_>,
     aig: &mut Aig,
     places: &mut PlaceTable,
-) -> Result<Vec<Unfolded>, UnfoldError>
+) -> Result<Vec<Lit>, UnfoldError>
     requires signals { All (λ x. side_of side x < length unfolder.old.net.drivers) pairs.now }
     requires fits { FitsReset unfolder.old aig.old places.old }
     requires nodes { length aig.old ≤ 2 ^ 28 + unfolder.old.weight }
     requires entries { length places.old ≤ 2 ^ 28 + unfolder.old.weight }
-    ensures unfolded { IfOk result (λ us. AllZip (IsFunctionIn unfolder.old.net unfolder.old.order unfolder.old.base aig.new places.new side cycle) pairs.now us.items) }
+    ensures literals { IfOk result (λ xs. AllZip (IsLiteralIn unfolder.new.memo side cycle) pairs.now xs.items) }
     ensures fits { OnOk result (FitsReset unfolder.new aig.new places.new) }
     ensures done { OnOk result (HasDoneIn side pairs.now cycle unfolder.old.done unfolder.new.done) }
     ensures over { result ≡ Err unfold_error.TooLarge → IsTooLarge unfolder.old.net (IsDoneOrIn side pairs.now cycle unfolder.old.done) }
@@ -78,7 +77,7 @@ fn unfold_signals(
 {
     let mut all = Vec::new(alloc);
     for pair in pairs {
-        let one = unfolder.unfold_at(alloc, aig, places, side_of(side, pair), cycle)?;
+        let one = unfolder.literal_at(alloc, aig, places, (cycle, side_of(side, pair)))?;
         all.push(one)?;
     }
     Ok(all)

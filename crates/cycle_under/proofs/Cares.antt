@@ -180,3 +180,7 @@ module _ (n : NetView) (inputs : List ℕ) (s size : ℕ) (is : IsAssumption (as
     in_order = merge_in_order places u.vars m.vars both.vars care.in_order (place_in_order n inputs s count g places m at) merge;
     exactly = λ x. (forth x, back x);
   }
+
+-- a care over the same graph and table
+pub care_as : (c : Assumption) (g h : List Node) (places more : List (ℕ × ℕ)) (count : ℕ) (u : Unfolded) → h ≡ g → more ≡ places → IsCareFirst c g places count u → IsCareFirst c h more count u
+care_as c g h places more count u aig table care = subst (λ (k : List Node). IsCareFirst c k more count u) (sym aig) (subst (λ (m : List (ℕ × ℕ)). IsCareFirst c g m count u) (sym table) care)

@@ -46,7 +46,7 @@ use Rattle.reset_form.specs.Shown.{IsWitnessOf}
 use Rattle.reset_form.proofs.reset_asked.Columns.{leaf_is}
 use Rattle.reset_form.proofs.reset_asked.PairCycles.{AreSoundFunctions}
 use Rattle.cycle_search.specs.Cycles.{AreFunctionsIn}
-use Rattle.cycle_search.specs.Outputs.{IsFunctionIn}
+use Rattle.cycle_search.specs.Outputs.{IsApart}
 use Rattle.cycle_search.specs.Settings.{IsSetting}
 use Rattle.cycle_search.specs.Shown.{CanBeShownIn, IsShowableIn, IsWitnessIn, IsShownIn}
 use Rattle.cycle_search.proofs.PairsIn.{own_pairs, zip_from}
@@ -69,15 +69,16 @@ module _ (c : Assumption) (s : Setup) (b : Bases) (f : Functions) (setting : IsS
   pub record PairIn (x : SignalPair) (o : Obligation) : Type 0 where
     pub l : Unfolded
     pub r : Unfolded
-    pub left_is : IsFunctionIn s.left.now s.orders.left b.left f.aig f.places A cycle x l
-    pub right_is : IsFunctionIn s.right.now s.orders.right b.right f.aig f.places B cycle x r
+    pub left_is : IsApart s.left.now s.orders.left b.left f.aig f.places x.left.0 cycle r.lit.0 l
+    pub right_is : IsApart s.right.now s.orders.right b.right f.aig f.places x.right.0 cycle l.lit.0 r
     pub asks : AskedUnder f.places care cycle x l r o
 
   pair_in : (i : ℕ) (x : SignalPair) (o : Obligation) → slice_get s.pairs i ≡ Some x → slice_get asked i ≡ Some o → PairIn x o
   pair_in i x o hx ho =
-      let l = zip_right (IsFunctionIn s.left.now s.orders.left b.left f.aig f.places A cycle) s.pairs left functions.left_are i x hx in
-      let r = zip_right (IsFunctionIn s.right.now s.orders.right b.right f.aig f.places B cycle) s.pairs right functions.right_are i x hx in
-      record { l = l.0; r = r.0; left_is = l.2; right_is = r.2; asks = are.are i x l.0 r.0 o hx l.1 r.1 ho }
+      let w = slice_get_within s.pairs i x hx in
+      let l = some_at left i (let e = functions.left_each in omega (arith, w, e)) in
+      let r = some_at right i (let e = functions.right_each in omega (arith, w, e)) in
+      record { l = l.0; r = r.0; left_is = functions.left_are i x l.0 r.0 hx l.1 r.1; right_is = functions.right_are i x l.0 r.0 hx l.1 r.1; asks = are.are i x l.0 r.0 o hx l.1 r.1 ho }
 
   -- the pair of an obligation
   pair_of : (i : ℕ) (o : Obligation) → slice_get asked i ≡ Some o → (x : SignalPair) × (slice_get s.pairs i ≡ Some x)
@@ -100,11 +101,11 @@ module _ (c : Assumption) (s : Setup) (b : Bases) (f : Functions) (setting : IsS
 
         go : AreQueriesUnder f.places care k.l k.r o.queries → Cared q
         go (inl none) = absurd (let w = slice_get_within [] place q (ap (λ (qs : List Query). slice_get qs place) (sym none.1) ∙ at) in omega (arith, w))
-        go (inr (p, is, h)) =
+        go (inr (apart, p, is, h)) =
             let own = asks p (one p place (ap (λ (qs : List Query). slice_get qs place) (sym is) ∙ at)) h in
             record {
               asks = own;
-              sides = record { graph = sound.graph; distinct = sound.distinct; values = sound.values; left_is = k.left_is; right_is = k.right_is; asks = record { left_is = refl; right_is = refl; care_is = refl; variables_are = own.sides_are } };
+              sides = record { graph = sound.graph; distinct = sound.distinct; values = sound.values; left_is = k.left_is.function apart; right_is = k.right_is.function (λ e. apart (sym e)); asks = record { left_is = refl; right_is = refl; care_is = refl; variables_are = own.sides_are } };
               cared = cared;
             }
 
@@ -112,19 +113,19 @@ module _ (c : Assumption) (s : Setup) (b : Bases) (f : Functions) (setting : IsS
     own_queries = All-from_each (IsQuery f.aig) o.queries (λ q h. let at = at_of o.queries q h in is_query (asks_at at.0 q at.1))
 
     -- one literal has one value
-    same_by_literal : k.l.lit.0 ≡ k.r.lit.0 → (bits : ℕ → ℕ → Bool) → tree_value bits k.left_is.tree ≡ tree_value bits k.right_is.tree
+    same_by_literal : k.l.lit.0 ≡ k.r.lit.0 → (bits : ℕ → ℕ → Bool) → tree_value bits k.left_is.known.tree ≡ tree_value bits k.right_is.known.tree
     same_by_literal e bits =
         let y : ℕ → Bool = λ v. bits (get_or f.places v (0, 0)).0 (get_or f.places v (0, 0)).1 in
         let takes : (v : ℕ) (p : ℕ × ℕ) → slice_get f.places v ≡ Some p → y v ≡ bits p.0 p.1 = λ v p at. ap (λ (z : ℕ × ℕ). bits z.0 z.1) (get_or_from_slice_get f.places v p (0, 0) at) in
-        sym (sound.values f.places bits y k.left_is.tree k.l.lit.0 takes k.left_is.builds) ∙ (ap (value f.aig y) e ∙ sound.values f.places bits y k.right_is.tree k.r.lit.0 takes k.right_is.builds)
+        sym (sound.values f.places bits y k.left_is.known.tree k.l.lit.0 takes k.left_is.known.builds) ∙ (ap (value f.aig y) e ∙ sound.values f.places bits y k.right_is.known.tree k.r.lit.0 takes k.right_is.known.builds)
 
     -- both functions agree where the queries are same
     agree : All (IsSame f.aig) o.queries → AreEqual (pair_under c (numbered s b) x.left.0 x.right.0 cycle)
     agree same = go k.asks.queries_are
       where
         go : AreQueriesUnder f.places care k.l k.r o.queries → AreEqual (pair_under c (numbered s b) x.left.0 x.right.0 cycle)
-        go (inl none) = record { left_tree = k.left_is.tree; right_tree = k.right_is.tree; left_unfolds = k.left_is.unfolds; right_unfolds = k.right_is.unfolds; same = λ bits care. same_by_literal none.0 bits }
-        go (inr (p, is, asks)) =
+        go (inl none) = record { left_tree = k.left_is.known.tree; right_tree = k.right_is.known.tree; left_unfolds = k.left_is.known.unfolds; right_unfolds = k.right_is.known.unfolds; same = λ bits care. same_by_literal none.0 bits }
+        go (inr (apart, p, is, asks)) =
             let here : slice_get o.queries 0 ≡ Some p = ap (λ (qs : List Query). slice_get qs 0) is in
             equal (asks_under (asks_at 0 p here)) (All-at (IsSame f.aig) o.queries 0 p here same)
 
@@ -268,10 +269,12 @@ module _ (c : Assumption) (s : Setup) (b : Bases) (f : Functions) (setting : IsS
         result_is = first.result_at;
         answered = first.answered;
         earlier = first.earlier;
-        named = is.sequence.pair_is ∙ pair.asks.name_is;
-        cycle_is = is.sequence.cycle_is;
-        names_are = is.sequence.names_are;
-        witness = is_witness p (own.left p member) (own.right p member) pair.l pair.r q k d.bits o.name w first.differs.differs is;
+        shown = record {
+          named = is.sequence.pair_is ∙ pair.asks.name_is;
+          cycle_is = is.sequence.cycle_is;
+          names_are = is.sequence.names_are;
+          witness = is_witness p (own.left p member) (own.right p member) pair.l pair.r q k d.bits o.name w first.differs.differs is;
+        };
       }
 
   module _ (conflicts : ℕ) (d : Decided) (decided : HaveDecided f.aig conflicts asked d) where

@@ -1,5 +1,5 @@
 -- What is asked of pairs of signals in one cycle under an assumption.
-use Rattle.std.specs.Prelude.{◌≡◌, ◌⊎◌, ℕ, true, List, [], ◌∷◌}
+use Rattle.std.specs.Prelude.{◌≡◌, ◌≢◌, ◌⊎◌, ℕ, true, List, [], ◌∷◌}
 use Rattle.cbf_unfold.specs.declared.unfold_places.signal_function.Unfolded.{Unfolded}
 use Rattle.cbf_unfold.specs.shift_variables.cycle_variables.Cycles.{IsCycleMerge}
 use Rattle.pair_decide.specs.declared.query.Query.{Query}
@@ -18,7 +18,7 @@ pub record IsCareQuery (places : List (ℕ × ℕ)) (left right care : Unfolded)
 
 -- whether two functions agree where the care holds, as a query; nothing is asked where they have one literal
 abbrev pub AreQueriesUnder : List (ℕ × ℕ) → Unfolded → Unfolded → Unfolded → List Query → Type 0
-AreQueriesUnder places care left right queries = ((left.lit.0 ≡ right.lit.0) × (queries ≡ [])) ⊎ ((q : Query) × (queries ≡ q ∷ []) × IsCareQuery places left right care q)
+AreQueriesUnder places care left right queries = ((left.lit.0 ≡ right.lit.0) × (queries ≡ [])) ⊎ ((left.lit.0 ≢ right.lit.0) × (q : Query) × (queries ≡ q ∷ []) × IsCareQuery places left right care q)
 
 -- What is asked of a pair: its name, the cycle, and the query. A difference shows always that the circuits differ.
 pub record AskedUnder (places : List (ℕ × ℕ)) (care : Unfolded) (cycle : ℕ) (x : SignalPair) (left right : Unfolded) (o : Obligation) : Type 0 where

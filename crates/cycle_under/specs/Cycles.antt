@@ -1,15 +1,14 @@
 -- What is found of pairs of signals in one cycle of runs from the initial values, under an assumption.
-use Rattle.std.specs.Prelude.{◌≡◌, ◌≢◌, ℕ, ◌+◌, ◌*◌, ◌<◌, ◌≤◌, List, length, map, Option, Some, slice_get, Result, Ok, Err}
-use Rattle.std.specs.List.{All, AllZip}
+use Rattle.std.specs.Prelude.{◌≡◌, ℕ, ◌+◌, ◌*◌, ◌≤◌, List, length, map, Result, Ok, Err}
+use Rattle.std.specs.List.{AllZip}
 use Rattle.circuit_theory.specs.declared.Side.TheVariants.{A, B}
 use Rattle.circuit_theory.specs.Asked.{AskedPair}
-use Rattle.sec_base.specs.declared.basics.PairAnswer.{PairAnswer}
 use Rattle.sec_base.specs.declared.basics.PairAnswer.TheVariants as answer
-use Rattle.pair_decide.specs.declared.query.Proof.{Proof}
 use Rattle.obligations.specs.declared.outcome.verdict.PairResult.{PairResult}
 use Rattle.obligations.specs.declared.outcome.verdict.ResetWitness.{ResetWitness}
 use Rattle.obligations.specs.Fits.{AnswerFits}
-use Rattle.outcome_fits.specs.ResetOutcome.{Numbered, IsFirstLimit}
+use Rattle.outcome_fits.specs.ResetOutcome.{Numbered}
+use Rattle.outcome_fits.specs.Results.{ResultFits, IsFirst, IsSequenceOf}
 use Rattle.sec_setup.specs.declared.setup.Setup.{Setup}
 use Rattle.sec_setup.specs.ports.Pairs.{NamedPair, places_of}
 use Rattle.assume_laws.specs.Assume.{Assumption}
@@ -17,7 +16,7 @@ use Rattle.assume_queries.specs.declared.assume_sequences.premise.Premise.{Premi
 use Rattle.reset_form.specs.declared.reset_functions.bases.Bases.{Bases}
 use Rattle.reset_form.specs.declared.reset_functions.error.ResetError.{ResetError}
 use Rattle.reset_form.specs.declared.reset_asked.findings.ResetVerdict.{ResetVerdict}
-use Rattle.reset_form.specs.declared.reset_asked.findings.ResetVerdict.TheVariants as verdict
+use Rattle.reset_form.specs.Findings.{VerdictOf}
 use Rattle.reset_form.specs.reset_asked.Numbers.{numbered}
 use Rattle.reset_form.specs.reset_unfold.Unfolded.{FitsReset}
 use Rattle.cycle_search.specs.declared.cycle.InCycle.{InCycle}
@@ -32,31 +31,19 @@ abbrev pub pair_under : Assumption → Numbered → ℕ → ℕ → ℕ → Aske
 pair_under c n p q t = reset_pair_under c n.a n.b n.left n.right n.left_base n.right_base p q t
 
 -- the result of a pair: its name, the cycle, and the answer, with what it says of the pair in the cycle
-pub record ResultUnder (c : Assumption) (n : Numbered) (conflicts t : ℕ) (x : NamedPair ℕ ℕ) (result : PairResult) : Type 0 where
-  pub name_is : result.name ≡ x.name
-  pub size_is : result.size ≡ t
-  pub answer_is : AnswerFits (pair_under c n x.left x.right t) (Unit {0}) conflicts result.answer result.proof
+abbrev pub ResultUnder : Assumption → Numbered → ℕ → ℕ → NamedPair ℕ ℕ → PairResult → Type 0
+ResultUnder c n conflicts t x result = ResultFits x.name (λ size. size ≡ t) (λ size. AnswerFits (pair_under c n x.left x.right t) (Unit {0}) conflicts) result
 
 -- The first pair that is different in the cycle, and a sequence with two power-ups that make it differ there: by an assignment of the
 -- variables of both functions and of the assumption, up to 16 variables the least one.
-pub record IsDifferenceUnder (c : Assumption) (n : Numbered) (t : ℕ) (pairs : List (NamedPair ℕ ℕ)) (results : List PairResult) (w : ResetWitness) : Type 0 where
-  pub index : ℕ
-  pub place : NamedPair ℕ ℕ
-  pub result : PairResult
-  pub place_is : slice_get pairs index ≡ Some place
-  pub result_is : slice_get results index ≡ Some result
-  pub answered : result.answer ≡ answer.Different
-  pub earlier : (i : ℕ) (r : PairResult) → i < index → slice_get results i ≡ Some r → r.answer ≢ answer.Different
-  pub named : w.witness.pair ≡ place.name
-  pub cycle_is : w.witness.cycle ≡ t
-  pub names_are : w.witness.stimulus.names ≡ n.columns
-  pub witness : IsWitnessFirst c n.a n.b n.left n.right n.left_base n.right_base place.left place.right (length n.columns) w.witness.stimulus.rows w.left_power w.right_power t w.witness.left w.witness.right
+abbrev pub IsDifferenceUnder : Assumption → Numbered → ℕ → List (NamedPair ℕ ℕ) → List PairResult → ResetWitness → Type 0
+IsDifferenceUnder c n t pairs results w =
+    IsFirst answer.Different (λ x r. IsSequenceOf x.name n.columns (λ cycle. cycle ≡ t)
+    (λ rows cycle left right. IsWitnessFirst c n.a n.b n.left n.right n.left_base n.right_base x.left x.right (length n.columns) rows w.left_power w.right_power t left right) w.witness) pairs results
 
--- the first of different and limit that some pair has, and equal where every pair is equal
+-- the verdict of pairs in the cycle
 abbrev pub VerdictUnder : Assumption → Numbered → ℕ → List (NamedPair ℕ ℕ) → List PairResult → ResetVerdict → Type 0
-VerdictUnder c n t pairs results verdict.Equal = All (λ (r : PairResult). r.answer ≡ answer.Equal) results
-VerdictUnder c n t pairs results (verdict.Different w) = IsDifferenceUnder c n t pairs results w
-VerdictUnder c n t pairs results (verdict.Limit name) = IsFirstLimit results name
+VerdictUnder c n t pairs results v = VerdictOf (IsDifferenceUnder c n t pairs results) results v
 
 -- one result for each pair in order, and the verdict
 pub record IsFoundUnder (c : Assumption) (n : Numbered) (conflicts t : ℕ) (pairs : List (NamedPair ℕ ℕ)) (f : InCycle) : Type 0 where

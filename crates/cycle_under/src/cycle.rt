@@ -18,7 +18,7 @@ use aig::{Aig, Lit};
 use assume_queries::assume_sequences::Premise;
 use base_tables::PlaceTable;
 use cbf_unfold::unfold_places::Unfolded;
-use cycle_search::{InCycle, show, unfold_side};
+use cycle_search::{CycleFunctions, InCycle, Literals, functions_apart, show, unfold_side};
 use obligations::{Decided, decide_all, verdict_at};
 use reset_form::ResetError;
 use reset_form::reset_functions::{Bases, Functions};
@@ -95,13 +95,6 @@ pub(crate) fn begin<'a>(
     })
 }
 
-/// The functions of the pairs' signals in a cycle, in order.
-#[derive(Drop)]
-pub(crate) struct Sides {
-    left: Vec<Unfolded>,
-    right: Vec<Unfolded>,
-}
-
 /// Unfolds the pairs in the cycle, first all of A and then all of B, and the assumption, and decides each with at most so many conflicts. All
 /// earlier cycles are unfolded. `TooLarge` comes exactly where the unfoldings of one circuit's outputs in all cycles up to this one weigh more
 /// than 2,000,000 together.
@@ -154,7 +147,16 @@ pub(crate) fn compare_cycle(
         cycle,
     )?;
     unfolded.care = care;
-    let sides = Sides { left, right };
+    let literals = Literals { left, right };
+    let sides = functions_apart(
+        alloc,
+        &unfolded.left,
+        &unfolded.right,
+        &mut unfolded.functions,
+        pairs,
+        &literals,
+        cycle,
+    )?;
     let found = decide_cycle(alloc, setup, bases, unfolded, &sides, cycle, conflicts)?;
     Ok(found)
 }
@@ -165,7 +167,7 @@ fn decide_cycle(
     setup: &Setup<'_>,
     bases: Bases,
     unfolded: &Unfolding<'_>,
-    sides: &Sides,
+    sides: &CycleFunctions,
     cycle: u32,
     conflicts: u32,
 ) -> Result<InCycle, NoMemory>

@@ -20,7 +20,7 @@ use Rattle.edbf_unfold.specs.event_literals.Known.{EventUnfolderView, IsKnownAt,
 use Rattle.edbf_unfold.specs.event_literals.event_walk.Ready.{put_of}
 use Rattle.edbf_unfold.specs.Reached.{IsOpenPlace, IsOnwardAt, AreNodesOf, IsReachOf}
 use Rattle.edbf_unfold.specs.event_literals.event_walk.Walk.{IsRootOf, IsCounting, IsCountedOn, HasCountedStart}
-use Rattle.edbf_unfold.specs.event_literals.Built.{IsReadyFor, IsWalked}
+use Rattle.edbf_unfold.specs.event_literals.Built.{IsWalked}
 use Rattle.edbf_unfold.proofs.Covering.{care_lit, holds_visits, holds_nodes, reach_of}
 use Rattle.edbf_unfold.proofs.event_literals.Known.{known_at_later}
 use Rattle.edbf_unfold.proofs.event_literals.event_walk.Rooting.{root_path}
@@ -29,15 +29,6 @@ use Rattle.edbf_unfold.proofs.event_literals.Rooted.{walked_later}
 -- the literal at the root, while the graph grows
 pub root_later : (e : EventCircuitView) (w v : EventGraphView) → IsEventGraph w → GrowsEvents w v → (s x : ℕ) → IsKnownIn e w (record { node = 0; put = Free }) s x → IsKnownAt e v None s [] x
 root_later e w v is grows s x k = known_at_later e w v is grows None s [] x (subst (λ (n : List ℕ). IsKnownAt e w None s n x) (root_path w.children) k)
-
--- room for much is room for little
-pub ready_less : (u : EventUnfolderView) (w : EventGraphView) (c : CounterView) (cap room less : ℕ) → IsReadyFor u w c cap room → less ≤ room → IsReadyFor u w c cap less
-ready_less u w c cap room less r few = record {
-  small = r.small;
-  has = record { frames = omega (arith, r.has.frames, few); nodes = omega (arith, r.has.nodes, few); places = omega (arith, r.has.places, few) };
-  weighed = r.weighed;
-  few = r.few;
-}
 
 -- more graph behind an unfolding
 pub unfolded_more : (u v : EventUnfolderView) (w x y : EventGraphView) (room more all : ℕ) → HasUnfolded u v w x room → HasGrown x y more → room + more ≤ all → HasUnfolded u v w y all

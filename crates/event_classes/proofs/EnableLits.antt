@@ -1,12 +1,10 @@
 -- The literals of enables, by their trees.
-use Rattle.std.proofs.Common.{◌≡◌, ◌≢◌, ◌∙◌, ◌+◌, ◌<◌, ◌*◌, ℕ, suc, Bool, false, true, List, [], ◌∷◌, ◌++◌, length, slice_get, slice_set, Some, refl, inl, inr, sym, ap, subst, arith}
+use Rattle.std.proofs.Common.{◌≡◌, ◌≢◌, ◌∙◌, ◌+◌, ℕ, false, true, List, [], ◌∷◌, ◌++◌, length, slice_get, slice_set, Some, refl, inl, inr, sym, ap, subst, arith}
 use Rattle.std.specs.Prelude.{◌⊎◌, Contains}
 use Rattle.std.proofs.lemmas.Option.{slice_get_within}
 use Rattle.std.proofs.lemmas.List.Elements.{Contains-append_left, Contains-append_right}
-use Rattle.circuit_theory.specs.Circuit.{IsLatch}
-use Rattle.circuit_theory.specs.Frame.{EventSide, EventUnfolds}
+use Rattle.circuit_theory.specs.Frame.{EventSide}
 use Rattle.circuit_theory.specs.Joined.{Either, Left, Right, joined}
-use Rattle.circuit_theory.specs.Run.{IsEnabled}
 use Rattle.circuit_theory.specs.Tree.{Tree}
 use Rattle.circuit_theory.proofs.Lists.{Contains-head}
 use Rattle.circuit_laws.proofs.Parts.{latch_up}
@@ -38,7 +36,7 @@ use Rattle.class_search.specs.class_separations.Apart.{AreTakenMembers}
 use Rattle.class_search.specs.declared.class.Class.{Class}
 use Rattle.class_search.specs.declared.compare.Enable.{Enable}
 use Rattle.class_search.proofs.class_fits.Standing.{at_set}
-use Rattle.event_classes.specs.Limits.{EnableTrees, HaveTwoEnables}
+use Rattle.event_classes.specs.Limits.{HaveTwoEnables}
 use Rattle.event_classes.specs.Map.{HasEnableLit, HaveEnableLits}
 
 -- while the event graph grows

@@ -1,5 +1,5 @@
 -- Why the enable of the next latch isn't counted.
-use Rattle.std.proofs.Common.{◌≡◌, ◌<◌, ◌≤◌, ℕ, List, [], ◌∷◌, ◌++◌, length, slice_get, Some, Result, Ok, Err, ap}
+use Rattle.std.proofs.Common.{◌≡◌, ◌<◌, ◌≤◌, ℕ, List, [], ◌∷◌, ◌++◌, length, slice_get, Some, Result, Ok, Err}
 use Rattle.circuit_theory.specs.declared.Side.TheVariants.{A, B}
 use Rattle.circuit_theory.specs.Depth.{LatchesHaveDepths}
 use Rattle.circuit_theory.specs.Joined.{Either, Left, Right}

@@ -1,11 +1,11 @@
 -- Where the class map stops at the next latch.
-use Rattle.std.proofs.Common.{◌≡◌, ◌∙◌, ◌+◌, ◌<◌, ◌≤◌, ℕ, suc, List, [], ◌∷◌, ◌++◌, length, take, drop, map, get_or, slice_get, Option, Some, refl, sym, ap, subst, arith, inl, inr, length-append, length-drop}
+use Rattle.std.proofs.Common.{◌≡◌, ◌+◌, ◌<◌, ◌≤◌, ℕ, suc, List, [], ◌∷◌, ◌++◌, length, drop, map, get_or, slice_get, Option, Some, refl, sym, ap, subst, arith, inl, inr, length-append, length-drop}
 use Rattle.std.specs.Prelude.{◌≢◌, ◌⊎◌}
-use Rattle.std.specs.List.{AllPairs, Contains}
+use Rattle.std.specs.List.{AllPairs}
 use Rattle.std.proofs.lemmas.List.{length-take-le}
 use Rattle.std.proofs.lemmas.Option.{slice_get-get_or}
 use Rattle.circuit_theory.specs.declared.Side.{Side}
-use Rattle.circuit_theory.specs.Circuit.{Equation, Latch}
+use Rattle.circuit_theory.specs.Circuit.{Latch}
 use Rattle.circuit_theory.specs.Cone.{latch_place, latches_of}
 use Rattle.circuit_theory.specs.Depth.{LatchesHaveDepths, IsDepth}
 use Rattle.circuit_theory.specs.Joined.{Either}

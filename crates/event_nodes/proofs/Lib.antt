@@ -1,5 +1,5 @@
 pub mod Growing
-pub mod Rising
+pub mod Depths
 mod Kept
 mod Covers
 pub mod Paths

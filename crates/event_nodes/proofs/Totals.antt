@@ -21,7 +21,7 @@ use Rattle.event_nodes.proofs.OnePath.{one_node}
 use Rattle.event_nodes.proofs.Visits.{visits_one}
 
 -- distinct elements differ in pairs
-pairs_differ : {X : Type 0} (xs : List X) → AreDistinct xs → AllPairs (λ x y. x ≢ y) xs
+pub pairs_differ : {X : Type 0} (xs : List X) → AreDistinct xs → AllPairs (λ x y. x ≢ y) xs
 pairs_differ xs distinct i j d below within same =
     let before : i < length xs = omega arith in
     let first : slice_get xs i ≡ Some (get_or xs i d) = slice_get-get_or xs i d before in

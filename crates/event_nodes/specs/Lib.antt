@@ -1,6 +1,6 @@
 pub mod Nodes
 pub mod View
-pub mod Levels
+pub mod Depths
 pub mod Reach
 pub mod Visited
 pub mod Laws

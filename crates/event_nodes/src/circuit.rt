@@ -1,27 +1,27 @@
 //! A net whose latches have classes.
 
-ghost use Rattle.std.specs.Prelude.{◌≡◌, ℕ, ◌<◌, true, false, length, slice_get, Some};
-ghost use Rattle.circuit_theory.specs.Circuit.{Reaches};
+ghost use Rattle.std.specs.Prelude.{◌≡◌, ℕ, List, ◌<◌, true, false, length, slice_get, slice_index_or, Some};
+ghost use Rattle.circuit_theory.specs.Circuit.{IsLatch, Reaches};
+ghost use Rattle.circuit_theory.specs.Depth.{LatchesHaveDepths};
 ghost use Rattle.flat_net.specs.declared.parts.LatchAt.{LatchAt};
 ghost use Rattle.flat_net.specs.Sound.{IsSound};
 ghost use Rattle.flat_net.specs.View.{circuit_of};
+ghost use Rattle.event_nodes.specs.Depths.{AreDepths};
 ghost use Rattle.event_nodes.specs.View.{IsEventCircuit, side_of, Enabled};
 
 mod classes;
-mod levels;
 
-use flat_net::{Bits, Ids, Net, NoMemory, Seq};
-use levels::{level, levels_of};
-use std::alloc::Global;
+use flat_net::{Bits, Ids, Net};
 use std::marker::Model;
 
-/// A net, with a bit for each latch that marks the enabled ones, a number for each input and a class for each latch.
+/// A net, with a bit for each latch that marks the enabled ones, a number for each input, a class for each latch and a depth for each
+/// signal.
 pub struct EventCircuit {
     net: Net,
     enabled: Bits,
     order: Ids,
     classes: Vec<u32>,
-    levels: Ids,
+    depths: Ids,
 }
 
 /// It is let go by one call: an owner isn't taken apart field by field at each way out.
@@ -32,26 +32,27 @@ impl Drop for EventCircuit {
             enabled: _,
             order: _,
             classes: _,
-            levels: _,
+            depths: _,
         } = self;
     }
 }
 
 impl Model for EventCircuit {
     ghost use Rattle.event_nodes.specs.View.{EventCircuitView, IsEventCircuit};
-    ghost use Rattle.event_nodes.specs.Levels.{IsRising};
+    ghost use Rattle.event_nodes.specs.Depths.{AreDepths};
 
     ghost Value = { EventCircuitView };
 
     ghost view = { λ e. record { net = e.net; enabled = e.enabled; order = e.order; classes = e.classes.items } };
 
-    ghost invariant = { λ e. IsEventCircuit (record { net = e.net; enabled = e.enabled; order = e.order; classes = e.classes.items }) × IsRising e.net e.levels };
+    ghost invariant = { λ e. IsEventCircuit (record { net = e.net; enabled = e.enabled; order = e.order; classes = e.classes.items }) × AreDepths e.net e.depths };
 }
 
 impl EventCircuit {
-    /// The net with these lists. It is known of no signal that it doesn't read a latch.
-    pub fn new(alloc: Global, net: Net, enabled: Bits, order: Ids, classes: Ids) -> EventCircuit
-        requires { IsEventCircuit (record { net = net; enabled = enabled; order = order; classes = classes }) }
+    /// The net with these lists. The depths are those of its signals, where self-edges of enabled latches don't count.
+    pub fn new(net: Net, enabled: Bits, order: Ids, classes: Ids, depths: Ids) -> EventCircuit
+        requires circuit { IsEventCircuit (record { net = net; enabled = enabled; order = order; classes = classes }) }
+        requires depths { AreDepths net depths }
         ensures { result ≡ record { net = net; enabled = enabled; order = order; classes = classes } }
     {
         EventCircuit {
@@ -59,32 +60,26 @@ impl EventCircuit {
             enabled,
             order,
             classes: classes.into_vec(),
-            levels: Seq::new(alloc),
+            depths,
         }
     }
 
-    /// Gives each latch a rank, by its position: a signal all of whose latches have lower ranks than a latch is then known not to read
-    /// that one within the cycle. Where each latch has a higher rank than the others in the cone of what it takes over, as its depth is,
-    /// that tells all such signals of the cone.
-    pub fn rank(&mut self, alloc: Global, ranks: &[u32]) -> Result<(), NoMemory>
-        ensures { self.new ≡ self.old }
-    {
-        self.levels = levels_of(alloc, &self.net, ranks)?;
-        Ok(())
-    }
-
-    /// Whether it is known that the signal doesn't read the latch at the second signal within the cycle.
+    /// Whether the signal's depth is lower than the latch's, so that it doesn't read the latch at the second signal within the cycle. In
+    /// the cone of what the latch takes over each other signal reads it, since no other latch there is as deep.
     pub fn is_apart(&self, signal: u32, latch: u32) -> bool
-        ensures { result ≡ true → Reaches (circuit_of self.now.net) signal latch → ⊥ }
+        ensures apart { result ≡ true → Reaches (circuit_of self.now.net) signal latch → ⊥ }
+        ensures reads { result ≡ false → (name : List ℕ) (next : ℕ) → IsLatch (circuit_of self.now.net) name latch next → Reaches (circuit_of self.now.net) next signal → Reaches (circuit_of self.now.net) signal latch }
     {
-        let levels = self.levels.as_slice();
-        level(levels, signal) < level(levels, latch)
+        self.net.keeps();
+        let depths = self.depths.as_slice();
+        depth_in(depths, signal) < depth_in(depths, latch)
     }
 
     /// Tells a proof what each such circuit keeps. It does nothing.
     pub fn keeps(&self)
         ensures circuit { IsEventCircuit self.now }
         ensures sound { IsSound self.now.net }
+        ensures depths { LatchesHaveDepths (circuit_of self.now.net) (Enabled self.now) }
     {
         self.net.keeps();
     }
@@ -128,4 +123,12 @@ impl EventCircuit {
     {
         self.enabled.as_slice()[j as usize]
     }
+}
+
+/// The number in the list with this position; 0 where it has none.
+fn depth_in(depths: &[u32], at: u32) -> u32
+    ensures { result ≡ slice_index_or depths.now at 0 }
+{
+    let at = at as usize;
+    if at < depths.len() { depths[at] } else { 0 }
 }

@@ -8,11 +8,12 @@ ghost use Rattle.event_setup.specs.Choosing.{AreOpened};
 ghost use Rattle.event_setup.specs.Cutting.{AreMarkedCuts};
 ghost use Rattle.event_setup.specs.Numbering.{AreBegun, IsBegun, IsOrder};
 ghost use Rattle.event_setup.specs.Recovered.{AreMarked};
+ghost use Rattle.event_setup.specs.Setup.{HaveDepths};
 
 use crate::cutting::{CutNets, MarkedNet};
 use crate::numbering::{Numbering, number};
-use crate::ranks::ranks_of;
 use base_tables::NameTable;
+use class_search::event_order::signal_depths;
 use event_nodes::EventCircuit;
 use flat_net::Net;
 use sec_base::{Ids, NoMemory, Orders, Seq, Words};
@@ -41,6 +42,8 @@ pub(crate) fn number_circuits(
     requires shared { shared.now ≡ shared_inputs (ports_of a.now) (ports_of b.now) }
     requires opened { AreOpened a.now b.now exposure.now }
     requires cut { AreMarkedCuts a.now b.now exposure.now cut }
+    requires left_depths { HaveDepths cut.left.net }
+    requires right_depths { HaveDepths cut.right.net }
     ensures columns { IfOk result (λ c. c.columns ≡ shared.now ++ exposure.now.names) }
     ensures circuits { IfOk result (AreBegun cut) }
 {
@@ -62,15 +65,14 @@ pub(crate) fn number_circuits(
 /// The net as a circuit, all of whose latches are of class 0.
 fn begun(alloc: Global, marked: MarkedNet, order: Ids) -> Result<EventCircuit, NoMemory>
     requires marked { AreMarked marked.net marked.enabled }
+    requires depths { HaveDepths marked.net }
     requires order { IsOrder marked.net order }
     ensures { IfOk result (IsBegun marked.net order) }
 {
     let classes = zeros(alloc, marked.net.latches().len())?;
-    let ranks = ranks_of(alloc, &marked.net, &marked.enabled)?;
+    let depths = signal_depths(alloc, &marked.net, &marked.enabled)?;
     let MarkedNet { net, enabled } = marked;
-    let mut circuit = EventCircuit::new(alloc, net, enabled, order, classes);
-    circuit.rank(alloc, ranks.as_slice())?;
-    Ok(circuit)
+    Ok(EventCircuit::new(net, enabled, order, classes, depths))
 }
 
 /// So many zeros.

@@ -10,7 +10,6 @@ mod enables;
 mod error;
 pub mod event_meaning;
 mod numbering;
-mod ranks;
 pub mod read_inputs;
 mod setup;
 

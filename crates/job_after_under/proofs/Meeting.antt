@@ -41,8 +41,8 @@ module _ (a b c : NetView) (cycles conflicts : ℕ) (s : Searched) (is : AreSear
   long found e =
       let listed = named_pairs [] (circuit_of a) (circuit_of b) in
       let f : IsDifferenceUnder (assumed_by is.assumed) is.numbers s.last listed s.pairs found = subst (VerdictFitsUnder (assumed_by is.assumed) is.assumed.weight is.numbers a b cycles s.last listed s.pairs) e is.found.verdict_is in
-      ap length f.witness.rows_are
-      ∙ (rows_length s.last (λ i k. assigned same_shift f.witness.variables f.witness.bits i (s.last - k)) (length is.numbers.columns) 0 (suc s.last) ∙ (let k = f.cycle_is in let q : suc s.last ≡ found.witness.cycle + 1 = omega (arith, k) in q))
+      ap length f.shown.witness.rows_are
+      ∙ (rows_length s.last (λ i k. assigned same_shift f.shown.witness.variables f.shown.witness.bits i (s.last - k)) (length is.numbers.columns) 0 (suc s.last) ∙ (let k = f.shown.cycle_is in let q : suc s.last ≡ found.witness.cycle + 1 = omega (arith, k) in q))
 
   meets_behind : (count : ℕ) (found : ResetWitness) → s.verdict ≡ verdict.Different found → (w : Witness) → GoesOnAs count found.witness.stimulus w → SequenceMeetsFrom count (circuit_of c) w.stimulus w.cycle
   meets_behind count found e w on t from to v holds given name o output =

@@ -1,6 +1,7 @@
 //! What is asked of pairs of signals, decided: queries over one graph. Nothing here knows what the graph's variables stand for.
 #![tactic(auto)]
 
+mod carries;
 mod decision;
 mod found;
 mod known;

@@ -1,7 +1,8 @@
 //! Runs of obligations whose names count on by one: guesses at words. No clause says which.
 
 use crate::obligation::Obligation;
-use crate::outcome::{NoMemory, PairName};
+use crate::outcome::{Aig, NoMemory, PairName, Query};
+use aig::{Lit, MAX_TABLE_VARIABLES, Node};
 use std::alloc::Global;
 use swept_queries::{Known, SweptQueries};
 use word_sums::MAX_WORD;
@@ -23,7 +24,7 @@ struct Number {
     value: u64,
 }
 
-/// A word is asked where the sweep left so many of its bits open.
+/// A word is asked where so many of its bits are open.
 const LEAST_OPEN: usize = 6;
 
 /// How many nodes are rewritten at most, for all words together: each takes the whole graph.
@@ -43,43 +44,110 @@ impl Run {
     }
 }
 
-/// The runs of up to 64 obligations that the sweep left open, in a graph of so many nodes.
+/// Whether the graph looks like products: ands of two variables are many of its nodes, and more than twice the variables.
+fn is_product(aig: &Aig) -> bool {
+    let mut products = 0u32;
+    for n in 0..aig.size() {
+        if is_and_of_inputs(aig, n) {
+            products = products.saturating_add(1);
+        }
+    }
+    products / 2 >= aig.vars() && products >= aig.size() / 64
+}
+
+/// Whether the node is an and of two variables.
+fn is_and_of_inputs(aig: &Aig, n: u32) -> bool {
+    if n >= aig.size() {
+        return false;
+    }
+    match aig.node(n) {
+        Node::And(left, right) => is_input(aig, left) && is_input(aig, right),
+        _ => false,
+    }
+}
+
+/// Whether the literal is a variable.
+fn is_input(aig: &Aig, l: Lit) -> bool {
+    if l.is_complement() || l.node() >= aig.size() {
+        return false;
+    }
+    match aig.node(l.node()) {
+        Node::Input(_) => true,
+        _ => false,
+    }
+}
+
+/// For each obligation whether it has one query, of more than 16 variables and with two literals, in a graph that looks like products.
+pub(crate) fn wide(alloc: Global, aig: &Aig, asked: &[Obligation]) -> Result<Vec<bool>, NoMemory> {
+    let product = is_product(aig);
+    let mut open = Vec::new(alloc);
+    for i in 0..asked.len() {
+        open.push(product && is_wide(asked[i].queries.as_slice()))?;
+    }
+    Ok(open)
+}
+
+/// The same of the queries of one.
+fn is_wide(queries: &[Query]) -> bool {
+    if queries.len() != 1 {
+        return false;
+    }
+    let query = &queries[0];
+    query.vars.len() > MAX_TABLE_VARIABLES && query.left != query.right
+}
+
+/// For each obligation whether the sweep left its first query open, in a graph that doesn't look so.
+pub(crate) fn left_open(
+    alloc: Global,
+    aig: &Aig,
+    asked: &[Obligation],
+    swept: &SweptQueries,
+) -> Result<Vec<bool>, NoMemory> {
+    let other = !is_product(aig);
+    let mut open = Vec::new(alloc);
+    let mut place = 0usize;
+    for i in 0..asked.len() {
+        open.push(other && is_open(swept, place))?;
+        place = place.saturating_add(asked[i].queries.len());
+    }
+    Ok(open)
+}
+
+/// The runs of up to 64 obligations, six of which or more are open, in a graph of so many nodes.
 pub(crate) fn open_runs(
     alloc: Global,
     asked: &[Obligation],
-    swept: &SweptQueries,
+    open: &[bool],
     nodes: u32,
 ) -> Result<Vec<Run>, NoMemory> {
     let mut runs = Vec::new(alloc);
     let mut next = 0usize;
-    let mut place = 0usize;
     let mut room = MOST_NODES;
     for i in 0..asked.len() {
         if i >= next {
             let run = run_at(asked, i);
             next = i.saturating_add(run.count);
-            if nodes <= room && is_open_run(swept, run.count, place) {
+            if nodes <= room && is_open_run(open, &run) {
                 room = room.saturating_sub(nodes);
                 runs.push(run)?;
             }
         }
-        place = place.saturating_add(asked[i].queries.len());
     }
     Ok(runs)
 }
 
-/// Whether a run of so many obligations is asked, whose queries are those from this place on.
-fn is_open_run(swept: &SweptQueries, count: usize, place: usize) -> bool {
-    if count > MAX_WORD {
+/// Whether the run is asked.
+fn is_open_run(open: &[bool], run: &Run) -> bool {
+    if run.count > MAX_WORD {
         return false;
     }
-    let mut open = 0usize;
-    for k in 0..count {
-        if is_open(swept, place.saturating_add(k)) {
-            open = open.saturating_add(1);
+    let mut many = 0usize;
+    for k in 0..run.count {
+        if open.get(run.place(k)).copied().unwrap_or(false) {
+            many = many.saturating_add(1);
         }
     }
-    open >= LEAST_OPEN
+    many >= LEAST_OPEN
 }
 
 /// Whether the sides of the query of this place were swept and are still two literals.

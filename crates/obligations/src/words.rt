@@ -8,12 +8,12 @@ ghost use Rattle.obligations.specs.outcome.aig.Node.{Node};
 ghost use Rattle.obligations.specs.outcome.Queries.{IsSame};
 ghost use Rattle.obligations.specs.Agreed.{AreAgreed, IsWord};
 
+use crate::carries::same_by_carries;
 use crate::numbered::{Run, open_runs};
 use crate::obligation::Obligation;
 use crate::outcome::{Aig, NoMemory, Query};
 use aig::Lit;
 use std::alloc::Global;
-use swept_queries::SweptQueries;
 use word_sums::{Words, same_words};
 
 /// The literals of one bit of two words.
@@ -39,22 +39,31 @@ const NONE: WordBit = WordBit {
 /// How many terms the difference of two words may have.
 const MOST_TERMS: usize = 60_000;
 
+/// Nothing is known of so many obligations.
+pub(crate) fn no_bits(alloc: Global, count: usize) -> Result<Vec<WordBit>, NoMemory>
+    ensures { IfOk result (λ bits. (g : List Node) → AreAgreed g bits.items) }
+{
+    let bits = vec![in alloc; NONE; count]?;
+    Ok(bits)
+}
+
 /// For each obligation two literals that agree: its sides, if it is a bit of two words that are shown to spell one number. Words are
-/// guessed by the names, and asked where the sweep left bits open.
-pub(crate) fn agreed_words(
+/// guessed by the names, and asked where bits are open.
+pub(crate) fn ask_words(
     alloc: Global,
     aig: &Aig,
     asked: &[Obligation],
-    swept: &SweptQueries,
-) -> Result<Vec<WordBit>, NoMemory>
-    ensures { IfOk result (λ bits. AreAgreed aig.now bits.items) }
+    open: &[bool],
+    bits: &mut [WordBit],
+) -> Result<(), NoMemory>
+    requires { AreAgreed aig.now bits.old }
+    ensures { OnOk result (AreAgreed aig.now bits.new) }
 {
-    let runs = open_runs(alloc, asked, swept, aig.size())?;
-    let mut bits = vec![in alloc; NONE; asked.len()]?;
+    let runs = open_runs(alloc, asked, open, aig.size())?;
     for i in 0..runs.len() {
-        ask_word(alloc, aig, asked, &runs[i], bits.as_mut_slice())?;
+        ask_word(alloc, aig, asked, &runs[i], bits)?;
     }
-    Ok(bits)
+    Ok(())
 }
 
 /// Asks of the run whether its words are the same, and puts their bits if they are.
@@ -71,11 +80,24 @@ fn ask_word(
     let word = words_of(alloc, aig, asked, run)?;
     let left = word.left.as_slice();
     let right = word.right.as_slice();
-    let told = same_words(alloc, aig, left, right, MOST_TERMS)?;
-    if let Words::Same = told {
+    if are_same(alloc, aig, left, right)? {
         put_bits(bits, run, left, right);
     }
     Ok(())
+}
+
+/// Whether the words are shown to spell one number: as they stand, or else over a graph in which carries are majorities.
+fn are_same(alloc: Global, aig: &Aig, left: &[Lit], right: &[Lit]) -> Result<bool, NoMemory>
+    requires left { All (λ (l : Lit). l.0 < 2 * length aig.now) left.now }
+    requires right { All (λ (l : Lit). l.0 < 2 * length aig.now) right.now }
+    requires lengths { length left.now ≡ length right.now }
+    ensures { IfOk result (λ same. IsTrue same → AgreeEach aig.now left.now right.now) }
+{
+    match same_words(alloc, aig, left, right, MOST_TERMS)? {
+        Words::Same => Ok(true),
+        Words::Differ(_) => Ok(false),
+        Words::Open => same_by_carries(alloc, aig, left, right, MOST_TERMS),
+    }
 }
 
 /// The words of the run's sides, of queries that stand alone.
@@ -164,4 +186,9 @@ fn is_bit(bit: WordBit, query: &Query) -> bool
     ensures { IsTrue result → (g : List Node) → Agree g bit.left.0 bit.right.0 → IsSame g query.now }
 {
     query.left == bit.left && query.right == bit.right
+}
+
+/// The same of the obligation at this place.
+pub(crate) fn is_agreed(bits: &[WordBit], place: usize, asked: &[Obligation]) -> bool {
+    place < asked.len() && are_agreed(bits, place, asked[place].queries.as_slice())
 }

@@ -18,6 +18,7 @@ use Rattle.sec_setup.specs.ports.Pairs.{NamedPair}
 pub use Rattle.obligations.specs.Decided.{NoneIs}
 pub use Rattle.obligations.specs.Verdict.{greatest_size}
 use Rattle.obligations.specs.Fits as fits
+use Rattle.outcome_fits.specs.Results.{ResultFits, IsFirst, IsSequenceOf}
 
 -- both sides of a pair unfold, to functions that some assignment makes differ
 abbrev pub HaveDifferentFunctions : {P Q : Type 0} → Circuit P → Circuit Q → List ℕ → List ℕ → P → Q → Type 0
@@ -33,10 +34,8 @@ abbrev pub AnswerFits : {P Q : Type 0} → Circuit P → Circuit Q → List ℕ 
 AnswerFits a b left right cut conflicts p q result proof = fits.AnswerFits (plain_pair a b left right p q) (cut ≡ false) conflicts result proof
 
 -- the result of a pair: its name, the greater of both depths, and the answer on both functions
-pub record PairFits {P Q : Type 0} (a : Circuit P) (b : Circuit Q) (left right : List ℕ) (cut : Bool) (conflicts : ℕ) (x : NamedPair P Q) (result : PairResult) : Type 0 where
-  pub name_is : result.name ≡ x.name
-  pub size_is : IsPairDepth a b x.left x.right result.size
-  pub answer_is : AnswerFits a b left right cut conflicts x.left x.right result.answer result.proof
+abbrev pub PairFits : {P Q : Type 0} → Circuit P → Circuit Q → List ℕ → List ℕ → Bool → ℕ → NamedPair P Q → PairResult → Type 0
+PairFits a b left right cut conflicts x result = ResultFits x.name (IsPairDepth a b x.left x.right) (λ size. AnswerFits a b left right cut conflicts x.left x.right) result
 
 -- one result for each of these pairs, in order
 abbrev pub PairsFit : {P Q : Type 0} → Circuit P → Circuit Q → List ℕ → List ℕ → Bool → ℕ → List (NamedPair P Q) → List PairResult → Type 0
@@ -44,18 +43,9 @@ PairsFit a b left right cut conflicts pairs results = AllZip (PairFits a b left 
 
 -- The first pair with this answer, and a sequence of it over the inputs of these names: by an assignment of the variables of both
 -- functions that makes them differ, up to 16 variables the least one.
-pub record IsFirstOfAnswer {P Q : Type 0} (a : Circuit P) (b : Circuit Q) (left right : List ℕ) (columns : List (List ℕ)) (wanted : PairAnswer) (pairs : List (NamedPair P Q)) (results : List PairResult) (w : Witness) : Type 0 where
-  pub index : ℕ
-  pub place : NamedPair P Q
-  pub result : PairResult
-  pub place_is : slice_get pairs index ≡ Some place
-  pub result_is : slice_get results index ≡ Some result
-  pub answered : result.answer ≡ wanted
-  pub earlier : (i : ℕ) (r : PairResult) → i < index → slice_get results i ≡ Some r → r.answer ≢ wanted
-  pub named : w.pair ≡ place.name
-  pub cycle_is : w.cycle ≡ result.size
-  pub names_are : w.stimulus.names ≡ columns
-  pub witness : IsWitness a b left right place.left place.right (length columns) w.stimulus.rows w.cycle w.left w.right
+abbrev pub IsFirstOfAnswer : {P Q : Type 0} → Circuit P → Circuit Q → List ℕ → List ℕ → List (List ℕ) → PairAnswer → List (NamedPair P Q) → List PairResult → Witness → Type 0
+IsFirstOfAnswer a b left right columns wanted pairs results w =
+    IsFirst wanted (λ x r. IsSequenceOf x.name columns (λ t. t ≡ r.size) (IsWitness a b left right x.left x.right (length columns)) w) pairs results
 
 -- no pair is different, and this one is the first at its limit
 pub record IsFirstLimit (results : List PairResult) (at : LimitAt) : Type 0 where
@@ -67,12 +57,15 @@ pub record IsFirstLimit (results : List PairResult) (at : LimitAt) : Type 0 wher
   pub no_difference : NoneIs answer.Different results
   pub at_is : at ≡ limit_at.Pair result.name
 
--- the first of different, limit and not shown that some pair has, and equal where every pair is equal
+-- the first of different, limit and not shown that some pair has, and equal where every pair is equal; `First` says which pair a sequence is of
+abbrev pub VerdictOf : (PairAnswer → Witness → Type 0) → List PairResult → Verdict → Type 0
+VerdictOf First results verdict.Equal = All (λ (r : PairResult). r.answer ≡ answer.Equal) results
+VerdictOf First results (verdict.Different w) = First answer.Different w
+VerdictOf First results (verdict.DifferentFrom w) = ⊥
+VerdictOf First results (verdict.Limit at) = IsFirstLimit results at
+VerdictOf First results (verdict.NotShown (why.Cut w)) = NoneIs answer.Different results × NoneIs answer.Limit results × First answer.NotShown w
+VerdictOf First results (verdict.NotShown (why.Events u)) = ⊥
+
+-- the verdict of pairs as they are asked in the plain form
 abbrev pub VerdictFits : {P Q : Type 0} → Circuit P → Circuit Q → List ℕ → List ℕ → List (List ℕ) → List (NamedPair P Q) → List PairResult → Verdict → Type 0
-VerdictFits a b left right columns pairs results verdict.Equal = All (λ (r : PairResult). r.answer ≡ answer.Equal) results
-VerdictFits a b left right columns pairs results (verdict.Different w) = IsFirstOfAnswer a b left right columns answer.Different pairs results w
-VerdictFits a b left right columns pairs results (verdict.DifferentFrom w) = ⊥
-VerdictFits a b left right columns pairs results (verdict.Limit at) = IsFirstLimit results at
-VerdictFits a b left right columns pairs results (verdict.NotShown (why.Cut w)) =
-    NoneIs answer.Different results × NoneIs answer.Limit results × IsFirstOfAnswer a b left right columns answer.NotShown pairs results w
-VerdictFits a b left right columns pairs results (verdict.NotShown (why.Events u)) = ⊥
+VerdictFits a b left right columns pairs results v = VerdictOf (λ wanted w. IsFirstOfAnswer a b left right columns wanted pairs results w) results v

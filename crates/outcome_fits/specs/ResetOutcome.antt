@@ -1,5 +1,6 @@
 -- What it means that what is found of some pairs fits two circuits whose runs begin with the latches' initial values.
 use Rattle.std.specs.Prelude.{◌≡◌, ◌≢◌, ℕ, ◌<◌, ◌≤◌, List, length, Option, Some, slice_get}
+use Rattle.std.specs.List.{All}
 use Rattle.circuit_theory.specs.Circuit.{Circuit}
 use Rattle.circuit_theory.specs.Fits.{IsPairDepth}
 use Rattle.circuit_theory.specs.Asked.{AskedPair, AreEqual, AreDifferent}
@@ -13,7 +14,11 @@ use Rattle.sec_setup.specs.ports.Pairs.{NamedPair}
 pub use Rattle.obligations.specs.Decided.{NoneIs}
 pub use Rattle.obligations.specs.Verdict.{greatest_size}
 use Rattle.obligations.specs.Fits.{AreEqualBefore, AnswersFit}
+use Rattle.obligations.specs.declared.outcome.verdict.LimitAt.TheVariants as limit_at
 use Rattle.obligations.specs.declared.outcome.verdict.ResetWitness.{ResetWitness}
+use Rattle.obligations.specs.declared.outcome.verdict.Verdict.{Verdict}
+use Rattle.obligations.specs.declared.outcome.verdict.Verdict.TheVariants as verdict
+use Rattle.outcome_fits.specs.Results.{ResultFits, IsFirst, IsSequenceOf}
 
 -- Two circuits with the numbers of their inputs' and their latches' variables, and the names of the inputs' numbers.
 pub record Numbered : Type 0 where
@@ -46,26 +51,15 @@ abbrev pub AnswerFits : Numbered → ℕ → ℕ → ℕ → ℕ → PairAnswer 
 AnswerFits n conflicts p q depth result proof = AnswersFit (pair_at n p q) conflicts depth result proof
 
 -- the result of a pair: its name, the greater of both depths, and the answer
-pub record PairFits (n : Numbered) (conflicts : ℕ) (x : NamedPair ℕ ℕ) (result : PairResult) : Type 0 where
-  pub name_is : result.name ≡ x.name
-  pub size_is : IsPairDepth n.a n.b x.left x.right result.size
-  pub answer_is : AnswerFits n conflicts x.left x.right result.size result.answer result.proof
+abbrev pub PairFits : Numbered → ℕ → NamedPair ℕ ℕ → PairResult → Type 0
+PairFits n conflicts x result = ResultFits x.name (IsPairDepth n.a n.b x.left x.right) (AnswerFits n conflicts x.left x.right) result
 
 -- The first pair that is different, the first cycle in which it can differ, and a sequence with two power-ups that make it differ there:
 -- by an assignment of the variables of both functions, up to 16 variables the least one.
-pub record IsFirstDifference (n : Numbered) (pairs : List (NamedPair ℕ ℕ)) (results : List PairResult) (w : ResetWitness) : Type 0 where
-  pub index : ℕ
-  pub place : NamedPair ℕ ℕ
-  pub result : PairResult
-  pub place_is : slice_get pairs index ≡ Some place
-  pub result_is : slice_get results index ≡ Some result
-  pub answered : result.answer ≡ answer.Different
-  pub earlier : (i : ℕ) (r : PairResult) → i < index → slice_get results i ≡ Some r → r.answer ≢ answer.Different
-  pub named : w.witness.pair ≡ place.name
-  pub within : w.witness.cycle ≤ result.size
-  pub names_are : w.witness.stimulus.names ≡ n.columns
-  pub agree_before : AgreeBefore n place.left place.right w.witness.cycle
-  pub witness : IsResetWitness n.a n.b n.left n.right n.left_base n.right_base place.left place.right (length n.columns) w.witness.stimulus.rows w.left_power w.right_power w.witness.cycle w.witness.left w.witness.right
+abbrev pub IsFirstDifference : Numbered → List (NamedPair ℕ ℕ) → List PairResult → ResetWitness → Type 0
+IsFirstDifference n pairs results w =
+    IsFirst answer.Different (λ x r. IsSequenceOf x.name n.columns (λ t. (t ≤ r.size) × AgreeBefore n x.left x.right t)
+    (λ rows t left right. IsResetWitness n.a n.b n.left n.right n.left_base n.right_base x.left x.right (length n.columns) rows w.left_power w.right_power t left right) w.witness) pairs results
 
 -- no pair is different, and this one is the first at its limit
 pub record IsFirstLimit (results : List PairResult) (name : PairName) : Type 0 where
@@ -76,3 +70,12 @@ pub record IsFirstLimit (results : List PairResult) (name : PairName) : Type 0 w
   pub earlier : (i : ℕ) (r : PairResult) → i < index → slice_get results i ≡ Some r → r.answer ≢ answer.Limit
   pub no_difference : NoneIs answer.Different results
   pub named : name ≡ result.name
+
+-- the first of different and limit that some pair has, and equal where every pair is equal; `First` says which pair a sequence is of
+abbrev pub ResetVerdictOf : (ResetWitness → Type 0) → List PairResult → Verdict → Type 0
+ResetVerdictOf First results verdict.Equal = All (λ (r : PairResult). r.answer ≡ answer.Equal) results
+ResetVerdictOf First results (verdict.Different w) = ⊥
+ResetVerdictOf First results (verdict.DifferentFrom w) = First w
+ResetVerdictOf First results (verdict.NotShown reason) = ⊥
+ResetVerdictOf First results (verdict.Limit (limit_at.Pair name)) = IsFirstLimit results name
+ResetVerdictOf First results (verdict.Limit other) = ⊥

@@ -101,7 +101,7 @@ module _ (a b : NetView) (conflicts : ℕ) (o : Outcome) (fits : ResetOutcomeFit
   -- the first difference, with its sequence and both power-ups
   module _ (w : ResetWitness) (f : IsFirstDifference numbers listed o.pairs w) where
     abbrev bits : ℕ → ℕ → Bool
-    bits = assigned same_shift f.witness.variables f.witness.bits
+    bits = assigned same_shift f.shown.witness.variables f.shown.witness.bits
 
     -- it is a pair of outputs
     outputs : IsOutputPair (circuit_of a) (circuit_of b) f.place
@@ -114,13 +114,13 @@ module _ (a b : NetView) (conflicts : ℕ) (o : Outcome) (fits : ResetOutcomeFit
     by_numbers : MakesDifferFromReset (circuit_of a) (circuit_of b) fits.left fits.right f.place.left f.place.right w.witness.stimulus.rows w.left_power w.right_power w.witness.cycle w.witness.left w.witness.right
     by_numbers =
         reset_witness_makes_differ (circuit_of a) (circuit_of b) fits.left fits.right fits.left_base fits.right_base f.place.left f.place.right (length columns) w.witness.stimulus.rows w.left_power w.right_power
-        w.witness.cycle w.witness.left w.witness.right left_starts right_starts fits.based f.witness
+        w.witness.cycle w.witness.left w.witness.right left_starts right_starts fits.based f.shown.witness
 
     -- a leaf that is an input is one that the sequence names
-    leaf_below : (tree : Tree ℕ) → Contains (f.witness.left_tree ∷ f.witness.right_tree ∷ []) tree → (i k : ℕ) → i < fits.left_base → HasLeaf (record { input = i; at = k }) tree → i < length columns
+    leaf_below : (tree : Tree ℕ) → Contains (f.shown.witness.left_tree ∷ f.shown.witness.right_tree ∷ []) tree → (i k : ℕ) → i < fits.left_base → HasLeaf (record { input = i; at = k }) tree → i < length columns
     leaf_below tree there i k below has =
-        go (All-contains (λ (v : Variable ℕ). (v.input < length columns) ⊎ (fits.left_base ≤ v.input)) f.witness.variables (record { input = i; at = k }) f.witness.inputs
-        ((f.witness.are_variables.exactly (record { input = i; at = k })).1 (tree, there, has)))
+        go (All-contains (λ (v : Variable ℕ). (v.input < length columns) ⊎ (fits.left_base ≤ v.input)) f.shown.witness.variables (record { input = i; at = k }) f.shown.witness.inputs
+        ((f.shown.witness.are_variables.exactly (record { input = i; at = k })).1 (tree, there, has)))
       where
         go : (i < length columns) ⊎ (fits.left_base ≤ i) → i < length columns
         go (inl h) = h
@@ -129,23 +129,23 @@ module _ (a b : NetView) (conflicts : ℕ) (o : Outcome) (fits : ResetOutcomeFit
     left_shows : (n : ℕ) (run : ℕ → ℕ → Bool) → w.witness.cycle < n → IsRun (circuit_of a) n run → TakesPower (circuit_of a) w.left_power run → Obeys (circuit_of a) w.witness.stimulus n run →
         run w.witness.cycle f.place.left ≡ w.witness.left
     left_shows n run below is_run takes obeys =
-        powered_value (circuit_of a) fits.left fits.right fits.left_base columns left_numbers left_starts w.witness f.names_are bits f.witness.rows_are w.left_power f.witness.left_power_is n run below is_run takes obeys
-        f.place.left f.witness.left_tree f.witness.left_unfolds
-        (λ q i k number leaf. leaf_below f.witness.left_tree (Contains-head f.witness.left_tree (f.witness.right_tree ∷ [])) i k (fits.based.left_inputs q i number) leaf) ∙ sym f.witness.left_value
+        powered_value (circuit_of a) fits.left fits.right fits.left_base columns left_numbers left_starts w.witness f.shown.names_are bits f.shown.witness.rows_are w.left_power f.shown.witness.left_power_is n run below is_run takes obeys
+        f.place.left f.shown.witness.left_tree f.shown.witness.left_unfolds
+        (λ q i k number leaf. leaf_below f.shown.witness.left_tree (Contains-head f.shown.witness.left_tree (f.shown.witness.right_tree ∷ [])) i k (fits.based.left_inputs q i number) leaf) ∙ sym f.shown.witness.left_value
 
     right_shows : (n : ℕ) (run : ℕ → ℕ → Bool) → w.witness.cycle < n → IsRun (circuit_of b) n run → TakesPower (circuit_of b) w.right_power run → Obeys (circuit_of b) w.witness.stimulus n run →
         run w.witness.cycle f.place.right ≡ w.witness.right
     right_shows n run below is_run takes obeys =
-        powered_value (circuit_of b) fits.right fits.left fits.right_base columns right_numbers right_starts w.witness f.names_are bits f.witness.rows_are w.right_power f.witness.right_power_is n run below is_run takes obeys
-        f.place.right f.witness.right_tree f.witness.right_unfolds
+        powered_value (circuit_of b) fits.right fits.left fits.right_base columns right_numbers right_starts w.witness f.shown.names_are bits f.shown.witness.rows_are w.right_power f.shown.witness.right_power_is n run below is_run takes obeys
+        f.place.right f.shown.witness.right_tree f.shown.witness.right_unfolds
         (λ q i k number leaf.
-        leaf_below f.witness.right_tree (Contains-tail f.witness.left_tree f.witness.right_tree (f.witness.right_tree ∷ []) (Contains-head f.witness.right_tree [])) i k (fits.based.right_inputs q i number) leaf)
-        ∙ sym f.witness.right_value
+        leaf_below f.shown.witness.right_tree (Contains-tail f.shown.witness.left_tree f.shown.witness.right_tree (f.shown.witness.right_tree ∷ []) (Contains-head f.shown.witness.right_tree [])) i k (fits.based.right_inputs q i number) leaf)
+        ∙ sym f.shown.witness.right_value
 
     -- in an earlier cycle the functions agree
     earlier : (n : ℕ) (left right : ℕ → ℕ → Bool) → AreAlikeFromReset (circuit_of a) (circuit_of b) n left right → (t : ℕ) → t < n → t < w.witness.cycle → left t f.place.left ≡ right t f.place.right
     earlier n left right alike t low before =
-        let e = f.agree_before t before in
+        let e = f.shown.cycle_is.1 t before in
         reset_same_at (circuit_of a) (circuit_of b) fits.left fits.right fits.left_base fits.right_base numbered fits.based left right n alike (λ (row : ℕ → Bool). Unit {0}) (λ s h row of_run. tt)
         f.place.left f.place.right t e.left_tree e.right_tree low e.left_unfolds e.right_unfolds (λ x cared. e.same x tt)
 
@@ -154,7 +154,7 @@ module _ (a b : NetView) (conflicts : ℕ) (o : Outcome) (fits : ResetOutcomeFit
       name = outputs.name;
       left_place = f.place.left;
       right_place = f.place.right;
-      named = f.named ∙ outputs.called;
+      named = f.shown.named ∙ outputs.called;
       left_output = outputs.left_output;
       right_output = outputs.right_output;
       differ = by_numbers.differ;

@@ -151,9 +151,10 @@ module _ (s : Setup) (b : Bases) (f : Functions) (h : AreSound s b f) where
           result_is = first.result_at;
           answered = first.answered;
           earlier = first.earlier;
-          named = is.sequence.pair_is ∙ z.2.name_is;
-          within = let e = is.sequence.cycle_is in omega (arith, e, le, size);
-          names_are = is.sequence.names_are;
-          agree_before = λ t below. agree_before s b f h.functions p o z.2 d.query q first.differs.first t (let e = is.sequence.cycle_is in omega (arith, below, e));
-          witness = is_witness p (own.left p member) (own.right p member) d.query k.0 k.1 q k.2 d.bits o.name w first.differs.differs is;
+          shown = record {
+            named = is.sequence.pair_is ∙ z.2.name_is;
+            names_are = is.sequence.names_are;
+            cycle_is = (let e = is.sequence.cycle_is in omega (arith, e, le, size), (λ t below. agree_before s b f h.functions p o z.2 d.query q first.differs.first t (let e = is.sequence.cycle_is in omega (arith, below, e))));
+            witness = is_witness p (own.left p member) (own.right p member) d.query k.0 k.1 q k.2 d.bits o.name w first.differs.differs is;
+          };
         }

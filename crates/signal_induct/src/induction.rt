@@ -16,7 +16,7 @@ use block_refine::latch_blocks::is_light;
 use flat_net::Net;
 use induct::InductError;
 use sec_base::{MAX_WEIGHT, NoMemory, Orders, Side};
-use signal_refine::{Assumed, Correspondence, SignalNets, correspond};
+use signal_refine::{Assumed, Correspondence, SignalNets, are_moved, correspond};
 use std::alloc::Global;
 
 /// Ties that are an inductive invariant of two circuits, and what they say of the outputs.
@@ -119,7 +119,7 @@ fn induct_light(
 }
 
 /// The same where all inputs' numbers are small. Where these ties don't make all outputs equal, values in the next cycle are tied too, and
-/// the ties count that make more of them equal.
+/// the ties count that make more of them equal. Where many flip-flops look as if they had been moved, these values are tied first.
 fn tie(
     alloc: Global,
     a: &Net,
@@ -138,16 +138,40 @@ fn tie(
     ensures made { IfOk result (IsInductionWhere (IsMet assumed.now (record { left = a.entry; right = b.entry; orders = orders.entry })) a.now b.now) }
     ensures agree { IfOk result (λ made. first_apart made.pairs ≡ None → AgreeFromResetWhere (IsMet assumed.now (record { left = a.entry; right = b.entry; orders = orders.entry })) (circuit_of a.now) (circuit_of b.now)) }
 {
-    let made = tie_by(alloc, a, b, orders, assumed, conflicts, false)?;
+    let moved = are_moved_apart(alloc, a, b, orders, assumed)?;
+    let made = tie_by(alloc, a, b, orders, assumed, conflicts, moved)?;
     let equal = equal_count(made.pairs.as_slice());
     if equal == made.pairs.as_slice().len() {
         return Ok(made);
     }
-    let more = tie_by(alloc, a, b, orders, assumed, conflicts, true)?;
+    let more = tie_by(alloc, a, b, orders, assumed, conflicts, !moved)?;
     if equal_count(more.pairs.as_slice()) > equal {
         return Ok(more);
     }
     Ok(made)
+}
+
+/// Whether many flip-flops look as if they had been moved, as a guess.
+fn are_moved_apart(
+    alloc: Global,
+    a: &Net,
+    b: &Net,
+    orders: &Orders,
+    assumed: &Assumed<'_>,
+) -> Result<bool, NoMemory>
+    requires orders { AreOrders (ports_of a.now) (ports_of b.now) orders.now.left orders.now.right }
+    requires light { (net_weight a.now ≤ MAX_WEIGHT) × (net_weight b.now ≤ MAX_WEIGHT) }
+    requires left_small { All (λ i. i < 2 ^ 30) orders.now.left }
+    requires right_small { All (λ i. i < 2 ^ 30) orders.now.right }
+{
+    a.keeps();
+    b.keeps();
+    let nets = SignalNets {
+        left: a,
+        right: b,
+        orders,
+    };
+    are_moved(alloc, &nets, assumed)
 }
 
 /// The same by ties of signals; if asked, by those of values in the next cycle too.

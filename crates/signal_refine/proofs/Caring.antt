@@ -29,6 +29,10 @@ care_more own read from g h care x i grows more own_within read_within inside in
     let before = one_before g h more own read (within_grows from g grows own own_within) (within_grows from g grows read read_within) a one in
     next a (is a before) (before i (get_or own i (record { 0 = 0 })) (get_or read i (record { 0 = 0 })) (slice_get-get_or own i (record { 0 = 0 }) inside) (slice_get-get_or read i (record { 0 = 0 }) inside'))
 
+-- what a literal of the grown graph is read as is one of it
+pub own_within : (before : NodeLits) (g h : List Node) → Grows g h → All (λ (x : Lit). x.0 < 2 * length g) before.read.items → (l own : Lit) → ((n : ℕ) → All (λ (x : Lit). x.0 < 2 * n) before.read.items → l.0 < 2 * n → own.0 < 2 * n) → l.0 < 2 * length h → own.0 < 2 * length h
+own_within before g h grows within l own is inside = is (length h) (within_grows g h grows before.read.items within) inside
+
 module _ (care : Lit) (before : NodeLits) (g h : List Node) (grows : Grows g h) (within : AreHeldWithin care before g) where
   pub held_grows : (a : ℕ → Bool) → IsHeld care before g a → IsHeld care before h a
   held_grows a held = (value-grows g h grows a care.0 within.0 ∙ held.0, one_after g h grows before.own.items before.read.items within.1 within.2 a held.1)

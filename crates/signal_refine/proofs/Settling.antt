@@ -35,7 +35,7 @@ tied_more anchors w n before now p less = go (which p n less)
 -- a node whose own literal is made of those before it, as `h` has it after its query in `g`
 module _ (base : List Node) (leaves : List Lit) (care : Lit) (before : NodeLits) (anchors : List Anchor) (from g h : List Node) (made : Grows from g) (grows : Grows g h) (old : List Lit) (n : ℕ) (each : length old ≡ n)
     (within : All (λ (x : Lit). x.0 < 2 * length from) old) (held : AreHeldWithin care before from) (own : Lit) (new : List Lit)
-    (own_value : (a c : ℕ → Bool) → HaveAt c from a leaves → HaveAt (node_at base c) from a old → value g a own.0 ≡ node_at base c n) where
+    (own_value : (a c : ℕ → Bool) → IsHeld care before g a → HaveAt c from a leaves → HaveAt (node_at base c) from a old → value g a own.0 ≡ node_at base c n) where
   pub swept_shown : (lit : Lit) → new ≡ old ++ lit ∷ [] → lit.0 < 2 * length h → IsShown base old care before anchors g own h lit → IsSwept base leaves care before anchors from old n true h new
   swept_shown lit new_is lit_within shown = record {
     grows = Grows-trans from g h made grows;
@@ -47,7 +47,9 @@ module _ (base : List Node) (leaves : List Lit) (care : Lit) (before : NodeLits)
   }
     where
       tells : (a c : ℕ → Bool) → IsHeld care before from a → HaveAt c from a leaves → HaveAt (node_at base c) from a old → (value h a lit.0 ≡ node_at base c (length old)) × IsTiedAt anchors (node_at base c) (length old)
-      tells a c on at read = shown a c (held_grows care before from g made held a on) (values_grow (node_at base c) from g made a old within read) (own_value a c at read ∙ ap (node_at base c) (sym each))
+      tells a c on at read =
+          let holds = held_grows care before from g made held a on in
+          shown a c holds (values_grow (node_at base c) from g made a old within read) (own_value a c holds at read ∙ ap (node_at base c) (sym each))
 
   pub swept_kept : new ≡ old ++ own ∷ [] → own.0 < 2 * length g → IsSwept base leaves care before anchors from old n false h new
   swept_kept new_is own_within = record {
@@ -55,6 +57,6 @@ module _ (base : List Node) (leaves : List Lit) (care : Lit) (before : NodeLits)
     lit = own;
     is = new_is;
     within = let more = Grows-length g h grows in omega (arith, more, own_within);
-    value_is = λ a c on at read. value-grows g h grows a own.0 own_within ∙ own_value a c at read;
+    value_is = λ a c on at read. value-grows g h grows a own.0 own_within ∙ own_value a c (held_grows care before from g made held a on) at read;
     shown = λ yes a c on at read. absurd (true≢false (sym yes));
   }

@@ -17,7 +17,7 @@ use sec_base::NoMemory;
 use std::alloc::Global;
 use sweep_candidates::Model;
 use swept_queries::node_agreement::Proved;
-use tie_candidates::{Classes, Frame, learn};
+use tie_candidates::{Classes, Frame, Substitution, learn};
 
 /// What is asked: of the nodes of `base`, whose variables have these literals, wherever the care is 1 and what nodes are read as in the cycle
 /// before has their values, with at most so many conflicts for each query.
@@ -29,6 +29,10 @@ pub(crate) struct Asked<'a> {
     pub before: &'a NodeLits,
     /// By what nodes are read so in the cycle before. No contract knows it.
     pub ties: &'a [Anchor],
+    /// Which variables have the values of gates then. No contract knows it.
+    pub gates: &'a Substitution,
+    /// At which place a node of the graph is read as another one in the cycle before. No contract knows it.
+    pub places: &'a [usize],
     /// What the care says. No contract knows it.
     pub assumed: Assumed<'a>,
     /// An input's variable is this and its number together. No contract knows it.
@@ -42,6 +46,7 @@ impl<'a> Asked<'a> {
         Frame {
             base: self.base,
             ties: self.ties,
+            gates: self.gates,
             premise: self.assumed.premise(),
             inputs: self.inputs,
         }

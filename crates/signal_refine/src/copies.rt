@@ -4,6 +4,7 @@ ghost use Rattle.std.specs.Prelude.{◌≡◌, ℕ, Bool, ◌*◌, ◌<◌, List
 ghost use Rattle.aig.specs.declared.node.Node.{Node};
 ghost use Rattle.aig.specs.Graph.{Grows};
 ghost use Rattle.aig.specs.Values.{value};
+ghost use Rattle.signal_refine.specs.Asking.{AreOne};
 ghost use Rattle.signal_refine.specs.Copies.{HaveAt, node_at, IsCopy, IsCopied, IsReadAs, AreCarried};
 
 use crate::anchors::anchor_literal;
@@ -73,6 +74,41 @@ impl NodeLits {
         self.own.push(own)?;
         self.read.push(read)?;
         Ok(())
+    }
+}
+
+/// For each node of a graph of so many the last place whose own literal is one of it, and that is read as another one; a place that there isn't,
+/// where there is none.
+pub(crate) fn places_of_own(
+    alloc: Global,
+    before: &NodeLits,
+    nodes: u32,
+) -> Result<Vec<usize>, NoMemory> {
+    let mut places = vec![in alloc; usize::MAX; nodes as usize]?;
+    for i in 0..before.own.len().min(before.read.len()) {
+        let n = before.own[i].node() as usize;
+        if n < places.len() && before.own[i].0 != before.read[i].0 {
+            places[n] = i;
+        }
+    }
+    Ok(places)
+}
+
+/// What the literal is read as, where it is one of a place's own literal.
+pub(crate) fn read_for(before: &NodeLits, places: &[usize], l: Lit) -> Lit
+    ensures value { (g : List Node) (a : ℕ → Bool) → AreOne before.now.own.items before.now.read.items g a → value g a result.0 ≡ value g a l.0 }
+    ensures within { (n : ℕ) → All (λ x. x.0 < 2 * n) before.now.read.items → l.0 < 2 * n → result.0 < 2 * n }
+{
+    let i = places.get(l.node() as usize).copied().unwrap_or(usize::MAX);
+    if i >= before.own.len() || i >= before.read.len() {
+        return l;
+    }
+    if before.own[i].0 == l.0 {
+        before.read[i]
+    } else if Aig::not(before.own[i]).0 == l.0 {
+        Aig::not(before.read[i])
+    } else {
+        l
     }
 }
 

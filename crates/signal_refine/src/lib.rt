@@ -19,4 +19,4 @@ mod told;
 
 pub use assumed::Assumed;
 pub use nets::SignalNets;
-pub use refinement::{Correspondence, correspond};
+pub use refinement::{Correspondence, are_moved, correspond};

@@ -10,7 +10,7 @@ ghost use Rattle.signal_refine.specs.Showing.{AreLits, AreReady, AreBelow, Begin
 use crate::ahead::put_ahead;
 use crate::ask::Asked;
 use crate::assumed::{Assumed, and_both, met_literal};
-use crate::copies::{NodeLits, carried, copy_of};
+use crate::copies::{NodeLits, carried, copy_of, places_of_own};
 use crate::facts::Facts;
 use crate::flops::flops_of;
 use crate::leaves::{Cycle, Latches, leaves_of};
@@ -22,7 +22,10 @@ use aig::{Aig, Lit};
 use circuit_laws::signal_laws::Anchor;
 use sec_base::{NoMemory, Orders};
 use std::alloc::Global;
-use tie_candidates::{Classes, candidates};
+use tie_candidates::{Classes, Substitution, candidates};
+
+/// How many signals are looked at first for flip-flops that were moved.
+const LARGE: usize = 4096;
 
 /// Ties that are an inductive invariant.
 #[derive(Drop)]
@@ -72,6 +75,34 @@ pub fn correspond(
         conflicts,
     };
     rounds(alloc, &round)
+}
+
+/// Whether many flip-flops of the two nets look as if they had been moved, so that values in the next cycle should be tied at once. It is a
+/// guess, for nets of thousands of signals.
+pub fn are_moved(
+    alloc: Global,
+    nets: &SignalNets<'_>,
+    assumed: &Assumed<'_>,
+) -> Result<bool, NoMemory>
+    requires { AreReady nets.now }
+{
+    nets.left.keeps();
+    nets.right.keeps();
+    if nets.places() < LARGE {
+        return Ok(false);
+    }
+    let first = first_latch(nets.orders);
+    let mut base = Aig::new(alloc)?;
+    let lits = put_signals(alloc, &mut base, nets, first, false)?;
+    let round = Round {
+        nets: *nets,
+        assumed: *assumed,
+        base: &base,
+        lits: &lits,
+        first,
+        conflicts: 0,
+    };
+    guessed(alloc, &round)?.are_apart(alloc, &base, first)
 }
 
 /// The signals' literals of the graph; if asked, with what nodes that read latches alone have in the next cycle as further nodes.
@@ -190,12 +221,16 @@ fn do_step(
     };
     let next = leaves_of(alloc, &mut facts.aig, &later, round.count())?;
     let care = step_care(alloc, &mut facts.aig, round, &leaves, &next)?;
+    let gates = Substitution::of(alloc, round.base, nodes)?;
+    let places = places_of_own(alloc, &now, facts.aig.size())?;
     let asked = Asked {
         base: round.base,
         leaves: &next,
         care,
         before: &now,
         ties: nodes,
+        gates: &gates,
+        places: &places,
         assumed: round.assumed,
         inputs: later.inputs,
         conflicts: round.conflicts,
@@ -249,12 +284,15 @@ fn do_begin(
     let leaves = leaves_of(alloc, &mut facts.aig, &cycle, round.count())?;
     let care = met_literal(alloc, &mut facts.aig, &round.assumed, &leaves)?;
     let before = NodeLits::new(alloc);
+    let gates = Substitution::new(alloc);
     let asked = Asked {
         base: round.base,
         leaves: &leaves,
         care,
         before: &before,
         ties: &[],
+        gates: &gates,
+        places: &[],
         assumed: round.assumed,
         inputs: 0,
         conflicts: round.conflicts,

@@ -7,7 +7,7 @@ ghost use Rattle.signal_refine.specs.Asking.{AreKnown, AreHeldWithin, IsShown, I
 
 use crate::anchors::anchor_literal;
 use crate::ask::{Answer, Asked, ask};
-use crate::copies::node_literal;
+use crate::copies::{node_literal, read_for};
 use crate::facts::Facts;
 use aig::Lit;
 use circuit_laws::signal_laws::Anchor;
@@ -93,7 +93,8 @@ fn sweep_node(
     ensures known { OnOk result (AreKnown facts.new) }
 {
     let made = node_literal(&mut facts.aig, asked.base, asked.leaves, read, n)?;
-    let own = facts.kept_for(made);
+    let kept = facts.kept_for(made);
+    let own = read_for(asked.before, asked.places, kept);
     let shown = try_tie(alloc, classes, facts, asked, anchors, read, own)?;
     match shown {
         Some(lit) => {

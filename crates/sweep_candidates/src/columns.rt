@@ -29,6 +29,22 @@ impl Column {
         })
     }
 
+    /// The same where in each assignment one of eight of the model's variables is turned, at random.
+    pub(crate) fn about(
+        alloc: Global,
+        words: &[u64],
+        round: usize,
+        model: &Model,
+    ) -> Result<Column, NoMemory> {
+        let mut inputs = vec![in alloc; 0u64; words.len() / 8]?;
+        put_random(inputs.as_mut_slice(), words, round);
+        turn_some(inputs.as_mut_slice(), words, round, model);
+        Ok(Column {
+            inputs,
+            values: Vec::new(alloc),
+        })
+    }
+
     /// Puts the values of one more node behind the others'.
     pub(crate) fn add(&mut self, node: Node) -> Result<u64, NoMemory> {
         let value = match node {
@@ -88,5 +104,27 @@ fn turn(inputs: &mut [u64], vars: &[u32], place: usize, assignment: usize) {
     {
         let v = *v as usize;
         inputs[v] ^= 1u64 << (assignment as u32);
+    }
+}
+
+/// Gives the model's variables its bits, with one of eight turned at random.
+fn turn_some(inputs: &mut [u64], words: &[u64], round: usize, model: &Model) {
+    let vars = model.vars.as_slice();
+    for i in 0..vars.len().min(model.bits.len()) {
+        let v = vars[i] as usize;
+        if v < inputs.len() {
+            let bits = if model.bits[i] { u64::MAX } else { 0 };
+            let first = word_at(
+                words,
+                v.saturating_mul(8)
+                    .saturating_add(round.wrapping_add(1) % 8),
+            );
+            let second = word_at(
+                words,
+                v.saturating_mul(8)
+                    .saturating_add(round.wrapping_add(3) % 8),
+            );
+            inputs[v] = bits ^ inputs[v] & first & second;
+        }
     }
 }

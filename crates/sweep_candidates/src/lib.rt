@@ -4,6 +4,7 @@
 
 pub mod case_split;
 mod columns;
+mod drawn;
 mod facts;
 mod first_nodes;
 mod guide;

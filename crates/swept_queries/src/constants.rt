@@ -6,6 +6,7 @@ ghost use Rattle.swept_queries.specs.InStead.{MayBeWithin, AreKnownWithin};
 
 use crate::choice::chosen;
 use crate::node_agreement::{Budget, Guide, Hints, Model, Proved, prove_wholly};
+use crate::rounds::more_words;
 use crate::sides::{Known, Sides};
 use crate::sweep::{Aig, Ids, Lit, NoMemory};
 use crate::targets::{is_any_left, is_any_told, lits_of};
@@ -15,8 +16,9 @@ use std::alloc::Global;
 /// The least conflicts with which constants are looked for.
 const LEAST: u32 = 2_000;
 
-/// Eight words for each variable: those that are drawn, with assignments near these models. Where they tell none of the queries apart, and
-/// assignments near one that gives some node the value that it has under none of them do, the last of the eight are those of these.
+/// Eight words for each variable: those that are drawn, with assignments near these models. Where they tell some of the queries apart, others
+/// are drawn that tell more. Where they tell none, and assignments near one that gives some node the value that it has under none of them do,
+/// the last of the eight are those of these.
 pub(crate) fn tried_words(
     alloc: Global,
     aig: &Aig,
@@ -30,8 +32,11 @@ pub(crate) fn tried_words(
     let mut words = seeded_words(alloc, aig.vars())?;
     put_models(words.as_mut_slice(), models);
     let known = chosen(alloc, aig, given, words.as_slice())?;
-    if conflicts < LEAST || is_any_told(known.as_slice()) || !is_any_left(known.as_slice()) {
+    if conflicts < LEAST || !is_any_left(known.as_slice()) {
         return Ok(words);
+    }
+    if is_any_told(known.as_slice()) {
+        return more_words(alloc, aig, given, words);
     }
     let cone = cone_of(alloc, aig, known.as_slice())?;
     let mut looks = Looks::new(alloc, aig, words.as_slice())?;

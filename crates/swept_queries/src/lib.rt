@@ -8,6 +8,7 @@ pub mod node_agreement;
 mod queries;
 mod query;
 mod roots;
+mod rounds;
 mod sides;
 pub mod sweep;
 mod targets;

@@ -43,9 +43,9 @@ impl Drop for SweptQueries {
     }
 }
 
-/// Tries 512 assignments on the given queries, of which 64 are near each of these models, or some near one that gives a node its rare value,
-/// and sweeps the graph, with at most so many conflicts, for those that aren't told apart and whose sides are different literals. Where
-/// there is none, nothing is swept.
+/// Tries 512 assignments on the given queries, of which 64 are near each of these models, or near one that gives a node its rare value, or
+/// drawn anew where some query is told apart, and sweeps the graph, with at most so many conflicts, for those that aren't told apart and
+/// whose sides are different literals. Where there is none, nothing is swept.
 pub fn sweep_queries(
     alloc: Global,
     aig: &Aig,

@@ -42,7 +42,7 @@ pub(crate) fn bits_at(
 }
 
 /// The bit of the variable.
-fn bit_at(words: &[u64], v: u32, lane: u32) -> bool
+pub(crate) fn bit_at(words: &[u64], v: u32, lane: u32) -> bool
     ensures { result ≡ word_lane words.now lane v }
 {
     let place = 8 * (v as usize) + (lane / 64) as usize;

@@ -3,7 +3,7 @@
 use crate::lanes::{hashed, in_all, word_at};
 use crate::marks::{Marks, pick_all};
 use crate::runs::Runs;
-use aig::NoMemory;
+use aig::{Aig, NoMemory, Node};
 use base_tables::PlaceTable;
 use circuit_laws::signal_laws::Anchor;
 use std::alloc::Global;
@@ -146,6 +146,36 @@ impl Classes {
         self.put(self.asked.0, class)
     }
 
+    /// How many entries each class has.
+    fn sizes(&self, alloc: Global) -> Result<Vec<u32>, NoMemory> {
+        let mut sizes = vec![in alloc; 0u32; self.firsts.len()]?;
+        for entry in 0..self.blocks.len() {
+            let block = self.blocks[entry] as usize;
+            if block < sizes.len() {
+                sizes[block] = sizes[block].saturating_add(1);
+            }
+        }
+        Ok(sizes)
+    }
+
+    /// Whether a quarter of the flip-flops or more are in classes of their own, where the first so many variables are the inputs': then they
+    /// may have been moved, and have what no node has in the same cycle.
+    pub fn are_apart(&self, alloc: Global, base: &Aig, inputs: u32) -> Result<bool, NoMemory> {
+        let sizes = self.sizes(alloc)?;
+        let mut flops = 0usize;
+        let mut apart = 0usize;
+        for n in 0..base.size() {
+            if is_behind(base.node(n), inputs) {
+                let block = self.block_of((n as usize).saturating_add(1)) as usize;
+                flops = flops.saturating_add(1);
+                if sizes.get(block).copied() == Some(1) {
+                    apart = apart.saturating_add(1);
+                }
+            }
+        }
+        Ok(apart > 0 && apart >= flops / 4)
+    }
+
     /// What each node is tied to: the first of its class.
     pub fn anchors(&self, alloc: Global) -> Result<Vec<Anchor>, NoMemory> {
         let mut anchors = Vec::new(alloc);
@@ -166,6 +196,14 @@ impl Classes {
             place: first.saturating_sub(1),
             flipped,
         }
+    }
+}
+
+/// Whether the node is a variable's behind so many.
+fn is_behind(node: Node, inputs: u32) -> bool {
+    match node {
+        Node::Input(v) => v >= inputs,
+        _ => false,
     }
 }
 

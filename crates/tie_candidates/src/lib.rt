@@ -8,8 +8,10 @@ mod marks;
 mod runs;
 mod scenes;
 mod stage;
+mod substitution;
 
 pub use classes::Classes;
 pub use marks::Marks;
 pub use runs::{Flop, Premise, candidates};
 pub use scenes::{Frame, Lesson, learn, no_model};
+pub use substitution::Substitution;

@@ -12,6 +12,9 @@ use std::alloc::Global;
 /// The runs in which all of a model's variables have its bits.
 pub(crate) const LIKE: u64 = 0xFFFF_FFFF;
 
+/// How often variables get the values of gates at most.
+const MOST_PASSES: usize = 16;
+
 /// In which runs nodes' ties don't hold, by the nodes' numbers.
 #[derive(Drop)]
 pub struct Marks {
@@ -35,6 +38,15 @@ impl Marks {
         frame: &Frame<'_>,
         stage: &mut Stage,
     ) -> Result<Marks, NoMemory> {
+        for _n in 0..frame.gates.depth.min(MOST_PASSES) {
+            let _marks = Marks::pass(alloc, frame, stage)?;
+            substitute(frame, stage);
+        }
+        Marks::pass(alloc, frame, stage)
+    }
+
+    /// The same, where each variable that a gate is tied to has its value already.
+    fn pass(alloc: Global, frame: &Frame<'_>, stage: &mut Stage) -> Result<Marks, NoMemory> {
         let mut marks = Marks::new(alloc);
         for n in 0..frame.base.size() {
             marks.put(frame, stage, n)?;
@@ -80,6 +92,17 @@ impl Marks {
             }
         }
         left < most
+    }
+}
+
+/// Gives variables the values of their gates.
+fn substitute(frame: &Frame<'_>, stage: &mut Stage) {
+    for i in 0..frame.gates.list.len() {
+        let it = frame.gates.list[i];
+        if it.gate < frame.base.size() {
+            let word = stage.value_of(frame.base.node(it.gate)) ^ in_all(it.flipped);
+            stage.put(it.variable as usize, word);
+        }
     }
 }
 

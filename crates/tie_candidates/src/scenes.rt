@@ -5,6 +5,7 @@ use crate::classes::Classes;
 use crate::lanes::in_all;
 use crate::marks::Marks;
 use crate::runs::{Premise, Runs};
+use crate::substitution::Substitution;
 use aig::{Aig, NoMemory};
 use circuit_laws::signal_laws::Anchor;
 use rand_core::Rng;
@@ -31,6 +32,8 @@ pub struct Frame<'a> {
     pub base: &'a Aig,
     /// The ties that hold in the cycle before; none where there is no such cycle, and flip-flops have their initial values.
     pub ties: &'a [Anchor],
+    /// Which variables have the values of gates in it.
+    pub gates: &'a Substitution,
     /// What inputs meet in both cycles.
     pub premise: Premise<'a>,
     /// Behind how many variables of a model those of the inputs in the cycle stand that is asked. The first ones are the graph's, in the

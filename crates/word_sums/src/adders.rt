@@ -6,7 +6,8 @@ ghost use Rattle.aig.specs.Graph.{Grows};
 
 use crate::cut_lists::{CUTS, cut_at, cuts_of, is_none, table_of};
 use crate::cuts::{Cut, NO_LEAF};
-use crate::rewriting::{MINUS_ONE, Rule, term};
+use crate::rewriting::{MINUS_ONE, Rule, Rules, term};
+use crate::sides::{LEFT, RIGHT, mark_later, sides_at, sides_of};
 use aig::{Aig, Lit, NoMemory};
 use std::alloc::Global;
 
@@ -17,10 +18,10 @@ const ROOM: u32 = 1 << 29;
 const MINUS_TWO: u64 = u64::MAX - 1;
 
 /// The values of a sum of three leaves.
-const SUM: u32 = 0x96;
+pub(crate) const SUM: u32 = 0x96;
 
 /// Those of its complement.
-const NOT_SUM: u32 = 0x69;
+pub(crate) const NOT_SUM: u32 = 0x69;
 
 /// The values of a sum of two leaves.
 const HALF_SUM: u32 = 0x66;
@@ -28,18 +29,46 @@ const HALF_SUM: u32 = 0x66;
 /// Those of its complement.
 const NOT_HALF_SUM: u32 = 0x99;
 
-/// A rule for each node that is a sum or a carry of an adder, or an and with a complemented operand, in the order of the nodes. Carries
-/// that the graph doesn't have are made.
-pub(crate) fn rules_of(alloc: Global, graph: &mut Aig) -> Result<Vec<Rule>, NoMemory>
+/// For each of both words a rule for each node that it reads and that is a sum or a carry of an adder, or an and with a complemented
+/// operand, in the order of the nodes. Carries that the graph doesn't have are made.
+pub(crate) fn rules_of(
+    alloc: Global,
+    graph: &mut Aig,
+    left: &[Lit],
+    right: &[Lit],
+) -> Result<Rules, NoMemory>
     ensures { Grows graph.old graph.new }
 {
     let cuts = cuts_of(alloc, graph)?;
     let size = graph.size();
-    make_carries(graph, cuts.as_slice(), size)?;
-    let known = graph.size();
+    let mut sides = sides_of(alloc, graph, left, right)?;
+    make_carries(graph, cuts.as_slice(), size, &mut sides)?;
+    let own = rules_by(alloc, graph, cuts.as_slice(), size, sides.as_slice(), LEFT)?;
+    let other = rules_by(alloc, graph, cuts.as_slice(), size, sides.as_slice(), RIGHT)?;
+    Ok(Rules {
+        left: own,
+        right: other,
+    })
+}
+
+/// The rules of one word.
+fn rules_by(
+    alloc: Global,
+    graph: &mut Aig,
+    cuts: &[Cut],
+    size: u32,
+    sides: &[u8],
+    by: u8,
+) -> Result<Vec<Rule>, NoMemory>
+    ensures { Grows graph.old graph.new }
+{
     let mut rules = Vec::new(alloc);
     for n in 0..size {
-        let found = rule_of(graph, cuts.as_slice(), n, known)?;
+        let found = if sides_at(sides, n) & by == 0 {
+            None
+        } else {
+            rule_of(graph, cuts, n, sides, by)?
+        };
         if let Some(rule) = found {
             rules.push(rule)?;
         }
@@ -48,42 +77,59 @@ pub(crate) fn rules_of(alloc: Global, graph: &mut Aig) -> Result<Vec<Rule>, NoMe
 }
 
 /// Makes the carry of each cut over which a node is one, or one of complements.
-fn make_carries(graph: &mut Aig, cuts: &[Cut], size: u32) -> Result<(), NoMemory>
+fn make_carries(
+    graph: &mut Aig,
+    cuts: &[Cut],
+    size: u32,
+    sides: &mut Vec<u8>,
+) -> Result<(), NoMemory>
     ensures { Grows graph.old graph.new }
 {
     for n in 0..size {
-        make_carries_of(graph, cuts, n)?;
+        make_carries_of(graph, cuts, n, sides)?;
     }
     Ok(())
 }
 
 /// The same of the cuts of one node.
-fn make_carries_of(graph: &mut Aig, cuts: &[Cut], n: u32) -> Result<(), NoMemory>
+fn make_carries_of(
+    graph: &mut Aig,
+    cuts: &[Cut],
+    n: u32,
+    sides: &mut Vec<u8>,
+) -> Result<(), NoMemory>
     ensures { Grows graph.old graph.new }
 {
     for k in 0..CUTS as u32 {
-        make_carry(graph, cut_at(cuts, n, k), n)?;
+        make_carry(graph, cut_at(cuts, n, k), n, sides)?;
     }
     Ok(())
 }
 
-/// The same of one cut.
-fn make_carry(graph: &mut Aig, cut: Cut, n: u32) -> Result<(), NoMemory>
+/// The same of one cut. The words that read the node read the carry.
+fn make_carry(graph: &mut Aig, cut: Cut, n: u32, sides: &mut Vec<u8>) -> Result<(), NoMemory>
     ensures { Grows graph.old graph.new }
 {
     let fits = cut.third != NO_LEAF && is_carry(values(graph, cut, n));
     if !fits {
         return Ok(());
     }
-    carry_of(graph, cut)?;
-    Ok(())
+    let carry = carry_of(graph, cut)?;
+    let by = sides_at(sides.as_slice(), n);
+    mark_later(sides, graph.size(), carry.node(), by)
 }
 
-/// The node's rule: by a full adder whose carry the graph had, else by a half adder, else by the and.
-fn rule_of(graph: &mut Aig, cuts: &[Cut], n: u32, known: u32) -> Result<Option<Rule>, NoMemory>
+/// The node's rule: by a full adder whose carry the word reads, else by a half adder, else by the and.
+fn rule_of(
+    graph: &mut Aig,
+    cuts: &[Cut],
+    n: u32,
+    sides: &[u8],
+    by: u8,
+) -> Result<Option<Rule>, NoMemory>
     ensures { Grows graph.old graph.new }
 {
-    let full = full_rule(graph, cuts, n, known)?;
+    let full = full_rule(graph, cuts, n, sides, by)?;
     if full.is_some() {
         return Ok(full);
     }
@@ -94,12 +140,18 @@ fn rule_of(graph: &mut Aig, cuts: &[Cut], n: u32, known: u32) -> Result<Option<R
     half_rule(graph, cuts, n, false)
 }
 
-/// By a cut of three leaves over which the node is their sum or carry. The carry has a number below the one that is given.
-fn full_rule(graph: &mut Aig, cuts: &[Cut], n: u32, known: u32) -> Result<Option<Rule>, NoMemory>
+/// By a cut of three leaves over which the node is their sum or carry.
+fn full_rule(
+    graph: &mut Aig,
+    cuts: &[Cut],
+    n: u32,
+    sides: &[u8],
+    by: u8,
+) -> Result<Option<Rule>, NoMemory>
     ensures { Grows graph.old graph.new }
 {
     for k in 0..CUTS as u32 {
-        let found = full_rule_by(graph, cut_at(cuts, n, k), n, known)?;
+        let found = full_rule_by(graph, cut_at(cuts, n, k), n, sides, by)?;
         if found.is_some() {
             return Ok(found);
         }
@@ -108,7 +160,13 @@ fn full_rule(graph: &mut Aig, cuts: &[Cut], n: u32, known: u32) -> Result<Option
 }
 
 /// The same of one cut.
-fn full_rule_by(graph: &mut Aig, cut: Cut, n: u32, known: u32) -> Result<Option<Rule>, NoMemory>
+fn full_rule_by(
+    graph: &mut Aig,
+    cut: Cut,
+    n: u32,
+    sides: &[u8],
+    by: u8,
+) -> Result<Option<Rule>, NoMemory>
     ensures { Grows graph.old graph.new }
 {
     if cut.third == NO_LEAF {
@@ -120,7 +178,7 @@ fn full_rule_by(graph: &mut Aig, cut: Cut, n: u32, known: u32) -> Result<Option<
         return Ok(None);
     }
     let carry = carry_of(graph, cut)?;
-    if carry.node() >= known {
+    if sides_at(sides, carry.node()) & by == 0 {
         return Ok(None);
     }
     Ok(Some(rule_by(n, cut, table, carry)))
@@ -157,7 +215,7 @@ fn half_rule_by(graph: &mut Aig, cut: Cut, n: u32, sum: bool) -> Result<Option<R
 }
 
 /// Whether these are the values of a sum of two leaves or its complement, or else of an and with a complemented operand.
-fn is_half(table: u32, sum: bool) -> bool {
+pub(crate) fn is_half(table: u32, sum: bool) -> bool {
     if sum {
         table == HALF_SUM || table == NOT_HALF_SUM
     } else {
@@ -166,7 +224,7 @@ fn is_half(table: u32, sum: bool) -> bool {
 }
 
 /// The node's values over the cut, or 0.
-fn values(graph: &Aig, cut: Cut, n: u32) -> u32 {
+pub(crate) fn values(graph: &Aig, cut: Cut, n: u32) -> u32 {
     if is_none(cut) || n >= graph.size() {
         return 0;
     }
@@ -174,7 +232,7 @@ fn values(graph: &Aig, cut: Cut, n: u32) -> u32 {
 }
 
 /// Whether these are the values of a carry, or of one with a complemented leaf, or of the complement of one of these.
-fn is_carry(table: u32) -> bool {
+pub(crate) fn is_carry(table: u32) -> bool {
     match table {
         0xE8 | 0x17 | 0xD4 | 0x2B | 0xB2 | 0x4D | 0x8E | 0x71 => true,
         _ => false,
@@ -219,7 +277,7 @@ fn weights(table: u32) -> [u64; 5] {
 }
 
 /// The literal of the node, or 0 for no leaf.
-fn node_lit(n: u32) -> Lit {
+pub(crate) fn node_lit(n: u32) -> Lit {
     if n == NO_LEAF {
         Lit::FALSE
     } else {
@@ -231,13 +289,25 @@ fn node_lit(n: u32) -> Lit {
 fn carry_of(graph: &mut Aig, cut: Cut) -> Result<Lit, NoMemory>
     ensures { Grows graph.old graph.new }
 {
-    let (a, b) = (node_lit(cut.first), node_lit(cut.second));
+    majority(
+        graph,
+        node_lit(cut.first),
+        node_lit(cut.second),
+        node_lit(cut.third),
+    )
+}
+
+/// The majority of three literals: the and of two where the third is 0. Where they aren't the graph's or there is no room it is another
+/// literal.
+pub fn majority(graph: &mut Aig, a: Lit, b: Lit, c: Lit) -> Result<Lit, NoMemory>
+    ensures { Grows graph.old graph.new }
+{
     let both = and_of(graph, a, b)?;
-    if cut.third == NO_LEAF {
+    if c == Lit::FALSE {
         return Ok(both);
     }
     let neither = and_of(graph, Aig::not(a), Aig::not(b))?;
-    let either = and_of(graph, node_lit(cut.third), Aig::not(neither))?;
+    let either = and_of(graph, c, Aig::not(neither))?;
     let none = and_of(graph, Aig::not(both), Aig::not(either))?;
     Ok(Aig::not(none))
 }

@@ -4,13 +4,17 @@
 
 mod adders;
 mod answer;
+mod carries;
 mod coefficients;
 mod cut_lists;
 mod cuts;
 mod difference;
 mod rewriting;
+mod sides;
 mod vanishing;
 mod words;
 
+pub use adders::majority;
 pub use answer::Words;
+pub use carries::{Carry, guessed_carries};
 pub use words::{MAX_WORD, same_words};

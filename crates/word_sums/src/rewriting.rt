@@ -19,6 +19,13 @@ pub(crate) struct Rule {
     pub(crate) terms: [Term; 6],
 }
 
+/// The rules of both words.
+#[derive(Drop)]
+pub(crate) struct Rules {
+    pub(crate) left: Vec<Rule>,
+    pub(crate) right: Vec<Rule>,
+}
+
 /// How many nodes that are left are told at most.
 const TRIES: usize = 64;
 
@@ -26,14 +33,15 @@ const TRIES: usize = 64;
 pub(crate) const MINUS_ONE: u64 = u64::MAX;
 
 /// None where two words of one length, 1 to 64 bits, are shown to have equal bits under every assignment; else node 0 and some of the nodes
-/// that are left of their difference. The rules are used once each, from the last to the first. It gives up where about so many terms are
-/// left.
+/// that are left of their difference. The left word is put and rewritten by its rules, and then the right one by its own, since a node that
+/// both read may be of another adder in each. The rules are used once each, from the last to the first. A word is given up where about so
+/// many terms are left.
 pub(crate) fn left_over(
     alloc: Global,
     graph: &Aig,
     left: &[Lit],
     right: &[Lit],
-    rules: &[Rule],
+    rules: &Rules,
     terms: usize,
 ) -> Result<Option<Vec<u32>>, NoMemory>
     requires left { All (λ l. l.0 < 2 * length graph.now) left.now }
@@ -45,11 +53,13 @@ pub(crate) fn left_over(
 {
     graph.keeps();
     let mut coefficients = vec![in alloc; 0u64; 2 * (graph.size() as usize)]?;
+    let zeros = vec![in alloc; Lit::FALSE; left.len()]?;
     let same = cancel_out(
         graph,
         coefficients.as_mut_slice(),
         left,
         right,
+        zeros.as_slice(),
         rules,
         terms,
     );
@@ -72,18 +82,22 @@ fn nodes_of(alloc: Global, coefficients: &[u64]) -> Result<Vec<u32>, NoMemory> {
     Ok(nodes)
 }
 
-/// Whether nothing is left of the difference of both words, where no literal has a coefficient yet. What is left has one then.
+/// Whether nothing is left of the difference of both words, where no literal has a coefficient yet. What is left has one then. Each word is
+/// put beside a third one, which is taken away and comes again.
 fn cancel_out(
     graph: &Aig,
     coefficients: &mut [u64],
     left: &[Lit],
     right: &[Lit],
-    rules: &[Rule],
+    zeros: &[Lit],
+    rules: &Rules,
     terms: usize,
 ) -> bool
     requires left { All (λ l. l.0 < 2 * length graph.now) left.now }
     requires right { All (λ l. l.0 < 2 * length graph.now) right.now }
+    requires zeros { All (λ l. l.0 < 2 * length graph.now) zeros.now }
     requires lengths { length left.now ≡ length right.now }
+    requires also { length zeros.now ≡ length left.now }
     requires some { 0 < length left.now }
     requires few { length left.now ≤ 64 }
     requires places { length coefficients.old ≡ 2 * length graph.now }
@@ -92,8 +106,10 @@ fn cancel_out(
     ensures same { IsTrue result → (a : ℕ → Bool) → word_bits (value graph.now a) left.now ≡ word_bits (value graph.now a) right.now }
 {
     let times = scale_of(left.len());
-    put_words(coefficients, left, right, times);
-    rewrite(graph, coefficients, rules, terms);
+    put_words(coefficients, left, zeros, times);
+    rewrite(graph, coefficients, rules.left.as_slice(), terms);
+    put_words(coefficients, zeros, right, times);
+    rewrite(graph, coefficients, rules.right.as_slice(), terms);
     clear_complements(graph, coefficients);
     is_empty(coefficients)
 }

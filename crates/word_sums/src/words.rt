@@ -15,7 +15,7 @@ use std::alloc::Global;
 /// The greatest number of bits of a word.
 pub const MAX_WORD: usize = 64;
 
-/// Whether two words of one length, with the lowest bit first, spell one number under every assignment: their difference is rewritten by
+/// Whether two words of one length, with the lowest bit first, spell one number under every assignment: each is rewritten by
 /// half and full adders, with coefficients modulo 2^n for words of n bits, until no literal is left. Where some are, some
 /// assignments are tried. Words of no bit or of more than 64 are left open, and so is a difference of about so many terms or more. It works
 /// on a copy of the graph.
@@ -55,14 +55,19 @@ fn told(
     let mut copy = copy_graph(alloc, graph)?;
     let own_left = copies_of(alloc, copy.lits.as_slice(), left)?;
     let own_right = copies_of(alloc, copy.lits.as_slice(), right)?;
-    let rules = rules_of(alloc, &mut copy.aig)?;
+    let rules = rules_of(
+        alloc,
+        &mut copy.aig,
+        own_left.as_slice(),
+        own_right.as_slice(),
+    )?;
     copy.aig.keeps();
     let rest = left_over(
         alloc,
         &copy.aig,
         own_left.as_slice(),
         own_right.as_slice(),
-        rules.as_slice(),
+        &rules,
         terms,
     )?;
     match rest {

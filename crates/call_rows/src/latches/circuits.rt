@@ -6,7 +6,7 @@ ghost use Rattle.call_rows.specs.Starts.{IsStart};
 
 use crate::latches::numbers::numbers;
 use circuit_theory::Mode;
-use class_search::event_order::have_depths;
+use class_search::event_order::{have_depths, signal_depths};
 use event_nodes::EventCircuit;
 use flat_net::Net;
 use latch_graph::LatchGraph;
@@ -51,7 +51,8 @@ fn begun(alloc: Global, net: Net, enabled: Bits) -> Result<EventCircuit, NoMemor
     net.keeps();
     let order = numbers(alloc, net.inputs().len())?;
     let classes = zeros(alloc, net.latches().len())?;
-    Ok(EventCircuit::new(alloc, net, enabled, order, classes))
+    let depths = signal_depths(alloc, &net, &enabled)?;
+    Ok(EventCircuit::new(net, enabled, order, classes, depths))
 }
 
 /// So many zeros.

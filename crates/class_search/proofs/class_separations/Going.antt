@@ -1,13 +1,11 @@
 -- What tells classes apart, while the event graph grows and latches are given classes.
-use Rattle.std.proofs.Common.{◌≡◌, ◌≢◌, ◌∙◌, ◌+◌, ◌<◌, ◌≤◌, ℕ, zero, suc, Bool, true, false, List, [], ◌∷◌, ◌++◌, length, slice_get, slice_set, Option, Some, None, refl, sym, ap, subst, arith, inl, inr, length-append}
+use Rattle.std.proofs.Common.{◌≡◌, ◌≢◌, ◌∙◌, ◌+◌, ◌<◌, ◌≤◌, ℕ, zero, suc, Bool, List, [], ◌∷◌, ◌++◌, length, slice_get, slice_set, Option, Some, None, refl, sym, ap, subst, arith, inl, inr, length-append}
 use Rattle.std.specs.Prelude.{◌⊎◌, not, Contains}
 use Rattle.std.specs.List.{All}
 use Rattle.std.proofs.lemmas.List.Elements.{Contains-append_left, Contains-append_right}
 use Rattle.std.proofs.lemmas.Option.{slice_get_within}
-use Rattle.circuit_theory.specs.Depth.{LatchesHaveDepths}
 use Rattle.circuit_theory.specs.Joined.{Either}
 use Rattle.circuit_theory.specs.Query.{Variable}
-use Rattle.circuit_theory.specs.Run.{IsEnabled}
 use Rattle.circuit_theory.proofs.Lists.{Contains-head}
 use Rattle.circuit_theory.specs.EventFrames.{IsClassTree, AreNodeVariables, IsSeparation, IsSeparationFromAlways}
 use Rattle.circuit_theory.specs.Frame.{EventSide}
@@ -28,7 +26,6 @@ use Rattle.class_search.specs.declared.class.Class.{Class}
 use Rattle.class_search.specs.declared.told.Difference.{Difference}
 use Rattle.class_search.specs.declared.told.Told.{Told}
 use Rattle.circuit_laws.specs.reset_laws.class_extension.Laws.{IsNextGiven}
-use Rattle.circuit_laws.specs.reset_laws.class_extension.Telling.{TellsApart, TellsFromAlways}
 use Rattle.circuit_laws.proofs.reset_laws.class_extension.Keeping.{variables_stay_in_nets, separations_stay_in_nets, separations_begin_in_nets}
 use Rattle.class_search.specs.declared.class_separations.apart.Apart.{Apart}
 use Rattle.class_search.specs.class_separations.Telling.{HasKept, IsApartOf, always_apart}

@@ -1,5 +1,5 @@
 -- A least frame that tells enables apart is the least one whatever class the next latch is given.
-use Rattle.std.proofs.Common.{◌≡◌, ◌<◌, ◌≤◌, ℕ, Bool, List, [], ◌∷◌, ◌++◌, sym, ap, arith, true}
+use Rattle.std.proofs.Common.{◌≡◌, ◌≤◌, ℕ, Bool, List, [], ◌∷◌, ◌++◌, sym, ap, arith, true}
 use Rattle.std.specs.List.{Contains}
 use Rattle.circuit_theory.specs.Circuit.{Circuit, IsSingleDriven}
 use Rattle.circuit_theory.specs.EventFits.{side_by_side}

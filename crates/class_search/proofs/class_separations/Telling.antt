@@ -1,10 +1,10 @@
 -- What the answers to class queries tell apart.
-use Rattle.std.proofs.Common.{◌≡◌, ◌≢◌, ◌∙◌, ◌*◌, ◌<◌, ◌≤◌, ℕ, Bool, true, false, List, [], ◌∷◌, ◌++◌, length, slice_get, Some, refl, sym, ap, subst, arith, inl, inr}
+use Rattle.std.proofs.Common.{◌≡◌, ◌≢◌, ◌∙◌, ◌<◌, ◌≤◌, ℕ, Bool, true, false, List, ◌∷◌, ◌++◌, length, refl, sym, ap, subst}
 use Rattle.std.specs.Prelude.{◌&&◌, not, Contains}
-use Rattle.std.specs.List.{All, AllPairs}
+use Rattle.std.specs.List.{All}
 use Rattle.circuit_theory.specs.Joined.{Either}
-use Rattle.circuit_theory.specs.Query.{Variable, bits_of}
-use Rattle.circuit_theory.proofs.Lists.{length-map, only, Contains-head}
+use Rattle.circuit_theory.specs.Query.{bits_of}
+use Rattle.circuit_theory.proofs.Lists.{length-map}
 use Rattle.circuit_theory.specs.Classes.{EnableAtRoot, EnablesEqual}
 use Rattle.circuit_theory.specs.EventFrames.{IsClassTree, AreNodeVariables, frame_of}
 use Rattle.circuit_theory.specs.Frame.{EventSide}
@@ -13,11 +13,11 @@ use Rattle.aig.specs.Values.{value}
 use Rattle.aig.proofs.CoverMeaning.{value-and, value-one}
 use Rattle.pair_decide.specs.declared.query.Decision.TheVariants as answer
 use Rattle.pair_decide.specs.Queries.{Distinguishes, assigned_to, numbered}
-use Rattle.event_nodes.specs.Nodes.{EventGraphView, IsEventGraph}
+use Rattle.event_nodes.specs.Nodes.{EventGraphView}
 use Rattle.event_nodes.specs.View.{EventCircuitView}
 use Rattle.class_search.specs.event_variables.Variables.{variable_of, variables_of}
 use Rattle.class_search.specs.declared.compare.Enable.{Enable}
-use Rattle.class_search.specs.Comparing.{IsComparison, IsAlwaysComparison}
+use Rattle.class_search.specs.Comparing.{IsComparison}
 use Rattle.edbf_unfold.specs.class_queries.Enables.{both_of, IsEnableFunction}
 use Rattle.edbf_unfold.specs.class_queries.Laws.{AreKept}
 use Rattle.class_search.specs.declared.told.Difference.{Difference}

@@ -1,5 +1,5 @@
 -- When what tells two classes apart is right.
-use Rattle.std.specs.Prelude.{◌≡◌, ℕ, zero, suc, ◌+◌, ◌<◌, ◌≤◌, Bool, true, false, not, List, length, slice_get, Option, Some, None, All, Contains}
+use Rattle.std.specs.Prelude.{◌≡◌, ℕ, zero, suc, ◌+◌, ◌<◌, ◌≤◌, true, false, not, List, length, slice_get, Option, Some, None, All, Contains}
 use Rattle.circuit_theory.specs.Joined.{Either}
 use Rattle.circuit_theory.specs.EventFrames.{IsSeparation, IsSeparationFromAlways, AreNodeVariables, IsClassTree}
 use Rattle.circuit_theory.specs.Frame.{EventSide}

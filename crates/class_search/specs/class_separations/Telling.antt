@@ -1,6 +1,6 @@
 -- What is kept of the answers that tell a latch from the classes before.
-use Rattle.std.specs.Prelude.{◌≡◌, ◌≢◌, ℕ, ◌*◌, ◌<◌, ◌≤◌, Bool, true, false, not, List, [], ◌∷◌, ◌++◌, length, take, slice_get, Some, None}
-use Rattle.std.specs.List.{AllPairs, AllZip}
+use Rattle.std.specs.Prelude.{◌≡◌, ◌≢◌, ℕ, ◌*◌, ◌<◌, ◌≤◌, true, false, not, List, [], ◌∷◌, ◌++◌, length, slice_get, Some, None}
+use Rattle.std.specs.List.{AllPairs}
 use Rattle.aig.specs.Values.{value}
 use Rattle.aig.specs.lane_eval.Tables.{Covers}
 use Rattle.sec_base.specs.declared.basics.Tag.{Tag}

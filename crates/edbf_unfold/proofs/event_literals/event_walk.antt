@@ -8,4 +8,6 @@ pub mod Opening
 pub mod Exact
 pub mod Stepping
 pub mod InFrames
+pub mod Owning
+pub mod Light
 mod FrameKeys

@@ -9,10 +9,9 @@ use Rattle.edbf_unfold.specs.event_literals.event_walk.Ready.{IsReadyBy}
 use Rattle.edbf_unfold.specs.event_literals.event_walk.Walk.{IsExpanded, IsVisitedPlace, IsCounted, IsRootOf}
 use Rattle.edbf_unfold.specs.event_literals.Known.{EventUnfolderView, HasRoomFor, IsMet}
 
--- there is room for so many places more, and the numbers are within their limits
-pub record IsReadyFor (u : EventUnfolderView) (w : EventGraphView) (c : CounterView) (cap room : ℕ) : Type 0 where
-  pub small : cap ≤ 119304646
-  pub has : HasRoomFor u w room
+-- there is room for 15 nodes for each unit of the greatest weight, and two, and the numbers are within their limits
+pub record IsReadyFor (u : EventUnfolderView) (w : EventGraphView) (c : CounterView) : Type 0 where
+  pub has : HasRoomFor u w 30000002
   pub weighed : IsWeighed u.circuit.net c
   pub few : length w.children < 10000
 

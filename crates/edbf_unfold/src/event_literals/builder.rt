@@ -95,8 +95,8 @@ impl<'a> EventBuilder<'a> {
     }
 
     /// The literals of the signal in the frame, at the root, and in the one beside it, and the places that both unfoldings visit. At most
-    /// so many nodes are added to the graph. `TooManyEvents` comes where more than 10,000 event nodes are reached by then, and `TooLarge` where what was counted weighs
-    /// more than 2,000,000; `NoMemory` also where the graph would grow by more.
+    /// five nodes are added to the graph for each unit of what was counted. `TooManyEvents` comes where more than 10,000 event nodes are
+    /// reached by then, and `TooLarge` where what was counted weighs more than 2,000,000.
     pub fn unfold_in(
         &mut self,
         alloc: Global,
@@ -104,16 +104,15 @@ impl<'a> EventBuilder<'a> {
         counter: &mut Counter,
         s: Signal,
         frame: Frame,
-        cap: u32,
     ) -> Result<Unfolding, EventUnfoldError>
         requires signal { s.0 < length self.old.circuit.net.drivers }
         requires root { frame.node ≡ 0 }
         requires known { AreKnown self.old.circuit events.old self.old.frames self.old.memo }
-        requires room { IsReadyFor self.old events.old counter.old cap cap }
+        requires room { IsReadyFor self.old events.old counter.old }
         ensures known { OnOk result (AreKnown self.new.circuit events.new self.new.frames self.new.memo) }
         ensures here { IfOk result (λ r. IsKnownIn self.new.circuit events.new frame s.0 r.lit.0 × IsKnownIn self.new.circuit events.new (frame_beside frame) s.0 r.high.0) }
-        ensures walked { IfOk result (λ r. IsWalked self.new events.new frame s.0 counter.new.places cap r.table r.ways.items) }
-        ensures unfolded { OnOk result (HasUnfolded self.old self.new events.old events.new (cap + 1) × IsCountedOn self.old.circuit.net events.new.children counter.old counter.new) }
+        ensures walked { IfOk result (λ r. IsWalked self.new events.new frame s.0 counter.new.places (5 * counter.new.weight) r.table r.ways.items) }
+        ensures unfolded { OnOk result (HasUnfolded self.old self.new events.old events.new (5 * counter.new.weight + 1) × IsCountedOn self.old.circuit.net events.new.children counter.old counter.new) }
         ensures counting { GrowsEvents events.old events.new × ((x : Start ℕ) → IsRootOf frame s.0 x → IsCounting self.old.circuit x events.old.children events.new.children counter.old counter.new) }
         ensures refused { IsRefused self.old.circuit.net events.new.children counter.new.places result }
     {
@@ -124,7 +123,7 @@ impl<'a> EventBuilder<'a> {
         let high = self.walker.intern(Frame { node, put })?;
         let (table, ways) = self
             .walker
-            .visited(alloc, events, counter, (root, s.0), (high, s.0), cap)?;
+            .visited(alloc, events, counter, (root, s.0), (high, s.0))?;
         self.build_all(alloc, events, &table, ways.as_slice())?;
         Ok(Unfolding {
             lit: self.met((root, s.0)),

@@ -1,5 +1,5 @@
 -- A start is visited by an unfolder that has met nothing.
-use Rattle.std.proofs.Common.{◌≡◌, ◌+◌, ◌*◌, ◌^◌, ◌<◌, ◌≤◌, ℕ, List, [], length, sym, ap, subst, arith}
+use Rattle.std.proofs.Common.{◌≡◌, ◌+◌, ◌^◌, ◌<◌, ℕ, List, [], length, sym, ap, subst, arith}
 use Rattle.std.proofs.lemmas.List.Elements.{All-weaker}
 use Rattle.circuit_theory.specs.EventSizes.{Start}
 use Rattle.event_nodes.specs.Nodes.{EventGraphView, IsTree, GrowsEvents}
@@ -19,11 +19,11 @@ module _ (u : EventUnfolderView) (e : EventCircuitView) (begins : u ≡ record {
   pub fresh_known : (w : EventGraphView) → AreKnown e w [] [] → AreKnown u.circuit w u.frames u.memo
   fresh_known w known = subst (λ (v : EventUnfolderView). AreKnown v.circuit w v.frames v.memo) (sym begins) known
 
-  pub fresh_ready : (w : EventGraphView) (c : CounterView) (room : ℕ) → c ≡ nothing → room ≤ 119304646 → length w.graph + (9 * room + 4) < 2 ^ 30 → length w.places + (9 * room + 4) < 2 ^ 31 → length w.children < 10000 → IsReadyFor u w c room (9 * room + 4)
-  fresh_ready w c room none small nodes places few =
-      subst (λ (v : EventUnfolderView). IsReadyFor v w c room (9 * room + 4)) (sym begins)
-      (subst (λ (d : CounterView). IsReadyFor (record { circuit = e; frames = []; memo = [] }) w d room (9 * room + 4)) (sym none)
-      (record { small = small; has = record { frames = omega (arith, small); nodes = nodes; places = places }; weighed = record { sum = omega arith; small = omega arith; few = omega arith }; few = few }))
+  pub fresh_ready : (w : EventGraphView) (c : CounterView) → c ≡ nothing → length w.graph + 30000002 < 2 ^ 30 → length w.places + 30000002 < 2 ^ 31 → length w.children < 10000 → IsReadyFor u w c
+  fresh_ready w c none nodes places few =
+      subst (λ (v : EventUnfolderView). IsReadyFor v w c) (sym begins)
+      (subst (λ (d : CounterView). IsReadyFor (record { circuit = e; frames = []; memo = [] }) w d) (sym none)
+      (record { has = record { frames = omega arith; nodes = nodes; places = places }; weighed = record { sum = omega arith; small = omega arith; few = omega arith }; few = few }))
 
 -- what was counted and made, and then made on
 pub counting_on : (e : EventCircuitView) (x : Start ℕ) (old : List (ℕ × ℕ)) (mid new : EventGraphView) (c d : CounterView) → IsTree mid.children → GrowsEvents mid new → IsCounting e x old mid.children c d → AreNodesFrom e new.children x (length mid.children) → IsCounting e x old new.children c d

@@ -1,6 +1,6 @@
 //! What a start visits is counted with what was counted before.
 
-ghost use Rattle.std.specs.Prelude.{◌≡◌, ◌+◌, ◌*◌, ◌^◌, ◌<◌, ◌≤◌, length, All, Contains, IfOk, OnOk, Err};
+ghost use Rattle.std.specs.Prelude.{◌≡◌, ◌⊎◌, ◌+◌, ◌^◌, ◌<◌, ◌≤◌, length, All, Contains, OnOk, OnErr, Err};
 ghost use Rattle.event_nodes.specs.declared.error.EventUnfoldError.TheVariants as unfold_error;
 ghost use Rattle.event_nodes.specs.Adds.{Adds};
 ghost use Rattle.event_nodes.specs.Visited.{IsWeighed};
@@ -10,20 +10,23 @@ use event_nodes::event_variables::{
     Counter, EventGraph, EventUnfoldError, Net, NoMemory, Place, Signal,
 };
 
-/// The most nodes and variables of the event graph.
-const NODES: u32 = 1_073_741_800;
+/// With so many nodes, or variables, an event graph of at most 2^30 has no room for a function of the greatest weight.
+const FULL: u32 = 1_043_741_822;
 
-/// For how many places there is room: a place of weight one makes nine nodes at most.
-pub fn room_in(events: &EventGraph) -> Result<u32, NoMemory>
-    ensures small { IfOk result (λ room. room ≤ 119304646) }
-    ensures nodes { IfOk result (λ room. length events.now.graph + (9 * room + 4) < 2 ^ 30) }
-    ensures places { IfOk result (λ room. length events.now.places + (9 * room + 4) < 2 ^ 31) }
+/// Finds that there is room for an event function, whatever it weighs up to 2,000,000: 15 nodes for each unit of that, and two. `NoMemory`
+/// comes exactly where the graph is nearly full.
+pub fn find_room(events: &EventGraph) -> Result<(), NoMemory>
+    ensures nodes { OnOk result (length events.now.graph + 30000002 < 2 ^ 30) }
+    ensures places { OnOk result (length events.now.places + 30000002 < 2 ^ 31) }
+    ensures full { OnErr result ((1043741822 ≤ length events.now.graph) ⊎ (1043741822 ≤ length events.now.places)) }
 {
-    let used = events.size().max(events.variables());
-    if used >= NODES {
+    if events.size() >= FULL {
         return Err(NoMemory);
     }
-    Ok((NODES - used) / 9)
+    if events.variables() >= FULL {
+        return Err(NoMemory);
+    }
+    Ok(())
 }
 
 /// Counts all these places too. `TooLarge` comes where all then weigh more than 2,000,000.

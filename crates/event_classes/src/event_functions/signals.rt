@@ -11,7 +11,7 @@ ghost use Rattle.edbf_unfold.specs.event_literals.Known.{IsKnownAt};
 ghost use Rattle.event_classes.specs.event_functions.Functions.{IsFunctionOf, signal_start};
 ghost use Rattle.event_classes.specs.event_functions.Refused.{HasFewNodes, IsTooHeavy, IsRefusal};
 
-use crate::event_functions::counting::{count_all, room_in};
+use crate::event_functions::counting::{count_all, find_room};
 use crate::event_functions::refusal::signal_refusal;
 use edbf_unfold::{EventFunction, EventUnfolder};
 use event_nodes::event_variables::{
@@ -90,9 +90,9 @@ fn visit_signal(
     ensures places { OnOk result (length events.new.places < 2 ^ 31) }
 {
     circuit.keeps();
-    let room = room_in(events)?;
+    find_room(events)?;
     let mut unfolder = EventUnfolder::new(alloc, circuit);
-    match unfolder.unfold(alloc, events, visits, s, room) {
+    match unfolder.unfold(alloc, events, visits, s) {
         Ok(made) => Ok(made),
         Err(error) => Err(signal_refusal(alloc, circuit, events, visits, s, error)),
     }

@@ -163,28 +163,28 @@ module _ (a b : NetView) (expose : Bool) (conflicts : ℕ) (o : Outcome) (fits :
       witness : IsWitness left_circuit right_circuit fits.left fits.right f.place.left f.place.right (length columns) w.stimulus.rows w.cycle w.left w.right
       witness =
           cut_witness o.exposed (circuit_of a) (circuit_of b) (circuit_of fits.left_cut) (circuit_of fits.right_cut) fits.are_cut.left_circuit fits.are_cut.right_circuit fits.left fits.right
-          f.place.left f.place.right (length columns) w.stimulus.rows w.cycle w.left w.right f.witness
+          f.place.left f.place.right (length columns) w.stimulus.rows w.cycle w.left w.right f.shown.witness
 
       place_listed : Contains listed f.place
       place_listed = of_at listed f.index f.place f.place_is
 
       -- the printed values differ
       differ : w.left ≢ w.right
-      differ = values_differ left_circuit right_circuit fits.left fits.right columns left_numbers right_numbers w f.names_are f.place.left f.place.right witness
+      differ = values_differ left_circuit right_circuit fits.left fits.right columns left_numbers right_numbers w f.shown.names_are f.place.left f.place.right witness
 
       -- each run of A's cut circuit that obeys the sequence has the printed value, and so has each of B's
       left_shows : (n : ℕ) (run : ℕ → ℕ → Bool) → w.cycle < n → IsRun left_circuit n run → Obeys left_circuit w.stimulus n run → run w.cycle f.place.left ≡ w.left
-      left_shows = left_value_shows left_circuit right_circuit fits.left fits.right columns left_numbers right_numbers w f.names_are f.place.left f.place.right witness
+      left_shows = left_value_shows left_circuit right_circuit fits.left fits.right columns left_numbers right_numbers w f.shown.names_are f.place.left f.place.right witness
 
       right_shows : (n : ℕ) (run : ℕ → ℕ → Bool) → w.cycle < n → IsRun right_circuit n run → Obeys right_circuit w.stimulus n run → run w.cycle f.place.right ≡ w.right
-      right_shows = right_value_shows left_circuit right_circuit fits.left fits.right columns left_numbers right_numbers w f.names_are f.place.left f.place.right witness
+      right_shows = right_value_shows left_circuit right_circuit fits.left fits.right columns left_numbers right_numbers w f.shown.names_are f.place.left f.place.right witness
 
       -- so the sequence makes the pair of the cut circuits differ
       first_of_cuts : MakesCutsDiffer o.exposed (circuit_of a) (circuit_of b) w
       first_of_cuts = record {
         left_place = f.place.left;
         right_place = f.place.right;
-        places = subst (λ (n : PairName). ArePlacesOf (circuit_of a) (circuit_of b) n f.place.left f.place.right) (sym f.named) (listed_places o.exposed (circuit_of a) (circuit_of b) f.place place_listed);
+        places = subst (λ (n : PairName). ArePlacesOf (circuit_of a) (circuit_of b) n f.place.left f.place.right) (sym f.shown.named) (listed_places o.exposed (circuit_of a) (circuit_of b) f.place place_listed);
         differ = differ;
         left_shows = left_shows;
         right_shows = right_shows;
@@ -214,7 +214,7 @@ module _ (a b : NetView) (expose : Bool) (conflicts : ℕ) (o : Outcome) (fits :
         name = outputs.name;
         left_place = f.place.left;
         right_place = f.place.right;
-        named = f.named ∙ outputs.called;
+        named = f.shown.named ∙ outputs.called;
         left_output = outputs.left_output;
         right_output = outputs.right_output;
         differ = differ answer.Different w f;

@@ -67,7 +67,7 @@ module _ (x y z : List ℕ) (a b c : NetView) (left : Loads x a) (right : Loads 
   resets_differ w e =
       let first = subst IsVerdict e compared.fits.verdict_is in
       let shows = compared.different w e in
-      let met = sequence_meets (shared_by a b) c compared.met.assumed [] w.witness.stimulus (first.names_are ∙ sym (append-nil (shared_by a b))) w.witness.cycle shows.1 in
+      let met = sequence_meets (shared_by a b) c compared.met.assumed [] w.witness.stimulus (first.shown.names_are ∙ sym (append-nil (shared_by a b))) w.witness.cycle shows.1 in
       record {
         spelled = spelled x y z a b c left right assumed;
         outcome = o;

@@ -112,7 +112,7 @@ module _ (x y z : List ℕ) (a b c : NetView) (left : Loads x a) (right : Loads 
           uncut = no_names o.exposed (different_fits _ _ _ first.result.answer first.result.proof n.2.answer_is first.answered).0;
           printed = taken;
           says = texts_differ_by x y a b left right w shows.0;
-          meets = sequence_up (text_design z c assumed) w.stimulus w.cycle (net_met w first.names_are shows.1);
+          meets = sequence_up (text_design z c assumed) w.stimulus w.cycle (net_met w first.shown.names_are shows.1);
         }
 
     not_shown_by : (w : Witness) → o.verdict ≡ verdict.NotShown (why.Cut w) → TextsNotShownUnder x y z settings before now
@@ -122,7 +122,7 @@ module _ (x y z : List ℕ) (a b c : NetView) (left : Loads x a) (right : Loads 
         let n = pair_of first.index first.result first.result_is in
         let exposed = some_names o.exposed (some_cut (is_cut o.exposed) (unshown_fits _ _ _ first.result.answer first.result.proof n.2.answer_is first.answered).0) in
         let shows = compared.not_shown w e in
-        let met = net_met w first.names_are shows.1 in
+        let met = net_met w first.shown.names_are shows.1 in
         record {
           spelled = spelled;
           outcome = o;
@@ -132,8 +132,8 @@ module _ (x y z : List ℕ) (a b c : NetView) (left : Loads x a) (right : Loads 
           exposes = were_exposed settings.expose o.exposed compared.fits.exposed.closed exposed;
           exposed = exposed;
           minimal = texts_minimal x y a b left right o.exposed compared.fits.exposed.minimal;
-          columns = first.names_are;
-          next_exposed = λ name is. next_among o.exposed (circuit_of a) (circuit_of b) first.place (of_at pairs first.index first.place first.place_is) name (sym first.named ∙ is);
+          columns = first.shown.names_are;
+          next_exposed = λ name is. next_among o.exposed (circuit_of a) (circuit_of b) first.place (of_at pairs first.index first.place first.place_is) name (sym first.shown.named ∙ is);
           says = texts_cuts_differ x y a b left right o.exposed w shows.0;
           meets = sequence_up (text_design z c assumed) w.stimulus w.cycle met;
           nets_minimal = compared.fits.exposed.minimal;

@@ -123,8 +123,8 @@ module _ (before now : Option (List ℕ)) (settings : Settings) (o : Outcome) (t
         exposes = were_exposed settings.expose o.exposed compared.fits.exposed.closed exposed;
         exposed = exposed;
         minimal = texts_minimal x y a b left right o.exposed compared.fits.exposed.minimal;
-        columns = first.names_are;
-        next_exposed = λ name is. next_among o.exposed (circuit_of a) (circuit_of b) first.place (of_at pairs first.index first.place first.place_is) name (sym first.named ∙ is);
+        columns = first.shown.names_are;
+        next_exposed = λ name is. next_among o.exposed (circuit_of a) (circuit_of b) first.place (of_at pairs first.index first.place first.place_is) name (sym first.shown.named ∙ is);
         says = texts_cuts_differ x y a b left right o.exposed w (compared.not_shown w e);
         nets_minimal = compared.fits.exposed.minimal;
         nets_say = compared.not_shown w e;

@@ -100,8 +100,10 @@ module _ (s : Setup) (f : Functions) (h : AreSound s f) where
           result_is = first.result_at;
           answered = first.answered;
           earlier = first.earlier;
-          named = is.pair_is ∙ k.name_is;
-          cycle_is = is.cycle_is ∙ sym size;
-          names_are = is.names_are;
-          witness = is_witness (asks p o k) h.left h.right o.size k.size_is s.columns h.setup.left_columns h.setup.right_columns (own.left p member) (own.right p member) d.bits o.name w difference is;
+          shown = record {
+            named = is.pair_is ∙ k.name_is;
+            cycle_is = is.cycle_is ∙ sym size;
+            names_are = is.names_are;
+            witness = is_witness (asks p o k) h.left h.right o.size k.size_is s.columns h.setup.left_columns h.setup.right_columns (own.left p member) (own.right p member) d.bits o.name w difference is;
+          };
         }

@@ -4,6 +4,7 @@ ghost use Rattle.std.specs.Prelude.{◌≡◌, ◌≢◌, ℕ, ◌+◌, ◌^◌,
 ghost use Rattle.std.specs.List.{AllPairs};
 ghost use Rattle.circuit_laws.specs.reset_laws.Weight.{IsResetOver};
 ghost use Rattle.flat_net.specs.View.{circuit_of};
+ghost use Rattle.aig.specs.declared.node.Lit.{Lit};
 ghost use Rattle.aig.specs.declared.node.Node.{Node};
 ghost use Rattle.cbf_unfold.specs.unfold_places.InputOrder.{IsOrderOf};
 ghost use Rattle.cbf_unfold.specs.unfold_places.Places.{PlaceBefore};
@@ -105,40 +106,64 @@ impl<'a> ResetUnfolder<'a> {
         })
     }
 
-    /// The signal of the net in the cycle, as a function of the inputs in that cycle and the earlier ones, and of the latches
-    /// without an initial value in cycle 0. The same graph and table are lent each time, and may have grown in between, to at
-    /// most 2^29 nodes and 2^29 entries. An entry is a number and a cycle: an input's number and the cycle in which the input
-    /// is read, or a latch's number and 0.
+    /// The literal of a signal of the net in a cycle, as a function of the inputs in that cycle and the earlier ones, and of the
+    /// latches without an initial value in cycle 0. The same graph and table are lent each time, and may have grown in between,
+    /// to at most 2^29 nodes and 2^29 entries. An entry is a number and a cycle: an input's number and the cycle in which the
+    /// input is read, or a latch's number and 0.
     ///
     /// `TooLarge` comes exactly where the places that the unfoldings of all calls so far visit, with this one's, weigh more
     /// than 2,000,000 together. A place is a signal in a cycle, and counts once however often it is visited: an input or a
     /// latch 1, a gate 1 + r * (f + 1) with f fan-ins and a cover of r rows, or of one where it has none. After a refusal,
     /// also one for want of memory, the graph and the table may have grown, and the unfolder is used no more.
-    pub fn unfold_at(
+    pub fn literal_at(
         &mut self,
         alloc: Global,
         aig: &mut Aig,
         places: &mut PlaceTable,
-        s: Signal,
-        cycle: u32,
-    ) -> Result<Unfolded, UnfoldError>
-        requires signal { s.0 < length self.old.net.drivers }
+        start: Place,
+    ) -> Result<Lit, UnfoldError>
+        requires signal { start.1 < length self.old.net.drivers }
         requires fits { FitsReset self.old aig.old places.old }
         requires nodes { length aig.old ≤ 2 ^ 29 }
         requires entries { length places.old ≤ 2 ^ 29 }
-        ensures unfolded { IfOk result (λ r. IsResetUnfolded self.new.net self.new.order self.new.base aig.new places.new s.0 cycle r.lit.0 r.vars) }
+        ensures here { IfOk result (λ x. Contains self.new.memo (start, x)) }
         ensures fits { OnOk result (FitsReset self.new aig.new places.new) }
-        ensures done { OnOk result (self.new.done ≡ self.old.done ++ (cycle, s.0) ∷ []) }
-        ensures over { result ≡ Err unfold_error.TooLarge → IsResetOver (circuit_of self.old.net) (starts_of (self.old.done ++ (cycle, s.0) ∷ [])) MAX_WEIGHT }
+        ensures done { OnOk result (self.new.done ≡ self.old.done ++ start ∷ []) }
+        ensures over { result ≡ Err unfold_error.TooLarge → IsResetOver (circuit_of self.old.net) (starts_of (self.old.done ++ start ∷ [])) MAX_WEIGHT }
         ensures later { IsLaterReset self.old self.new aig.old aig.new places.old places.new }
     {
         let net = self.net();
         net.keeps();
-        let lit = self.root(alloc, aig, places, (cycle, s.0))?;
+        let unmet = reach(alloc, net, self.memo(), start, self.cap())?;
+        let reached = unmet.as_slice();
+        self.begin(start)?;
+        self.build(alloc, aig, places, reached)?;
         self.keeps();
-        let found = self.leaves(alloc, (cycle, s.0))?;
+        Ok(self.met(start))
+    }
+
+    /// The variables of a signal in a cycle that was unfolded, with whose literal they are its function. This costs a walk over all
+    /// places that the unfolding visits.
+    pub fn variables_at(
+        &self,
+        alloc: Global,
+        _aig: &Aig,
+        places: &mut PlaceTable,
+        start: Place,
+    ) -> Result<Ids, NoMemory>
+        requires done { Contains self.now.done start }
+        requires fits { FitsReset self.now _aig.now places.old }
+        requires entries { length places.old + 1 < 2 ^ 32 }
+        ensures unfolded { IfOk result (λ vars. (x : Lit) → Contains self.now.memo (start, x) → IsResetUnfolded self.now.net self.now.order self.now.base _aig.now places.old start.1 start.0 x.0 vars) }
+        ensures same { places.new ≡ places.old }
+    {
+        self.net().keeps();
+        self.keeps();
+        let Ok(found) = self.leaves(alloc, start) else {
+            return Err(NoMemory);
+        };
         let vars = numbers_of(alloc, places, found.as_slice())?;
-        Ok(Unfolded { lit, vars })
+        Ok(vars)
     }
 
     /// The cone of a signal up to a last cycle, from which `unfold_next` unfolds the signal in each cycle from 0 on. `TooLarge` comes
@@ -154,7 +179,7 @@ impl<'a> ResetUnfolder<'a> {
         Ok(Cone::new(alloc, start, visited))
     }
 
-    /// The cone's signal in the next cycle, as `unfold_at` gives it. Beside the variables this costs a walk over the places that
+    /// The cone's signal in the next cycle, as a function. Beside the variables this costs a walk over the places that
     /// weren't met before.
     pub(crate) fn unfold_next(
         &mut self,
@@ -179,7 +204,7 @@ impl<'a> ResetUnfolder<'a> {
     {
         let net = self.net();
         net.keeps();
-        let lit = self.root(alloc, aig, places, cone.start())?;
+        let lit = self.literal_at(alloc, aig, places, cone.start())?;
         self.keeps();
         cone.advance(alloc, net, self.order(), self.base())?;
         let vars = numbers_of(alloc, places, cone.found())?;
@@ -239,34 +264,6 @@ impl<'a> ResetUnfolder<'a> {
         ensures { Contains self.now.memo (place, result) }
     {
         self.memo.met(place)
-    }
-
-    /// The literal of a signal in its cycle.
-    fn root(
-        &mut self,
-        alloc: Global,
-        aig: &mut Aig,
-        places: &mut PlaceTable,
-        start: Place,
-    ) -> Result<Lit, UnfoldError>
-        requires signal { start.1 < length self.old.net.drivers }
-        requires fits { FitsReset self.old aig.old places.old }
-        requires nodes { length aig.old ≤ 2 ^ 29 }
-        requires entries { length places.old ≤ 2 ^ 29 }
-        ensures here { IfOk result (λ x. Contains self.new.memo (start, x)) }
-        ensures fits { OnOk result (FitsReset self.new aig.new places.new) }
-        ensures done { OnOk result (self.new.done ≡ self.old.done ++ start ∷ []) }
-        ensures over { result ≡ Err unfold_error.TooLarge → IsResetOver (circuit_of self.old.net) (starts_of (self.old.done ++ start ∷ [])) MAX_WEIGHT }
-        ensures later { IsLaterReset self.old self.new aig.old aig.new places.old places.new }
-    {
-        let net = self.net();
-        net.keeps();
-        let unmet = reach(alloc, net, self.memo(), start, self.cap())?;
-        let reached = unmet.as_slice();
-        self.begin(start)?;
-        self.build(alloc, aig, places, reached)?;
-        self.keeps();
-        Ok(self.met(start))
     }
 
     /// The places that the unfolding of a signal in its cycle visits, in an order of evaluation.

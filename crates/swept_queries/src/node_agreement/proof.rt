@@ -39,7 +39,7 @@ impl Proved {
     }
 }
 
-/// Tries to prove that two literals agree: over a cut of few leaves, by cases, over windows, and over their whole cones. Where they differ over the
+/// Tries to prove that two literals agree: over a cut of few leaves, by cases, over the stage, over windows, and over their whole cones. Where they differ over the
 /// whole cones, it tells where.
 pub fn prove(
     alloc: Global,
@@ -85,10 +85,14 @@ pub(crate) fn prove_by(
     if stage.is_told() || !budget.may_search() {
         return Ok(stage);
     }
+    let window = prove_in_window(alloc, graph, guide.levels, x, k, budget)?;
+    if window.is_told() || !budget.may_search() {
+        return Ok(window);
+    }
     prove_wholly(alloc, graph, guide, chosen, x, k, budget)
 }
 
-/// Tries it over a cut, by cases, and over windows. Where no conflicts are allowed there is none.
+/// Tries it over a cut, and by cases. Where no conflicts are allowed there is none.
 fn prove_nearby(
     alloc: Global,
     graph: &Aig,
@@ -107,11 +111,7 @@ fn prove_nearby(
     if told.is_told() || !budget.may_search() {
         return Ok(told);
     }
-    let cases = prove_by_cases(alloc, graph, x, k, budget)?;
-    if cases.is_told() {
-        return Ok(cases);
-    }
-    prove_in_window(alloc, graph, levels, x, k, budget)
+    prove_by_cases(alloc, graph, x, k, budget)
 }
 
 /// Tries it by cases of the variables that most nodes read. An attempt that fails costs a walk over the graph: where 16 failed one
@@ -138,7 +138,7 @@ fn prove_by_cases(
     Ok(Proved::Open)
 }
 
-/// Tries it over some windows, each wider than the one before.
+/// Tries it over some windows, each wider than the one before. Where no conflicts are allowed there is none.
 fn prove_in_window(
     alloc: Global,
     graph: &Aig,
@@ -149,6 +149,9 @@ fn prove_in_window(
 ) -> Result<Proved, NoMemory>
     ensures { IfOk result (IsProved graph.now x.0 k.0) }
 {
+    if budget.each == 0 {
+        return Ok(Proved::Open);
+    }
     for i in 0..WINDOWS.len() {
         let window = window_of(alloc, graph, levels, x, k, WINDOWS[i])?;
         let told = prove_over(alloc, graph, window, x, k, budget)?;

@@ -104,7 +104,7 @@ fn begun(alloc: Global, old: &Aig, effort: Effort, words: &[u64]) -> Result<Grow
         graph,
         map,
         chosen: Vec::new(alloc),
-        hints: Hints::new(alloc),
+        hints: Hints::drawn(alloc, old.size())?,
         budget: Budget::new(effort, old.size()),
     };
     growth.note(alloc, 0, words, Role::Kept)?;

@@ -1,18 +1,19 @@
 -- A's functions stay while B is unfolded, and a refusal is that of a circuit's outputs in the cycles up to this one.
-use Rattle.std.proofs.Common.{◌≡◌, ◌∙◌, ◌<◌, List, length, Err, sym, subst, arith, rules}
-use Rattle.std.specs.List.{All, Contains}
+use Rattle.std.proofs.Common.{◌≡◌, ◌∙◌, ◌<◌, List, length, Err, sym, ap, subst, arith, rules}
+use Rattle.std.specs.List.{All, AllZip, Contains}
 use Rattle.circuit_theory.specs.declared.Side.TheVariants.{A, B}
 use Rattle.circuit_theory.proofs.Lists.{All-from_each}
 use Rattle.flat_net.specs.View.{NetView}
+use Rattle.aig.specs.declared.node.Node.{Node}
 use Rattle.sec_setup.specs.declared.ports.pairs.SignalPair.{SignalPair}
 use Rattle.reset_form.proofs.reset_functions.OwnPairs.{output_within}
 use Rattle.reset_form.proofs.reset_unfold.Known.{fits_later}
+use Rattle.merged_graph.specs.Merged.{IsMerged}
 use Rattle.merged_graph.proofs.Standing.{later}
-use Rattle.cycle_search.specs.Outputs.{side_of}
+use Rattle.cycle_search.specs.Outputs.{side_of, IsLiteralIn}
 use Rattle.cycle_search.specs.Cycles.{Compared}
-use Rattle.cycle_search.proofs.Growing.{functions_later}
 use Rattle.cycle_search.proofs.PairsIn.{own_pairs}
-use Rattle.cycle_search.proofs.Sides.{left_refused, right_refused, functions_as, done_all}
+use Rattle.cycle_search.proofs.Sides.{left_refused, right_refused, functions_of, done_of, done_all, fits_as}
 use Rattle.cycle_search.proofs.cycle.compare_cycle.Goals as goal
 
 pub unfold_side-requires-clause-signals : goal.unfold_side-requires-clause-signals
@@ -48,29 +49,43 @@ returns-in_err-right-clause-compared c =
     subst (Compared c.args.setup.now c.args.bases c.args.cycle c.args.conflicts) (sym same)
     (right_refused c.args.setup.now c.requires.setup c.args.bases c.args.cycle c.args.conflicts c.args.unfolded.now.right.net c.requires.before.right_net c.as_slice-2.result.now c.as_slice-2.ensures c.args.unfolded.now.right.done c.requires.before.right_done e c.in_err-right.ensures.refused)
 
+pub functions_apart-requires : goal.functions_apart-requires
+functions_apart-requires c =
+    let one = c.unfold_side.ensures.later in
+    let two = c.unfold_side-2.ensures.later in
+    let before = c.requires.before in
+    let pairs = c.as_slice-3.result.now in
+    let same = c.as_slice.ensures ∙ sym c.as_slice-3.ensures in
+    let same_b = c.as_slice-2.ensures ∙ sym c.as_slice-3.ensures in
+    let l = c.unfold_side.new.unfolder in
+    let r = c.unfold_side-2.new.unfolder in
+    record {
+      left_literals = subst (λ (ps : List SignalPair). AllZip (IsLiteralIn l.memo A c.args.cycle) ps c.in_ok-left.left.items) same c.in_ok-left.ensures.literals;
+      right_literals = subst (λ (ps : List SignalPair). AllZip (IsLiteralIn r.memo B c.args.cycle) ps c.in_ok-right.right.items) same_b c.in_ok-right.ensures.literals;
+      left_done = subst (λ (ps : List SignalPair). All (λ (x : SignalPair). Contains l.done (c.args.cycle, side_of A x)) ps) same (done_of A c.args.cycle c.as_slice.result.now c.args.unfolded.now.left.done l.done c.in_ok-left.ensures.done);
+      right_done = subst (λ (ps : List SignalPair). All (λ (x : SignalPair). Contains r.done (c.args.cycle, side_of B x)) ps) same_b (done_of B c.args.cycle c.as_slice-2.result.now c.args.unfolded.now.right.done r.done c.in_ok-right.ensures.done);
+      left_fits = fits_later l c.unfold_side.new.aig c.unfold_side-2.new.aig c.unfold_side.new.places c.unfold_side-2.new.places two.grows two.adds c.in_ok-left.ensures.fits;
+      right_fits = c.in_ok-right.ensures.fits;
+      entries = omega (arith, before.entries, one.entries, two.entries, one.small, two.small, c.in_ok-left.ensures.fits.small, c.in_ok-right.ensures.fits.small);
+    }
+
 pub decide_cycle-requires-clause-functions : goal.decide_cycle-requires-clause-functions
 decide_cycle-requires-clause-functions c =
     let s = c.args.setup.now in
     let b = c.args.bases in
-    let u = c.args.unfolded.now in
     let before = c.requires.before in
-    let later = c.unfold_side-2.ensures.later in
-    let g = c.unfold_side-2.new.aig in
-    let places = c.unfold_side-2.new.places in
-    record {
-      left_are =
-          functions_as s.left.now u.left.net before.left_net s.orders.left u.left.order before.left_order b.left u.left.base before.left_base g places A c.args.cycle c.as_slice.result.now s.pairs c.as_slice.ensures c.in_ok-left.left.items c.as_slice-6.result.now c.as_slice-6.ensures.value
-          (functions_later u.left.net u.left.order u.left.base c.unfold_side.new.aig g c.unfold_side.new.places places later.grows later.adds A c.args.cycle c.as_slice.result.now c.in_ok-left.left.items c.in_ok-left.ensures.unfolded);
-      right_are =
-          functions_as s.right.now u.right.net before.right_net s.orders.right u.right.order before.right_order b.right u.right.base before.right_base g places B c.args.cycle c.as_slice-2.result.now s.pairs c.as_slice-2.ensures c.in_ok-right.right.items c.as_slice-7.result.now c.as_slice-7.ensures.value
-          c.in_ok-right.ensures.unfolded;
-    }
+    let one = c.unfold_side.ensures.later in
+    let two = c.unfold_side-2.ensures.later in
+    functions_of s b c.functions_apart.new.functions c.args.cycle c.unfold_side.new.unfolder c.unfold_side-2.new.unfolder c.unfold_side-2.new.aig c.unfold_side-2.new.places c.as_slice-3.result.now c.in_ok-sides.sides
+    c.as_slice-left.result.now c.as_slice-right.result.now c.in_ok-sides.ensures.apart (one.net ∙ before.left_net) (one.order ∙ before.left_order) (one.base ∙ before.left_base) (two.net ∙ before.right_net) (two.order ∙ before.right_order)
+    (two.base ∙ before.right_base) c.functions_apart.ensures.same_aig c.functions_apart.ensures.same_places c.as_slice-3.ensures c.as_slice-left.ensures.value c.as_slice-right.ensures.value
 
 pub merge-requires-clause-merged : goal.merge-requires-clause-merged
 merge-requires-clause-merged c =
     let f = c.args.unfolded.now.functions in
     let m = c.args.unfolded.now.merged in
-    later c.unfold_side.new.aig c.unfold_side-2.new.aig m c.unfold_side-2.ensures.later.grows (later f.aig c.unfold_side.new.aig m c.unfold_side.ensures.later.grows c.requires.before.merged)
+    subst (λ (g : List Node). IsMerged g m) (sym c.functions_apart.ensures.same_aig)
+    (later c.unfold_side.new.aig c.unfold_side-2.new.aig m c.unfold_side-2.ensures.later.grows (later f.aig c.unfold_side.new.aig m c.unfold_side.ensures.later.grows c.requires.before.merged))
 
 pub returns-clause-after : goal.returns-clause-after
 returns-clause-after c =
@@ -79,6 +94,10 @@ returns-clause-after c =
     let before = c.requires.before in
     let one = c.unfold_side.ensures.later in
     let two = c.unfold_side-2.ensures.later in
+    let h = c.functions_apart.new.functions in
+    let same = c.functions_apart.ensures in
+    let nodes = ap length same.same_aig in
+    let entries = ap length same.same_places in
     record {
       left_net = one.net ∙ before.left_net;
       left_order = one.order ∙ before.left_order;
@@ -86,11 +105,13 @@ returns-clause-after c =
       right_net = two.net ∙ before.right_net;
       right_order = two.order ∙ before.right_order;
       right_base = two.base ∙ before.right_base;
-      left_fits = fits_later c.unfold_side.new.unfolder c.unfold_side.new.aig c.unfold_side-2.new.aig c.unfold_side.new.places c.unfold_side-2.new.places two.grows two.adds c.in_ok-left.ensures.fits;
-      right_fits = c.in_ok-right.ensures.fits;
+      left_fits =
+          fits_as c.unfold_side.new.unfolder c.unfold_side-2.new.aig h.aig c.unfold_side-2.new.places h.places same.same_aig same.same_places
+          (fits_later c.unfold_side.new.unfolder c.unfold_side.new.aig c.unfold_side-2.new.aig c.unfold_side.new.places c.unfold_side-2.new.places two.grows two.adds c.in_ok-left.ensures.fits);
+      right_fits = fits_as c.unfold_side-2.new.unfolder c.unfold_side-2.new.aig h.aig c.unfold_side-2.new.places h.places same.same_aig same.same_places c.in_ok-right.ensures.fits;
       left_done = done_all A c.args.cycle s.pairs c.as_slice.result.now c.as_slice.ensures u.left.done c.unfold_side.new.unfolder.done before.left_done c.in_ok-left.ensures.done;
       right_done = done_all B c.args.cycle s.pairs c.as_slice-2.result.now c.as_slice-2.ensures u.right.done c.unfold_side-2.new.unfolder.done before.right_done c.in_ok-right.ensures.done;
       merged = c.in_ok-merge.ensures;
-      nodes = omega (arith, before.nodes, one.nodes, two.nodes);
-      entries = omega (arith, before.entries, one.entries, two.entries);
+      nodes = omega (arith, before.nodes, one.nodes, two.nodes, nodes);
+      entries = omega (arith, before.entries, one.entries, two.entries, entries);
     }

@@ -1,22 +1,15 @@
 -- The parts fit together.
 use Rattle.std.proofs.Common.{◌∙◌, List, length, sym, ap, subst}
-use Rattle.circuit_theory.proofs.Lists.{All-from_each, at_of, zip_length}
-use Rattle.circuit_theory.specs.declared.Side.TheVariants.{A, B}
-use Rattle.cbf_unfold.specs.declared.unfold_places.signal_function.Unfolded.{Unfolded}
-use Rattle.cbf_unfold.specs.shift_variables.cycle_variables.Cycles.{AreInCycles}
-use Rattle.cbf_unfold.proofs.unfold_places.Zips.{zip_left}
 use Rattle.obligations.specs.declared.outcome.verdict.PairResult.{PairResult}
 use Rattle.obligations.specs.declared.obligation.Obligation.{Obligation}
 use Rattle.obligations.specs.Asked as graph_level
 use Rattle.obligations.specs.Decided.{HaveDecided}
 use Rattle.obligations.specs.Verdict.{IsVerdictAt}
 use Rattle.sec_setup.specs.declared.ports.pairs.SignalPair.{SignalPair}
-use Rattle.reset_form.proofs.reset_asked.CycleQueries.{in_order}
 use Rattle.reset_form.proofs.reset_asked.PairCycles.{AreSoundFunctions}
 use Rattle.cycle_search.specs.Asked.{AreAskedIn}
-use Rattle.cycle_search.specs.Outputs.{IsFunctionIn}
 use Rattle.cycle_search.specs.Shown.{CanBeShownIn, IsShownIn}
-use Rattle.cycle_search.proofs.PairsIn.{queries_are, pairs_fit, can_be_shown, verdict_in}
+use Rattle.cycle_search.proofs.PairsIn.{left_in_order, right_in_order, queries_are, pairs_fit, can_be_shown, verdict_in}
 use Rattle.cycle_search.proofs.cycle.decide_cycle.Goals as goal
 
 pub ask-requires : goal.ask-requires
@@ -27,16 +20,12 @@ ask-requires c =
     let left = c.args.left.now in
     let right = c.args.right.now in
     let h = c.requires.functions in
-    let Left : SignalPair → Unfolded → Type 0 = IsFunctionIn s.left.now s.orders.left b.left f.aig f.places A c.args.cycle in
-    let Right : SignalPair → Unfolded → Type 0 = IsFunctionIn s.right.now s.orders.right b.right f.aig f.places B c.args.cycle in
     record {
       merged = c.requires.merged;
-      left_each = sym (zip_length Left s.pairs left h.left_are) ∙ ap length (sym c.as_slice.ensures);
-      right_each = sym (zip_length Right s.pairs right h.right_are) ∙ ap length (sym c.as_slice.ensures);
-      left = All-from_each (λ (u : Unfolded). AreInCycles f.places u.vars) left
-          (λ u k. let at = at_of left u k in let x = zip_left Left s.pairs left h.left_are at.0 u at.1 in in_order s.left.now s.orders.left b.left f.aig f.places x.0.left.0 c.args.cycle u x.2);
-      right = All-from_each (λ (u : Unfolded). AreInCycles f.places u.vars) right
-          (λ u k. let at = at_of right u k in let x = zip_left Right s.pairs right h.right_are at.0 u at.1 in in_order s.right.now s.orders.right b.right f.aig f.places x.0.right.0 c.args.cycle u x.2);
+      left_each = h.left_each ∙ ap length (sym c.as_slice.ensures);
+      right_each = h.right_each ∙ ap length (sym c.as_slice.ensures);
+      left = left_in_order s b f c.args.cycle left right h;
+      right = right_in_order s b f c.args.cycle left right h;
     }
 
 pub decide_near-requires-clause-asked : goal.decide_near-requires-clause-asked

@@ -1,5 +1,5 @@
 -- A's functions stay while B is unfolded and the assumption is put, and a refusal is that of a circuit's outputs in the cycles up to this one.
-use Rattle.std.proofs.Common.{◌≡◌, ◌∙◌, ◌+◌, ◌*◌, ◌<◌, List, length, Err, refl, sym, subst, arith, rules}
+use Rattle.std.proofs.Common.{◌≡◌, ◌∙◌, ◌+◌, ◌*◌, ◌<◌, List, length, Err, refl, sym, ap, subst, arith, rules}
 use Rattle.std.specs.List.{All, Contains}
 use Rattle.circuit_theory.specs.declared.Side.TheVariants.{A, B}
 use Rattle.circuit_theory.proofs.Lists.{All-from_each}
@@ -11,11 +11,10 @@ use Rattle.assume_laws.specs.assume_shape.Shape.{assumption_of}
 use Rattle.reset_form.proofs.reset_functions.OwnPairs.{output_within}
 use Rattle.reset_form.proofs.reset_unfold.Known.{fits_later}
 use Rattle.cycle_search.specs.Outputs.{side_of}
-use Rattle.cycle_search.proofs.Growing.{functions_later}
 use Rattle.cycle_search.proofs.PairsIn.{own_pairs}
-use Rattle.cycle_search.proofs.Sides.{left_refused, right_refused, functions_as, done_all}
+use Rattle.cycle_search.proofs.Sides.{left_refused, right_refused, functions_of, done_of, done_all, fits_as}
 use Rattle.cycle_under.specs.Cycles.{ComparedUnder}
-use Rattle.cycle_under.proofs.Cares.{care_later}
+use Rattle.cycle_under.proofs.Cares.{care_later, care_as}
 use Rattle.cycle_under.proofs.cycle.compare_cycle.Goals as goal
 
 pub unfold_side-requires-clause-signals : goal.unfold_side-requires-clause-signals
@@ -60,34 +59,58 @@ care_with-requires-clause-care c =
     care_later f.places c.unfold_side-2.new.places (adds_trans (λ p. Unit {0}) f.places c.unfold_side.new.places c.unfold_side-2.new.places one.adds two.adds) (assumption_of n inputs output) f.aig c.unfold_side-2.new.aig c.args.cycle
     c.args.unfolded.now.care c.keeps-3.ensures.graph (Grows-trans f.aig c.unfold_side.new.aig c.unfold_side-2.new.aig one.grows two.grows) (c.requires.before.care n inputs output size function assumption)
 
-pub decide_cycle-requires-clause-functions : goal.decide_cycle-requires-clause-functions
-decide_cycle-requires-clause-functions c =
-    let s = c.args.setup.now in
-    let b = c.args.bases in
-    let u = c.args.unfolded.now in
+pub functions_apart-requires : goal.functions_apart-requires
+functions_apart-requires c =
+    let one = c.unfold_side.ensures.later in
+    let two = c.unfold_side-2.ensures.later in
     let before = c.requires.before in
-    let later = c.unfold_side-2.ensures.later in
+    let pairs = c.as_slice-pairs.result.now in
+    let l = c.unfold_side.new.unfolder in
+    let r = c.unfold_side-2.new.unfolder in
     let g = c.unfold_side-2.new.aig in
     let places = c.unfold_side-2.new.places in
     let h = c.care_with.new.aig in
     let more = c.care_with.new.places in
     let grows = c.in_ok-care.ensures.grows in
     let adds = c.in_ok-care.ensures.adds in
+    let w = c.args.premise.now.weight in
+    let next : w * (c.args.cycle + 1) ≡ w * c.args.cycle + w = grind arith in
     record {
-      left_are =
-          functions_as s.left.now u.left.net before.left_net s.orders.left u.left.order before.left_order b.left u.left.base before.left_base h more A c.args.cycle c.as_slice-pairs.result.now s.pairs c.as_slice-pairs.ensures c.in_ok-left.left.items c.in_ok-left.left.items refl
-          (functions_later u.left.net u.left.order u.left.base g h places more grows adds A c.args.cycle c.as_slice-pairs.result.now c.in_ok-left.left.items
-          (functions_later u.left.net u.left.order u.left.base c.unfold_side.new.aig g c.unfold_side.new.places places later.grows later.adds A c.args.cycle c.as_slice-pairs.result.now c.in_ok-left.left.items c.in_ok-left.ensures.unfolded));
-      right_are =
-          functions_as s.right.now u.right.net before.right_net s.orders.right u.right.order before.right_order b.right u.right.base before.right_base h more B c.args.cycle c.as_slice-pairs.result.now s.pairs c.as_slice-pairs.ensures c.in_ok-right.right.items c.in_ok-right.right.items refl
-          (functions_later u.right.net u.right.order u.right.base g h places more grows adds B c.args.cycle c.as_slice-pairs.result.now c.in_ok-right.right.items c.in_ok-right.ensures.unfolded);
+      left_literals = c.in_ok-left.ensures.literals;
+      right_literals = c.in_ok-right.ensures.literals;
+      left_done = done_of A c.args.cycle pairs c.args.unfolded.now.left.done l.done c.in_ok-left.ensures.done;
+      right_done = done_of B c.args.cycle pairs c.args.unfolded.now.right.done r.done c.in_ok-right.ensures.done;
+      left_fits = fits_later l g h places more grows adds (fits_later l c.unfold_side.new.aig g c.unfold_side.new.places places two.grows two.adds c.in_ok-left.ensures.fits);
+      right_fits = fits_later r g h places more grows adds c.in_ok-right.ensures.fits;
+      entries = omega (arith, before.entries, one.entries, two.entries, c.in_ok-care.ensures.entries, next, c.requires.light.light, c.in_ok-left.ensures.fits.small, c.in_ok-right.ensures.fits.small);
     }
 
+pub decide_cycle-requires-clause-functions : goal.decide_cycle-requires-clause-functions
+decide_cycle-requires-clause-functions c =
+    let s = c.args.setup.now in
+    let b = c.args.bases in
+    let before = c.requires.before in
+    let one = c.unfold_side.ensures.later in
+    let two = c.unfold_side-2.ensures.later in
+    let found = c.in_ok-sides.sides in
+    functions_of s b c.functions_apart.new.functions c.args.cycle c.unfold_side.new.unfolder c.unfold_side-2.new.unfolder c.care_with.new.aig c.care_with.new.places c.as_slice-pairs.result.now found found.left.items found.right.items
+    c.in_ok-sides.ensures.apart (one.net ∙ before.left_net) (one.order ∙ before.left_order) (one.base ∙ before.left_base) (two.net ∙ before.right_net) (two.order ∙ before.right_order) (two.base ∙ before.right_base)
+    c.functions_apart.ensures.same_aig c.functions_apart.ensures.same_places c.as_slice-pairs.ensures refl refl
+
 pub decide_cycle-requires-clause-cared : goal.decide_cycle-requires-clause-cared
-decide_cycle-requires-clause-cared c = let w = c.requires.premise in (assumption_of w.net w.inputs w.output, c.in_ok-care.ensures.care w.net w.inputs w.output w.size w.function w.assumption)
+decide_cycle-requires-clause-cared c =
+    let w = c.requires.premise in (
+      assumption_of w.net w.inputs w.output,
+      care_as (assumption_of w.net w.inputs w.output) c.care_with.new.aig c.functions_apart.new.functions.aig c.care_with.new.places c.functions_apart.new.functions.places (c.args.cycle + 1) c.in_ok-care.care c.functions_apart.ensures.same_aig
+          c.functions_apart.ensures.same_places (c.in_ok-care.ensures.care w.net w.inputs w.output w.size w.function w.assumption),
+    )
 
 pub returns-clause-compared : goal.returns-clause-compared
-returns-clause-compared c = λ n inputs output size function assumption. c.in_ok-found.ensures (assumption_of n inputs output) (c.in_ok-care.ensures.care n inputs output size function assumption)
+returns-clause-compared c =
+    λ n inputs output size function assumption.
+    c.in_ok-found.ensures (assumption_of n inputs output)
+    (care_as (assumption_of n inputs output) c.care_with.new.aig c.functions_apart.new.functions.aig c.care_with.new.places c.functions_apart.new.functions.places (c.args.cycle + 1) c.in_ok-care.care c.functions_apart.ensures.same_aig
+    c.functions_apart.ensures.same_places (c.in_ok-care.ensures.care n inputs output size function assumption))
 
 pub returns-clause-after : goal.returns-clause-after
 returns-clause-after c =
@@ -104,6 +127,10 @@ returns-clause-after c =
     let adds = c.in_ok-care.ensures.adds in
     let w = c.args.premise.now.weight in
     let next : w * (c.args.cycle + 1) ≡ w * c.args.cycle + w = grind arith in
+    let f = c.functions_apart.new.functions in
+    let same = c.functions_apart.ensures in
+    let few = ap length same.same_aig in
+    let short = ap length same.same_places in
     record {
       left_net = one.net ∙ before.left_net;
       left_order = one.order ∙ before.left_order;
@@ -111,11 +138,13 @@ returns-clause-after c =
       right_net = two.net ∙ before.right_net;
       right_order = two.order ∙ before.right_order;
       right_base = two.base ∙ before.right_base;
-      left_fits = fits_later c.unfold_side.new.unfolder g h places more grows adds (fits_later c.unfold_side.new.unfolder c.unfold_side.new.aig g c.unfold_side.new.places places two.grows two.adds c.in_ok-left.ensures.fits);
-      right_fits = fits_later c.unfold_side-2.new.unfolder g h places more grows adds c.in_ok-right.ensures.fits;
+      left_fits =
+          fits_as c.unfold_side.new.unfolder h f.aig more f.places same.same_aig same.same_places
+          (fits_later c.unfold_side.new.unfolder g h places more grows adds (fits_later c.unfold_side.new.unfolder c.unfold_side.new.aig g c.unfold_side.new.places places two.grows two.adds c.in_ok-left.ensures.fits));
+      right_fits = fits_as c.unfold_side-2.new.unfolder h f.aig more f.places same.same_aig same.same_places (fits_later c.unfold_side-2.new.unfolder g h places more grows adds c.in_ok-right.ensures.fits);
       left_done = done_all A c.args.cycle s.pairs c.as_slice-pairs.result.now c.as_slice-pairs.ensures u.left.done c.unfold_side.new.unfolder.done before.left_done c.in_ok-left.ensures.done;
       right_done = done_all B c.args.cycle s.pairs c.as_slice-pairs.result.now c.as_slice-pairs.ensures u.right.done c.unfold_side-2.new.unfolder.done before.right_done c.in_ok-right.ensures.done;
-      care = c.in_ok-care.ensures.care;
-      nodes = omega (arith, before.nodes, one.nodes, two.nodes, c.in_ok-care.ensures.nodes, next);
-      entries = omega (arith, before.entries, one.entries, two.entries, c.in_ok-care.ensures.entries, next);
+      care = λ n inputs output size function assumption. care_as (assumption_of n inputs output) h f.aig more f.places (c.args.cycle + 1) c.in_ok-care.care same.same_aig same.same_places (c.in_ok-care.ensures.care n inputs output size function assumption);
+      nodes = omega (arith, before.nodes, one.nodes, two.nodes, c.in_ok-care.ensures.nodes, next, few);
+      entries = omega (arith, before.entries, one.entries, two.entries, c.in_ok-care.ensures.entries, next, short);
     }

@@ -22,7 +22,7 @@ use Rattle.edbf_unfold.specs.declared.event_literals.event_walk.frames.Ways.{Way
 use Rattle.event_nodes.specs.Adds.{Adds}
 use Rattle.event_nodes.specs.Nodes.{IsChild, path_of}
 use Rattle.event_nodes.specs.View.{EventCircuitView, side_of, Enabled}
-use Rattle.edbf_unfold.specs.event_literals.event_walk.Ready.{put_of, IsOwnPut, IsFreeOf, IsMetIn}
+use Rattle.edbf_unfold.specs.event_literals.event_walk.Ready.{put_of, IsOwnPut, IsFreeOf, IsBoundTo, IsMetIn}
 use Rattle.edbf_unfold.specs.event_literals.event_walk.Walk.{IsSeen, IsExpanded, IsVisitedPlace, IsHeldPut, IsEntry, AreWays, IsFitting, AreReadIn, IsReadPlace, out_of}
 use Rattle.event_nodes.proofs.flat_net.Drivers.{input_reads, input_latch, gate_reads_from, gate_latch, latch_reads, latch_next, latch_out, latch_equation_stands}
 use Rattle.event_nodes.proofs.Lists.{adds_at}
@@ -173,10 +173,10 @@ reads_visited e frames more children s p visited adds f at fanins read q h = sub
     visit : EventVisits (side_of e) (Enabled e) (s ∷ []) visited.out h.fanin.0 (path_of children f.node)
     visit = EventVisits.reads (subst (λ (g : Frame). EventVisits (side_of e) (Enabled e) (s ∷ []) visited.out p.1 (path_of children g.node)) frame_is visited.visit) (read h.fanin h.reads)
 
-    go : (q.0 ≡ p.0) ⊎ ((slice_get more q.0 ≡ Some (record { node = f.node; put = Free })) × IsFreeOf e.net f.put h.fanin.0) → IsVisitedPlace e more children s (q.0, h.fanin.0)
+    go : ((q.0 ≡ p.0) × IsBoundTo e.net f.put h.fanin.0) ⊎ ((slice_get more q.0 ≡ Some (record { node = f.node; put = Free })) × IsFreeOf e.net f.put h.fanin.0) → IsVisitedPlace e more children s (q.0, h.fanin.0)
     go (inl own) = record {
       frame = f;
-      at = adds_at (λ (g : Frame). Unit {0}) frames more q.0 f adds (subst (λ (k : ℕ). slice_get frames k ≡ Some f) (sym own) at);
+      at = adds_at (λ (g : Frame). Unit {0}) frames more q.0 f adds (subst (λ (k : ℕ). slice_get frames k ≡ Some f) (sym own.0) at);
       node = node;
       out = visited.out;
       fits = fits_reads e.net f.put visited.out p.1 h.fanin.0 fits (read h.fanin h.reads);

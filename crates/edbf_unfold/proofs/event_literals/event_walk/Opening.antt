@@ -1,5 +1,5 @@
 -- Frames and event nodes are added while places are expanded.
-use Rattle.std.proofs.Common.{◌≡◌, ◌∙◌, ◌+◌, ◌-◌, ◌*◌, ◌<◌, ◌≤◌, ℕ, List, [], ◌∷◌, ◌++◌, length, take, get_or, slice_get, Some, refl, sym, ap, subst, arith, inl, inr}
+use Rattle.std.proofs.Common.{◌≡◌, ◌∙◌, ◌+◌, ◌*◌, ◌<◌, ◌≤◌, ℕ, List, [], ◌∷◌, ◌++◌, length, take, get_or, slice_get, Some, refl, sym, ap, subst, arith, inl, inr}
 use Rattle.std.specs.Prelude.{◌⊎◌}
 use Rattle.std.specs.List.{All, Contains, sum_by}
 use Rattle.std.proofs.lemmas.List.Sums.{sum_by_more}
@@ -9,18 +9,19 @@ use Rattle.event_nodes.specs.flat_net.Signal.{Signal}
 use Rattle.event_nodes.specs.flat_net.LatchAt.{LatchAt}
 use Rattle.event_nodes.proofs.flat_net.Growth.{length-push, slice_get-append, slice_get-push_cases}
 use Rattle.event_nodes.proofs.flat_net.Nets.{some_at}
-use Rattle.event_nodes.proofs.flat_net.Places.{one_at}
+use Rattle.event_nodes.proofs.flat_net.Places.{one_at, All-at}
 use Rattle.event_nodes.specs.Adds.{Adds}
 use Rattle.edbf_unfold.specs.declared.event_literals.event_walk.frames.Frame.{Frame}
 use Rattle.edbf_unfold.specs.declared.event_literals.event_walk.frames.Step.{Step}
 use Rattle.event_nodes.specs.Nodes.{EventGraphView, GrowsEvents, IsChild}
 use Rattle.event_nodes.specs.View.{EventCircuitView, side_of}
-use Rattle.edbf_unfold.specs.event_literals.event_walk.Ready.{EventWalkerView, IsReadyBy, IsFreeOf}
+use Rattle.edbf_unfold.specs.event_literals.event_walk.Ready.{EventWalkerView, IsReadyBy, IsFreeOf, IsBoundTo}
 use Rattle.event_nodes.specs.flat_net.Weights.{weight_at}
 use Rattle.edbf_unfold.specs.declared.event_literals.event_walk.frames.Ways.{Ways}
-use Rattle.edbf_unfold.specs.event_literals.event_walk.Walk.{IsSeen, IsExpanded, IsEntry, IsOpened, IsWalk, IsReadPlace}
+use Rattle.edbf_unfold.specs.event_literals.event_walk.Walk.{IsSeen, IsExpanded, IsEntry, IsOpened, IsWalk, IsReadPlace, IsOwnPlace}
 use Rattle.edbf_unfold.specs.declared.event_literals.event_walk.frames.Put.TheVariants.{Free}
 use Rattle.edbf_unfold.proofs.event_literals.event_walk.Fitting.{met_in_later}
+use Rattle.edbf_unfold.proofs.event_literals.event_walk.Owning.{own_later}
 use Rattle.event_nodes.proofs.Lists.{adds_none, adds_trans, adds_contains, adds_at, adds_length, adds_take}
 use Rattle.event_nodes.proofs.Growing.{grows_refl, grows_trans, children_more}
 
@@ -61,8 +62,8 @@ fanins_seen e frames more children p fanins seen adds lower q h = subst (λ (s :
     inside : h.fanin.0 < length e.net.drivers
     inside = let below = lower h.fanin h.reads in omega (arith, below, seen.3)
 
-    go : (q.0 ≡ p.0) ⊎ ((slice_get more q.0 ≡ Some (record { node = seen.0.node; put = Free })) × IsFreeOf e.net seen.0.put h.fanin.0) → IsSeen e more children (q.0, h.fanin.0)
-    go (inl own) = (seen.0, adds_at (λ (f : Frame). Unit {0}) frames more q.0 seen.0 adds (subst (λ (k : ℕ). slice_get frames k ≡ Some seen.0) (sym own) seen.1), seen.2, inside)
+    go : ((q.0 ≡ p.0) × IsBoundTo e.net seen.0.put h.fanin.0) ⊎ ((slice_get more q.0 ≡ Some (record { node = seen.0.node; put = Free })) × IsFreeOf e.net seen.0.put h.fanin.0) → IsSeen e more children (q.0, h.fanin.0)
+    go (inl own) = (seen.0, adds_at (λ (f : Frame). Unit {0}) frames more q.0 seen.0 adds (subst (λ (k : ℕ). slice_get frames k ≡ Some seen.0) (sym own.0) seen.1), seen.2, inside)
     go (inr free) = (record { node = seen.0.node; put = Free }, free.0, seen.2, inside)
 
 -- the place where a latch takes over its data is seen
@@ -116,14 +117,21 @@ ready_later e frames new w x M N step adds grows to r = record {
 }
 
 -- one place more is expanded
-pub walk_more : (u v t : EventWalkerView) (w x y : EventGraphView) (root beside : ℕ × ℕ) (table new : List (ℕ × ℕ)) (ways : List Ways) (at weight more cap : ℕ) (p : ℕ × ℕ) (g : Ways) → IsWalk u v w x root beside table ways at weight cap → slice_get table at ≡ Some p →
-    IsOpened v t x y 1 → Adds (IsSeen t.circuit t.frames y.children) table new → IsExpanded t.circuit t.frames y.children new p g → length new ≤ length table + 2 * more → 1 ≤ more → more ≤ cap - weight → more ≡ weight_at v.circuit.net p.1 → IsWalk u t w y root beside new (ways ++ g ∷ []) (at + 1) (weight + more) cap
-walk_more u v t w x y root beside table new ways at weight more cap p g walk here opened adds expanded few some room heavy = record {
+pub walk_more : (u v t : EventWalkerView) (w x y : EventGraphView) (root beside : ℕ × ℕ) (table new : List (ℕ × ℕ)) (ways : List Ways) (at weight more cap room : ℕ) (p : ℕ × ℕ) (g : Ways) → IsWalk u v w x root beside table ways at weight cap → slice_get table at ≡ Some p →
+    IsOpened v t x y 1 → Adds (IsSeen t.circuit t.frames y.children) table new → ((IsOwnPlace v.circuit.net v.frames root.0 beside.0 p) → Adds (IsOwnPlace t.circuit.net t.frames root.0 beside.0) table new) → IsExpanded t.circuit t.frames y.children new p g → length new ≤ length table + 2 * more → 1 ≤ more → weight + more ≤ room → more ≡ weight_at v.circuit.net p.1 →
+    IsWalk u t w y root beside new (ways ++ g ∷ []) (at + 1) (weight + more) room
+walk_more u v t w x y root beside table new ways at weight more cap room p g walk here opened adds own expanded few some light heavy = record {
   begins = adds_contains (IsSeen t.circuit t.frames y.children) table new root adds walk.begins;
   begins_beside = adds_contains (IsSeen t.circuit t.frames y.children) table new beside adds walk.begins_beside;
   seen = subst (All (IsSeen t.circuit t.frames y.children)) (sym adds.is)
       (All-append (IsSeen t.circuit t.frames y.children) table adds.more
       (All-weaker (IsSeen v.circuit v.frames x.children) (IsSeen t.circuit t.frames y.children) (λ q s. seen_later v t x y 1 q opened (children_more x y opened.grows) s) table walk.seen) adds.each);
+  own =
+      let own_adds = own (All-at (IsOwnPlace v.circuit.net v.frames root.0 beside.0) table at p here walk.own) in
+      subst (All (IsOwnPlace t.circuit.net t.frames root.0 beside.0)) (sym own_adds.is)
+      (All-append (IsOwnPlace t.circuit.net t.frames root.0 beside.0) table own_adds.more
+      (All-weaker (IsOwnPlace v.circuit.net v.frames root.0 beside.0) (IsOwnPlace t.circuit.net t.frames root.0 beside.0)
+      (λ q s. subst (λ (e : EventCircuitView). IsOwnPlace e.net t.frames root.0 beside.0 q) (sym opened.circuit) (own_later v.circuit.net v.frames t.frames opened.frames root.0 beside.0 q s)) table walk.own) own_adds.each);
   each = omega (arith, length-push ways g, walk.each);
   expanded = λ i q h at_i over. go i q h at_i (slice_get-push_cases ways g i h over);
   opened = opened_trans u v t w x y at 1 walk.opened opened;
@@ -136,7 +144,7 @@ walk_more u v t w x y root beside table new ways at weight more cap p g walk her
       ∙ (let one = sum_by_more f table at p l in let at_p : get_or table at p ≡ p = get_or_from_slice_get table at p p here in let own = ap f at_p in omega (arith, one, own, walk.weighs, heavy)));
   few = omega (arith, few, walk.few);
   passed = omega (arith, walk.passed, some);
-  small = omega (arith, walk.small, room);
+  small = omega (arith, light);
 }
   where
     go : (i : ℕ) (q : ℕ × ℕ) (h : Ways) → slice_get new i ≡ Some q → (slice_get ways i ≡ Some h) ⊎ ((i ≡ length ways) × (g ≡ h)) → IsExpanded t.circuit t.frames y.children new q h
@@ -160,11 +168,12 @@ both_hold P none one two p q empty first second holds other = more one two q (mo
     more : (xs ys : List (ℕ × ℕ)) (x : ℕ × ℕ) → All P xs → Adds (λ r. r ≡ x) xs ys → P x → All P ys
     more xs ys x all adds own = subst (All P) (sym adds.is) (All-append P xs adds.more all (All-weaker (λ (r : ℕ × ℕ). r ≡ x) P (λ r same. subst P (sym same) own) adds.more adds.each))
 
-pub walk_first : (u : EventWalkerView) (w : EventGraphView) (root beside : ℕ × ℕ) (table : List (ℕ × ℕ)) (cap : ℕ) → All (IsSeen u.circuit u.frames w.children) table → Contains table root → Contains table beside → length table ≤ 2 → IsWalk u u w w root beside table [] 0 0 cap
-walk_first u w root beside table cap seen begins also few = record {
+pub walk_first : (u : EventWalkerView) (w : EventGraphView) (root beside : ℕ × ℕ) (table : List (ℕ × ℕ)) (cap : ℕ) → All (IsSeen u.circuit u.frames w.children) table → All (IsOwnPlace u.circuit.net u.frames root.0 beside.0) table → Contains table root → Contains table beside → length table ≤ 2 → IsWalk u u w w root beside table [] 0 0 cap
+walk_first u w root beside table cap seen own begins also few = record {
   begins = begins;
   begins_beside = also;
   seen = seen;
+  own = own;
   each = refl;
   expanded = λ i p g at over. absurd (none-some g over);
   opened = opened_none u w 0;

@@ -10,7 +10,7 @@ use Rattle.event_nodes.proofs.Lists.{adds_trans, adds_weaker, adds_contains}
 use Rattle.edbf_unfold.specs.declared.event_literals.event_walk.frames.Frame.{Frame}
 use Rattle.edbf_unfold.specs.declared.event_literals.event_walk.frames.Put.{Put}
 use Rattle.edbf_unfold.specs.declared.event_literals.event_walk.frames.Put.TheVariants.{Free}
-use Rattle.edbf_unfold.specs.event_literals.event_walk.Ready.{IsFreeOf, IsMetIn}
+use Rattle.edbf_unfold.specs.event_literals.event_walk.Ready.{IsFreeOf, IsBoundTo, IsMetIn}
 use Rattle.edbf_unfold.specs.event_literals.event_walk.Walk.{IsFrameFor, IsReadAt, IsReadIn, AreReadIn, IsReadPlace}
 
 module _ (n : NetView) (put : Put) (own free : ℕ) (fanins : List Signal) where
@@ -33,7 +33,7 @@ module _ (n : NetView) (frames : List Frame) (f : Frame) (own free : ℕ) (at : 
   pub read_places : (old new : List (ℕ × ℕ)) → Adds (IsReadAt n f.put own free fanins) old new → Adds (IsReadPlace n frames f own fanins) old new
   read_places old new adds = adds_weaker (IsReadAt n f.put own free fanins) (IsReadPlace n frames f own fanins) old new (λ q h. record { fanin = h.fanin; reads = h.reads; signal = h.signal; frame = go q h.fanin.0 h.frame }) adds
     where
-      go : (q : ℕ × ℕ) (s : ℕ) → IsFrameFor n f.put own free s q.0 → (q.0 ≡ own) ⊎ ((slice_get frames q.0 ≡ Some (record { node = f.node; put = Free })) × IsFreeOf n f.put s)
+      go : (q : ℕ × ℕ) (s : ℕ) → IsFrameFor n f.put own free s q.0 → ((q.0 ≡ own) × IsBoundTo n f.put s) ⊎ ((slice_get frames q.0 ≡ Some (record { node = f.node; put = Free })) × IsFreeOf n f.put s)
       go q s (inl e) = inl e
       go q s (inr h) = inr (subst (λ (k : ℕ). slice_get frames k ≡ Some (record { node = f.node; put = Free })) (sym h.1) at, h.0)
 
@@ -41,5 +41,5 @@ module _ (n : NetView) (frames : List Frame) (f : Frame) (own free : ℕ) (at : 
   read_in table all = All-weaker (IsReadIn n f.put own free table) (λ (s : Signal). IsMetIn n frames (Contains table) f own free s.0) (λ s h. go s h.0 h.1 h.2) fanins all
     where
       go : (s : Signal) (k : ℕ) → IsFrameFor n f.put own free s.0 k → Contains table (k, s.0) → IsMetIn n frames (Contains table) f own free s.0
-      go s k (inl e) there = inl (subst (λ (m : ℕ). Contains table (m, s.0)) e there)
+      go s k (inl e) there = inl (subst (λ (m : ℕ). Contains table (m, s.0)) e.0 there)
       go s k (inr h) there = inr (at, h.0, subst (λ (m : ℕ). Contains table (m, s.0)) h.1 there)

@@ -25,11 +25,12 @@ use Rattle.event_nodes.proofs.Lists.{adds_none, adds_weaker, adds_cases, adds_at
 use Rattle.event_nodes.proofs.Paths.{child_path, path_grows}
 use Rattle.edbf_unfold.specs.declared.event_literals.event_walk.frames.Frame.{Frame}
 use Rattle.edbf_unfold.specs.event_literals.event_walk.Ready.{EventWalkerView, put_of}
-use Rattle.edbf_unfold.specs.event_literals.event_walk.Walk.{IsSeen, IsExpanded, IsEntry, IsVisitedPlace, IsStep, IsRefused, AreReadIn, IsReadPlace}
+use Rattle.edbf_unfold.specs.event_literals.event_walk.Walk.{IsSeen, IsExpanded, IsEntry, IsVisitedPlace, IsStep, IsRefused, AreReadIn, IsReadPlace, IsOwnPlace}
 use Rattle.edbf_unfold.specs.declared.event_literals.event_walk.frames.Ways.{Ways}
 use Rattle.event_nodes.proofs.Growing.{grows_refl}
 use Rattle.edbf_unfold.proofs.event_literals.event_walk.Expanding.{gate_expanded, entry_visited, latch_node, reads_visited}
 use Rattle.edbf_unfold.proofs.event_literals.event_walk.Opening.{opened_none, opened_one, fanins_seen, entry_seen}
+use Rattle.edbf_unfold.proofs.event_literals.event_walk.Owning.{fanins_own, entry_own}
 
 pub nodes_none : (e : EventCircuitView) (children : List (ℕ × ℕ)) (s : Start ℕ) → AreNodesFrom e children s (length children)
 nodes_none e children s k n class from at = absurd (let inside = slice_get_within children k (n, class) at in omega (arith, inside, from))
@@ -39,6 +40,7 @@ pub step_none : (u : EventWalkerView) (w : EventGraphView) (p : ℕ × ℕ) (old
 step_none u w p old = record {
   opened = opened_none u w 1;
   seen = adds_none (IsSeen u.circuit u.frames w.children) old old refl;
+  own = λ root beside is. adds_none (IsOwnPlace u.circuit.net u.frames root beside) old old refl;
   visits = λ s visited. (adds_none (IsVisitedPlace u.circuit u.frames w.children s) old old refl, nodes_none u.circuit w.children s);
 }
 
@@ -53,6 +55,10 @@ module _ (u v : EventWalkerView) (w : EventGraphView) (sound : IsSound u.circuit
     seen = subst (λ (e : EventCircuitView). Adds (IsSeen e v.frames w.children) old new) (sym one_circuit)
         (adds_weaker (IsReadPlace u.circuit.net v.frames seen.0 p.0 fanins) (IsSeen u.circuit v.frames w.children) old new
         (fanins_seen u.circuit u.frames v.frames w.children p fanins seen adds (λ f h. reads_lower u.circuit.net sound p.1 f.0 (read f h))) places);
+    own = λ root beside is.
+        subst (λ (e : EventCircuitView). Adds (IsOwnPlace e.net v.frames root beside) old new) (sym one_circuit)
+        (adds_weaker (IsReadPlace u.circuit.net v.frames seen.0 p.0 fanins) (IsOwnPlace u.circuit.net v.frames root beside) old new
+        (fanins_own u.circuit.net u.frames v.frames adds p seen.0 seen.1 fanins read root beside is) places);
     visits = λ s visited. (
       subst (λ (e : EventCircuitView). Adds (IsVisitedPlace e v.frames w.children s) old new) (sym one_circuit)
           (adds_weaker (IsReadPlace u.circuit.net v.frames seen.0 p.0 fanins) (IsVisitedPlace u.circuit v.frames w.children s) old new
@@ -107,6 +113,7 @@ module _ (u : EventWalkerView) (sound : IsSound u.circuit.net) (w x : EventGraph
     opened = opened_one u u refl w x grows is frames adds few;
     seen = adds_weaker (IsEntry u.circuit frames child l) (IsSeen u.circuit frames x.children) old new
         (entry_seen u.circuit frames x.children frame.node class child is_child l (latch_within u.circuit.net sound l.name p.1 l.next.0 (latch_equation_stands u.circuit.net sound p.1 j drives l on))) entries;
+    own = λ root beside is. adds_weaker (IsEntry u.circuit frames child l) (IsOwnPlace u.circuit.net frames root beside) old new (entry_own u.circuit sound j l on frames child root beside) entries;
     visits = λ s visited. (
       adds_weaker (IsEntry u.circuit frames child l) (IsVisitedPlace u.circuit frames x.children s) old new
           (entry_visited u.circuit sound u.frames w.children [] p seen j l drives on s visited frame at free frames x.children child path made) entries,

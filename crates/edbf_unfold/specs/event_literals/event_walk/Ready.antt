@@ -51,6 +51,16 @@ IsFreeOf n Free q = Unit {0}
 IsFreeOf n (Low u) q = Reaches (circuit_of n) q u → ⊥
 IsFreeOf n (High u) q = Reaches (circuit_of n) q u → ⊥
 
+-- The signal reads the latch within the cycle, if that is one and the signal is in the cone of what it takes over.
+abbrev pub IsBackOn : NetView → ℕ → ℕ → Type 0
+IsBackOn n u q = (name : List ℕ) (next : ℕ) → IsLatch (circuit_of n) name u next → Reaches (circuit_of n) next q → Reaches (circuit_of n) q u
+
+-- the same of the latch that is put, if one is
+abbrev pub IsBoundTo : NetView → Put → ℕ → Type 0
+IsBoundTo n Free q = Unit {0}
+IsBoundTo n (Low u) q = IsBackOn n u q
+IsBoundTo n (High u) q = IsBackOn n u q
+
 -- The signal, read in the frame, has been met: in the frame itself, or, if it doesn't reach the latch that is put, in the frame of the same
 -- node without one.
 abbrev pub IsMetIn : NetView → List Frame → (ℕ × ℕ → Type 0) → Frame → ℕ → ℕ → ℕ → Type 0

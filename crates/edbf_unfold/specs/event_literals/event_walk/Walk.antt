@@ -2,7 +2,7 @@
 use Rattle.std.specs.Prelude.{◌≡◌, ◌⊎◌, ℕ, ◌+◌, ◌*◌, ◌<◌, ◌≤◌, List, [], ◌∷◌, length, slice_get, take, Option, Some, None, Result, Err, All, Contains}
 use Rattle.std.specs.List.{sum_by}
 use Rattle.circuit_theory.specs.EventSizes.{Start, EventVisits}
-use Rattle.circuit_theory.specs.Circuit.{Reaches}
+use Rattle.circuit_theory.specs.Circuit.{IsLatch, Reaches}
 use Rattle.event_nodes.specs.flat_net.Signal.{Signal}
 use Rattle.event_nodes.specs.flat_net.LatchAt.{LatchAt}
 use Rattle.event_nodes.specs.flat_net.View.{NetView, circuit_of}
@@ -17,7 +17,7 @@ use Rattle.edbf_unfold.specs.declared.event_literals.event_walk.frames.Frame.{Fr
 use Rattle.edbf_unfold.specs.declared.event_literals.event_walk.frames.Put.{Put}
 use Rattle.edbf_unfold.specs.declared.event_literals.event_walk.frames.Put.TheVariants.{Free, Low, High}
 use Rattle.edbf_unfold.specs.declared.event_literals.event_walk.frames.Ways.{Ways}
-use Rattle.edbf_unfold.specs.event_literals.event_walk.Ready.{EventWalkerView, IsReadyBy, IsOwnPut, IsFreeOf, IsMetIn}
+use Rattle.edbf_unfold.specs.event_literals.event_walk.Ready.{EventWalkerView, IsReadyBy, IsOwnPut, IsFreeOf, IsBoundTo, IsMetIn}
 
 -- the place has a frame, at an event node that was made, and a signal of the net
 abbrev pub IsSeen : EventCircuitView → List Frame → List (ℕ × ℕ) → ℕ × ℕ → Type 0
@@ -50,9 +50,27 @@ pub record IsVisitedPlace (e : EventCircuitView) (frames : List Frame) (children
 abbrev pub AreVisitedPlaces : EventCircuitView → List Frame → List (ℕ × ℕ) → Start ℕ → ℕ × ℕ → ℕ × ℕ → Type 0
 AreVisitedPlaces e frames children s p q = IsVisitedPlace e frames children s p × IsVisitedPlace e frames children s q
 
+-- The signal is in the cone of what the latch takes over, and reads the latch within the cycle.
+pub record IsHeldBy (n : NetView) (u q : ℕ) : Type 0 where
+  pub name : List ℕ
+  pub next : ℕ
+  pub latch : IsLatch (circuit_of n) name u next
+  pub cone : Reaches (circuit_of n) next q
+  pub back : Reaches (circuit_of n) q u
+
+-- the same of the latch that is put, if one is
+abbrev pub IsPutFor : NetView → Put → ℕ → Type 0
+IsPutFor n Free q = Unit {0}
+IsPutFor n (Low u) q = IsHeldBy n u q
+IsPutFor n (High u) q = IsHeldBy n u q
+
+-- The place is in one of the two frames where a walk begins, or in one without a latch put, or with one that the signal reads.
+abbrev pub IsOwnPlace : NetView → List Frame → ℕ → ℕ → ℕ × ℕ → Type 0
+IsOwnPlace n frames root beside p = (p.0 ≡ root) ⊎ ((p.0 ≡ beside) ⊎ ((f : Frame) × (slice_get frames p.0 ≡ Some f) × IsPutFor n f.put p.1))
+
 -- a fan-in in its frame: its own, or the other one if the latch that is put isn't reached from it
 abbrev pub IsFrameFor : NetView → Put → ℕ → ℕ → ℕ → ℕ → Type 0
-IsFrameFor n put own free q k = (k ≡ own) ⊎ (IsFreeOf n put q × (k ≡ free))
+IsFrameFor n put own free q k = ((k ≡ own) × IsBoundTo n put q) ⊎ (IsFreeOf n put q × (k ≡ free))
 
 -- the place is a fan-in in its frame
 pub record IsReadAt (n : NetView) (put : Put) (own free : ℕ) (fanins : List Signal) (q : ℕ × ℕ) : Type 0 where
@@ -70,7 +88,7 @@ pub record IsReadPlace (n : NetView) (frames : List Frame) (f : Frame) (own : �
   pub fanin : Signal
   pub reads : Contains fanins fanin
   pub signal : q.1 ≡ fanin.0
-  pub frame : (q.0 ≡ own) ⊎ ((slice_get frames q.0 ≡ Some (record { node = f.node; put = Free })) × IsFreeOf n f.put fanin.0)
+  pub frame : ((q.0 ≡ own) × IsBoundTo n f.put fanin.0) ⊎ ((slice_get frames q.0 ≡ Some (record { node = f.node; put = Free })) × IsFreeOf n f.put fanin.0)
 
 -- the fan-ins stand in the table in the frame, or in the one of the same node without a latch put
 abbrev pub AreReadIn : NetView → List Frame → Frame → ℕ → ℕ → List (ℕ × ℕ) → List Signal → Type 0
@@ -108,6 +126,7 @@ pub record IsWalk (u v : EventWalkerView) (w x : EventGraphView) (root beside : 
   pub begins : Contains table root
   pub begins_beside : Contains table beside
   pub seen : All (IsSeen v.circuit v.frames x.children) table
+  pub own : All (IsOwnPlace v.circuit.net v.frames root.0 beside.0) table
   pub each : length ways ≡ at
   pub expanded : (i : ℕ) (p : ℕ × ℕ) (g : Ways) → slice_get table i ≡ Some p → slice_get ways i ≡ Some g → IsExpanded v.circuit v.frames x.children table p g
   pub opened : IsOpened u v w x at
@@ -140,6 +159,7 @@ pub record IsExact (u v : EventWalkerView) (w x : EventGraphView) (c d : Counter
 pub record IsStep (u v : EventWalkerView) (w x : EventGraphView) (p : ℕ × ℕ) (old new : List (ℕ × ℕ)) : Type 0 where
   pub opened : IsOpened u v w x 1
   pub seen : Adds (IsSeen v.circuit v.frames x.children) old new
+  pub own : (root beside : ℕ) → IsOwnPlace u.circuit.net u.frames root beside p → Adds (IsOwnPlace v.circuit.net v.frames root beside) old new
   pub visits : (s : Start ℕ) → IsVisitedPlace u.circuit u.frames w.children s p → Adds (IsVisitedPlace v.circuit v.frames x.children s) old new × AreNodesFrom u.circuit x.children s (length w.children)
 
 -- why it was refused: there are too many event nodes, or what was counted weighs too much

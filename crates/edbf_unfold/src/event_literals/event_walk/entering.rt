@@ -1,18 +1,20 @@
 //! The frames that a place leads to.
 
-ghost use Rattle.std.specs.Prelude.{◌≡◌, ◌+◌, ◌^◌, ◌<◌, ◌≤◌, true, length, slice_get, Some, Contains, IfOk};
+ghost use Rattle.std.specs.Prelude.{◌≡◌, ◌+◌, ◌^◌, ◌<◌, ◌≤◌, true, false, length, slice_get, Some, Contains, IfOk};
 ghost use Rattle.event_nodes.specs.flat_net.LatchAt.{LatchAt};
 ghost use Rattle.event_nodes.specs.Adds.{Adds};
 ghost use Rattle.edbf_unfold.specs.declared.event_literals.event_walk.frames.Put.TheVariants.{Free};
-ghost use Rattle.edbf_unfold.specs.event_literals.event_walk.Ready.{IsFreeOf};
+ghost use Rattle.edbf_unfold.specs.event_literals.event_walk.Ready.{IsFreeOf, IsBoundTo};
 ghost use Rattle.edbf_unfold.specs.event_literals.event_walk.Walk.{IsEntry, AreWays};
 
 use crate::event_literals::event_walk::frames::{Frame, Frames, Put, Ways};
 use event_nodes::{EventCircuit, NoMemory, PlaceTable, Signal, add, latch_of};
 
-/// Whether it is known that the signal doesn't read the latch that is put within the cycle.
+/// Whether it is known that the signal doesn't read the latch that is put within the cycle. It is known of each one in the cone of what
+/// that latch takes over.
 pub(crate) fn avoids(circuit: &EventCircuit, put: Put, signal: u32) -> bool
-    ensures { result ≡ true → IsFreeOf circuit.now.net put signal }
+    ensures yes { result ≡ true → IsFreeOf circuit.now.net put signal }
+    ensures no { result ≡ false → IsBoundTo circuit.now.net put signal }
 {
     match put {
         Put::Free => false,

@@ -1,6 +1,7 @@
 //! The walk over the places that an unfolding visits.
 
 ghost use Rattle.std.specs.Prelude.{◌≡◌, ◌⊎◌, ℕ, List, ◌+◌, ◌*◌, ◌^◌, ◌<◌, ◌≤◌, [], ◌∷◌, ◌++◌, length, slice_get, Some, All, Contains, IfOk, OnOk, OnErr, Err};
+ghost use Rattle.base_tables.specs.unique_table.Places.{StandOnce};
 ghost use Rattle.event_nodes.specs.flat_net.Sound.{IsSound};
 ghost use Rattle.circuit_theory.specs.EventSizes.{Start};
 ghost use Rattle.event_nodes.specs.flat_net.Driver.TheVariants as driver;
@@ -19,7 +20,7 @@ use crate::event_literals::event_walk::frames::{Frame, Frames, Put, Step, Ways, 
 use base_tables::UniqueTable;
 use event_nodes::{
     Counter, Driver, EventCircuit, EventGraph, EventUnfoldError, MAX_EVENT_NODES, NoMemory, Place,
-    PlaceTable, Signal, add, gate_of, weigh,
+    PlaceTable, Signal, add, gate_of,
 };
 use std::alloc::Global;
 use std::marker::Model;
@@ -106,8 +107,8 @@ impl<'a> EventWalker<'a> {
         Ok(steps)
     }
 
-    /// The places that the unfoldings of the root and of the place beside it visit, and the ways of each. `NoMemory` comes also where they
-    /// weigh more than the cap.
+    /// The places that the unfoldings of the root and of the place beside it visit, and the ways of each. They weigh at most five times
+    /// what is counted of them, so no limit of their number ends a walk.
     pub fn visited(
         &mut self,
         alloc: Global,
@@ -115,14 +116,12 @@ impl<'a> EventWalker<'a> {
         counter: &mut Counter,
         root: Place,
         beside: Place,
-        cap: u32,
     ) -> Result<(PlaceTable, Vec<Ways>), EventUnfoldError>
         requires seen { IsSeen self.old.circuit self.old.frames events.old.children root × IsSeen self.old.circuit self.old.frames events.old.children beside }
-        requires cap { cap ≤ 119304646 }
         requires weighed { IsWeighed self.old.circuit.net counter.old }
-        requires frames { length self.old.frames + 2 * cap + 2 < 2 ^ 32 }
+        requires frames { length self.old.frames + 20000002 < 2 ^ 32 }
         requires few { length events.old.children < 10000 }
-        ensures walked { IfOk result (λ r. (at : ℕ) × (weight : ℕ) × IsWalk self.old self.new events.old events.new root beside r.0 r.1.items at weight cap × IsExact self.old self.new events.old events.new counter.old counter.new root beside r.0 at × (length r.0 ≤ at)) }
+        ensures walked { IfOk result (λ r. (at : ℕ) × (weight : ℕ) × IsWalk self.old self.new events.old events.new root beside r.0 r.1.items at weight (5 * counter.new.weight) × IsExact self.old self.new events.old events.new counter.old counter.new root beside r.0 at × (length r.0 ≤ at)) }
         ensures counting { (s : Start ℕ) → AreVisitedPlaces self.old.circuit self.old.frames events.old.children s root beside → IsCounting self.old.circuit s events.old.children events.new.children counter.old counter.new }
         ensures grows { GrowsEvents events.old events.new }
         ensures refused { IsRefused self.old.circuit.net events.new.children counter.new.places result }
@@ -134,20 +133,24 @@ impl<'a> EventWalker<'a> {
         add(&mut table, beside.0, Signal(beside.1))?;
         let mut ways = Vec::new(alloc);
         let mut at = 0;
-        let mut weight = 0;
         while at < table.len() {
             events.keeps();
+            table.keeps();
+            self.keeps();
             let place = table.pair(at);
-            let Some(more) = weigh(circuit.net(), Signal(place.1), cap - weight) else {
-                return Err(EventUnfoldError::NoMemory);
-            };
             self.count(counter, place)?;
             let next = self.expand(events, &mut table, place)?;
             ways.push(next)?;
-            weight += more;
             at += 1;
         }
         Ok((table, ways))
+    }
+
+    /// Tells a proof that no frame stands twice. It does nothing.
+    fn keeps(&self)
+        ensures { StandOnce self.now.frames }
+    {
+        self.frames.keeps();
     }
 
     /// Counts the place.

@@ -1,5 +1,5 @@
 -- When the event function of a load enable is right, and what its variables are.
-use Rattle.std.specs.Prelude.{ℕ, []}
+use Rattle.std.specs.Prelude.{[]}
 use Rattle.event_nodes.specs.event_variables.flat_net.LatchAt.{LatchAt}
 use Rattle.event_nodes.specs.event_variables.flat_net.Sound.{IsSound}
 use Rattle.event_nodes.specs.Nodes.{EventGraphView, IsEventGraph}

@@ -12,7 +12,7 @@ ghost use Rattle.event_classes.specs.event_functions.class_totals.EnableFunction
 ghost use Rattle.event_classes.specs.event_functions.Refused.{HasFewNodes, IsTooHeavy, IsRefusal};
 
 use crate::event_functions::class_totals::enable_refusal::enable_refusal;
-use crate::event_functions::counting::{count_all, room_in};
+use crate::event_functions::counting::{count_all, find_room};
 use edbf_unfold::{EventLits, EventUnfolder};
 use event_nodes::event_variables::{
     Counter, EventCircuit, EventGraph, EventUnfoldError, Ids, Lit, visited_variables,
@@ -82,9 +82,9 @@ fn visit_enable(
     ensures places { OnOk result (length events.new.places < 2 ^ 31) }
 {
     circuit.keeps();
-    let room = room_in(events)?;
+    find_room(events)?;
     let mut unfolder = EventUnfolder::new(alloc, circuit);
-    match unfolder.enable(alloc, events, visits, j, room) {
+    match unfolder.enable(alloc, events, visits, j) {
         Ok(made) => Ok(made),
         Err(error) => Err(enable_refusal(alloc, circuit, events, visits, j, error)),
     }

@@ -170,10 +170,12 @@ module _ (c : Assumption) (s : Setup) (f : Functions) (h : AreSound s f) (asked 
         result_is = first.result_at;
         answered = first.answered;
         earlier = first.earlier;
-        named = shown.holds.pair_is ∙ (x.under.name_is ∙ x.asked_of.name_is);
-        cycle_is = shown.holds.cycle_is ∙ sym size;
-        names_are = shown.holds.names_are;
-        witness =
-            subst (λ n. IsWitnessUnder c (circuit_of s.left.now) (circuit_of s.right.now) s.orders.left s.orders.right x.pair.left.0 x.pair.right.0 (length s.columns) (bit_of meeting) w.stimulus.rows n w.left w.right)
-            (sym (shown.holds.cycle_is ∙ x.under.size_is)) is;
+        shown = record {
+          named = shown.holds.pair_is ∙ (x.under.name_is ∙ x.asked_of.name_is);
+          cycle_is = shown.holds.cycle_is ∙ sym size;
+          names_are = shown.holds.names_are;
+          witness =
+              subst (λ n. IsWitnessUnder c (circuit_of s.left.now) (circuit_of s.right.now) s.orders.left s.orders.right x.pair.left.0 x.pair.right.0 (length s.columns) (bit_of meeting) w.stimulus.rows n w.left w.right)
+              (sym (shown.holds.cycle_is ∙ x.under.size_is)) is;
+        };
       }

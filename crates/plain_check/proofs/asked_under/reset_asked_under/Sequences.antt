@@ -186,9 +186,10 @@ module _ (c : Assumption) (s : Setup) (b : Bases) (f : Functions) (h : AreSound 
         result_is = first.result_at;
         answered = first.answered;
         earlier = first.earlier;
-        named = is.sequence.pair_is ∙ (x.under.name_is ∙ x.asked_of.name_is);
-        within = omega (arith, cycle, le, depth, size);
-        names_are = is.sequence.names_are;
-        agree_before = λ t below. agree_before c s b f h.functions x.pair x.plain u x.asked_of x.under d.query r first.differs.first t (omega (arith, below, cycle));
-        witness = is_witness d u r x w first.differs.differs is;
+        shown = record {
+          named = is.sequence.pair_is ∙ (x.under.name_is ∙ x.asked_of.name_is);
+          names_are = is.sequence.names_are;
+          cycle_is = (omega (arith, cycle, le, depth, size), (λ t below. agree_before c s b f h.functions x.pair x.plain u x.asked_of x.under d.query r first.differs.first t (omega (arith, below, cycle))));
+          witness = is_witness d u r x w first.differs.differs is;
+        };
       }

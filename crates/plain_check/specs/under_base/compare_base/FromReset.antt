@@ -1,21 +1,18 @@
 -- A comparison from the latches' initial values: that an outcome fits two circuits, and that one is too large. No latch is cut open.
 use Rattle.std.specs.Prelude.{◌≡◌, ◌≤◌, ℕ, List, [], length, None}
-use Rattle.std.specs.List.{All, AllZip, Contains}
+use Rattle.std.specs.List.{AllZip, Contains}
 use Rattle.circuit_theory.specs.declared.Side.{Side}
 use Rattle.circuit_theory.specs.declared.Side.TheVariants.{A, B}
 use Rattle.circuit_theory.specs.Circuit.{Circuit}
 use Rattle.circuit_theory.specs.Fits.{IsPairDepth}
 use Rattle.circuit_theory.specs.Interface.{shared_inputs, AreNumbersOf}
-use Rattle.sec_base.specs.declared.basics.PairAnswer.TheVariants as answer
 use Rattle.flat_net.specs.View.{NetView, circuit_of, ports_of}
-use Rattle.obligations.specs.declared.outcome.verdict.LimitAt.TheVariants as limit_at
 use Rattle.obligations.specs.declared.outcome.verdict.Outcome.{Outcome}
 use Rattle.obligations.specs.declared.outcome.verdict.PairResult.{PairResult}
 use Rattle.obligations.specs.declared.outcome.verdict.Verdict.{Verdict}
-use Rattle.obligations.specs.declared.outcome.verdict.Verdict.TheVariants as verdict
 use Rattle.circuit_laws.specs.reset_laws.Reset.{AreBased}
 use Rattle.outcome_fits.specs.Pairs.{NamedPair, named_pairs}
-use Rattle.outcome_fits.specs.ResetOutcome.{Numbered, PairFits, IsFirstDifference, IsFirstLimit, greatest_size}
+use Rattle.outcome_fits.specs.ResetOutcome.{Numbered, PairFits, IsFirstDifference, ResetVerdictOf, greatest_size}
 use Rattle.reset_form.specs.reset_functions.Pairs.{IsLight, IsTooLarge}
 
 -- an output of A in a cycle up to the depth of its pair
@@ -50,14 +47,9 @@ numbered_by a b left right left_base right_base = record {
   columns = shared_inputs (ports_of a) (ports_of b);
 }
 
--- the first of different and limit that some pair has, and equal where every pair is equal
+-- the verdict of pairs as they are asked in each cycle up to their depth
 abbrev pub ResetVerdictFits : Numbered → List (NamedPair ℕ ℕ) → List PairResult → Verdict → Type 0
-ResetVerdictFits n pairs results verdict.Equal = All (λ (r : PairResult). r.answer ≡ answer.Equal) results
-ResetVerdictFits n pairs results (verdict.Different w) = ⊥
-ResetVerdictFits n pairs results (verdict.DifferentFrom w) = IsFirstDifference n pairs results w
-ResetVerdictFits n pairs results (verdict.NotShown reason) = ⊥
-ResetVerdictFits n pairs results (verdict.Limit (limit_at.Pair name)) = IsFirstLimit results name
-ResetVerdictFits n pairs results (verdict.Limit other) = ⊥
+ResetVerdictFits n pairs results v = ResetVerdictOf (IsFirstDifference n pairs results) results v
 
 -- The outcome fits the circuits: the counts, no assumption, no exposed name, the pairs of outputs in order with their answers, and the
 -- verdict.

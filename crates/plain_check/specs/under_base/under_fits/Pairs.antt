@@ -8,6 +8,7 @@ use Rattle.obligations.specs.Fits.{AnswerFits}
 use Rattle.obligations.specs.pair_decide.Proof.{Proof}
 use Rattle.obligations.specs.declared.outcome.verdict.PairResult.{PairResult}
 use Rattle.sec_setup.specs.ports.Pairs.{NamedPair}
+use Rattle.outcome_fits.specs.Results.{ResultFits}
 use Rattle.assume_laws.specs.Assume.{Assumption, under}
 
 -- what each answer says of a pair, and the proof that stands beside it
@@ -15,7 +16,5 @@ abbrev pub AnswerFitsUnder : {P Q : Type 0} → Assumption → Circuit P → Cir
 AnswerFitsUnder c a b left right cut conflicts p q result proof = AnswerFits (under c (plain_pair a b left right p q)) (cut ≡ false) conflicts result proof
 
 -- the result of a pair: its name, the greater of both depths, and the answer on both functions
-pub record PairFitsUnder {P Q : Type 0} (c : Assumption) (a : Circuit P) (b : Circuit Q) (left right : List ℕ) (cut : Bool) (conflicts : ℕ) (x : NamedPair P Q) (result : PairResult) : Type 0 where
-  pub name_is : result.name ≡ x.name
-  pub size_is : IsPairDepth a b x.left x.right result.size
-  pub answer_is : AnswerFitsUnder c a b left right cut conflicts x.left x.right result.answer result.proof
+abbrev pub PairFitsUnder : {P Q : Type 0} → Assumption → Circuit P → Circuit Q → List ℕ → List ℕ → Bool → ℕ → NamedPair P Q → PairResult → Type 0
+PairFitsUnder c a b left right cut conflicts x result = ResultFits x.name (IsPairDepth a b x.left x.right) (λ size. AnswerFitsUnder c a b left right cut conflicts x.left x.right) result

@@ -1,23 +1,20 @@
 -- What it means that an outcome from the initial values fits two circuits under an assumption.
 use Rattle.std.specs.Prelude.{◌≡◌, ◌≢◌, ℕ, ◌<◌, Bool, List, [], length}
-use Rattle.std.specs.List.{All, AllZip, Contains}
+use Rattle.std.specs.List.{AllZip, Contains}
 use Rattle.circuit_theory.specs.Circuit.{Circuit}
 use Rattle.circuit_theory.specs.Cone.{latches_of}
 use Rattle.circuit_theory.specs.Interface.{shared_inputs, AreNumbersOf}
 use Rattle.circuit_theory.specs.Run.{IsRun, IsResetRun}
-use Rattle.sec_base.specs.declared.basics.PairAnswer.TheVariants as answer
 use Rattle.flat_net.specs.View.{NetView, circuit_of, ports_of}
 use Rattle.witness_report.specs.declared.witness.PairName.TheVariants as pair
 use Rattle.witness_report.specs.Shown.{Obeys}
-use Rattle.obligations.specs.declared.outcome.verdict.LimitAt.TheVariants as limit_at
 use Rattle.obligations.specs.declared.outcome.verdict.Outcome.{Outcome}
 use Rattle.obligations.specs.declared.outcome.verdict.PairResult.{PairResult}
 use Rattle.obligations.specs.declared.outcome.verdict.ResetWitness.{ResetWitness}
 use Rattle.obligations.specs.declared.outcome.verdict.Verdict.{Verdict}
-use Rattle.obligations.specs.declared.outcome.verdict.Verdict.TheVariants as verdict
 use Rattle.circuit_laws.specs.reset_laws.Reset.{AreBased, AreAlikeFromReset, TakesPower}
 use Rattle.sec_setup.specs.ports.Pairs.{NamedPair, named_pairs}
-use Rattle.outcome_fits.specs.ResetOutcome.{Numbered, IsFirstLimit, greatest_size}
+use Rattle.outcome_fits.specs.ResetOutcome.{Numbered, ResetVerdictOf, greatest_size}
 use Rattle.assume_laws.specs.Assume.{Assumption, RunMeets, ReadsInputs}
 use Rattle.plain_check.specs.under_base.under_fits.ResetVerdict.{PairFitsUnder, IsFirstDifferenceUnder}
 
@@ -33,14 +30,9 @@ numbers_of a b left right left_base right_base = record {
   columns = shared_inputs (ports_of a) (ports_of b);
 }
 
--- the first of different and limit that some pair has, and equal where every pair is equal
+-- the verdict of pairs as they are asked under the assumption
 abbrev pub ResetVerdictFitsUnder : Assumption → Numbered → (ℕ → Bool) → List (NamedPair ℕ ℕ) → List PairResult → Verdict → Type 0
-ResetVerdictFitsUnder c n meeting pairs results verdict.Equal = All (λ (r : PairResult). r.answer ≡ answer.Equal) results
-ResetVerdictFitsUnder c n meeting pairs results (verdict.Different w) = ⊥
-ResetVerdictFitsUnder c n meeting pairs results (verdict.DifferentFrom w) = IsFirstDifferenceUnder c n meeting pairs results w
-ResetVerdictFitsUnder c n meeting pairs results (verdict.NotShown reason) = ⊥
-ResetVerdictFitsUnder c n meeting pairs results (verdict.Limit (limit_at.Pair name)) = IsFirstLimit results name
-ResetVerdictFitsUnder c n meeting pairs results (verdict.Limit other) = ⊥
+ResetVerdictFitsUnder c n meeting pairs results v = ResetVerdictOf (IsFirstDifferenceUnder c n meeting pairs results) results v
 
 -- The outcome fits the circuits under an assumption that reads inputs of both: the counts, no exposed name, the pairs of outputs in order with
 -- their answers, and the verdict. A sequence holds this row where it has no variable of both sides.

@@ -1,5 +1,5 @@
 -- What it means that what is found of some pairs fits two circuits whose runs begin with the latches' initial values, under an assumption.
-use Rattle.std.specs.Prelude.{◌≡◌, ◌≢◌, ℕ, ◌<◌, ◌≤◌, Bool, List, length, Option, Some, slice_get}
+use Rattle.std.specs.Prelude.{ℕ, ◌≤◌, Bool, List, length, Option}
 use Rattle.circuit_theory.specs.Asked.{AreEqual}
 use Rattle.circuit_theory.specs.Fits.{IsPairDepth}
 use Rattle.sec_base.specs.declared.basics.PairAnswer.{PairAnswer}
@@ -12,6 +12,7 @@ use Rattle.sec_setup.specs.ports.Pairs.{NamedPair}
 use Rattle.assume_laws.specs.Assume.{Assumption, under}
 use Rattle.assume_laws.specs.Sequences.{IsResetWitnessUnder}
 use Rattle.outcome_fits.specs.ResetOutcome.{Numbered, pair_at}
+use Rattle.outcome_fits.specs.Results.{ResultFits, IsFirst, IsSequenceOf}
 
 -- both functions of a pair agree in the cycle under each assignment that meets the assumption where they have variables
 abbrev pub AgreeAtUnder : Assumption → Numbered → ℕ → ℕ → ℕ → Type 0
@@ -26,24 +27,13 @@ abbrev pub AnswerFitsUnder : Assumption → Numbered → ℕ → ℕ → ℕ →
 AnswerFitsUnder c n conflicts p q depth result proof = AnswersFit (λ t. under c (pair_at n p q t)) conflicts depth result proof
 
 -- the result of a pair: its name, the greater of both depths, and the answer
-pub record PairFitsUnder (c : Assumption) (n : Numbered) (conflicts : ℕ) (x : NamedPair ℕ ℕ) (result : PairResult) : Type 0 where
-  pub name_is : result.name ≡ x.name
-  pub size_is : IsPairDepth n.a n.b x.left x.right result.size
-  pub answer_is : AnswerFitsUnder c n conflicts x.left x.right result.size result.answer result.proof
+abbrev pub PairFitsUnder : Assumption → Numbered → ℕ → NamedPair ℕ ℕ → PairResult → Type 0
+PairFitsUnder c n conflicts x result = ResultFits x.name (IsPairDepth n.a n.b x.left x.right) (AnswerFitsUnder c n conflicts x.left x.right) result
 
 -- The first pair that is different, the first cycle in which it can differ under the assumption, and a sequence with two power-ups that make
 -- it differ there: by an assignment of the variables of its query that meets the assumption in each cycle that has a variable of both
 -- functions, up to 16 variables the least one. Each cycle that has no such variable holds the meeting row.
-pub record IsFirstDifferenceUnder (c : Assumption) (n : Numbered) (meeting : ℕ → Bool) (pairs : List (NamedPair ℕ ℕ)) (results : List PairResult) (w : ResetWitness) : Type 0 where
-  pub index : ℕ
-  pub place : NamedPair ℕ ℕ
-  pub result : PairResult
-  pub place_is : slice_get pairs index ≡ Some place
-  pub result_is : slice_get results index ≡ Some result
-  pub answered : result.answer ≡ answer.Different
-  pub earlier : (i : ℕ) (r : PairResult) → i < index → slice_get results i ≡ Some r → r.answer ≢ answer.Different
-  pub named : w.witness.pair ≡ place.name
-  pub within : w.witness.cycle ≤ result.size
-  pub names_are : w.witness.stimulus.names ≡ n.columns
-  pub agree_before : AgreeBeforeUnder c n place.left place.right w.witness.cycle
-  pub witness : IsResetWitnessUnder c n.a n.b n.left n.right n.left_base n.right_base place.left place.right (length n.columns) meeting w.witness.stimulus.rows w.left_power w.right_power w.witness.cycle w.witness.left w.witness.right
+abbrev pub IsFirstDifferenceUnder : Assumption → Numbered → (ℕ → Bool) → List (NamedPair ℕ ℕ) → List PairResult → ResetWitness → Type 0
+IsFirstDifferenceUnder c n meeting pairs results w =
+    IsFirst answer.Different (λ x r. IsSequenceOf x.name n.columns (λ t. (t ≤ r.size) × AgreeBeforeUnder c n x.left x.right t)
+    (λ rows t left right. IsResetWitnessUnder c n.a n.b n.left n.right n.left_base n.right_base x.left x.right (length n.columns) meeting rows w.left_power w.right_power t left right) w.witness) pairs results

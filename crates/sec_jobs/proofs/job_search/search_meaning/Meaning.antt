@@ -130,9 +130,9 @@ module _ (a b : NetView) (cycles conflicts : ℕ) (s : Searched) (is : AreSearch
   module _ (w : ResetWitness) (f : IsDifferenceIn is.numbers s.last listed s.pairs w) where
     witness : IsResetWitness (circuit_of a) (circuit_of b) is.numbers.left is.numbers.right is.numbers.left_base is.numbers.right_base f.place.left f.place.right (length columns) w.witness.stimulus.rows w.left_power w.right_power w.witness.cycle w.witness.left w.witness.right
     witness =
-        subst (λ (t : ℕ). IsResetWitness (circuit_of a) (circuit_of b) is.numbers.left is.numbers.right is.numbers.left_base is.numbers.right_base f.place.left f.place.right (length columns) w.witness.stimulus.rows w.left_power w.right_power t w.witness.left w.witness.right) (sym f.cycle_is)
+        subst (λ (t : ℕ). IsResetWitness (circuit_of a) (circuit_of b) is.numbers.left is.numbers.right is.numbers.left_base is.numbers.right_base f.place.left f.place.right (length columns) w.witness.stimulus.rows w.left_power w.right_power t w.witness.left w.witness.right) (sym f.shown.cycle_is)
         (subst (λ (c : Circuit ℕ). IsResetWitness c (circuit_of b) is.numbers.left is.numbers.right is.numbers.left_base is.numbers.right_base f.place.left f.place.right (length columns) w.witness.stimulus.rows w.left_power w.right_power s.last w.witness.left w.witness.right) is.are_numbers.left_is
-        (subst (λ (c : Circuit ℕ). IsResetWitness is.numbers.a c is.numbers.left is.numbers.right is.numbers.left_base is.numbers.right_base f.place.left f.place.right (length columns) w.witness.stimulus.rows w.left_power w.right_power s.last w.witness.left w.witness.right) is.are_numbers.right_is f.witness))
+        (subst (λ (c : Circuit ℕ). IsResetWitness is.numbers.a c is.numbers.left is.numbers.right is.numbers.left_base is.numbers.right_base f.place.left f.place.right (length columns) w.witness.stimulus.rows w.left_power w.right_power s.last w.witness.left w.witness.right) is.are_numbers.right_is f.shown.witness))
 
     -- it is a pair of outputs
     outputs : IsOutputPair (circuit_of a) (circuit_of b) f.place
@@ -160,14 +160,14 @@ module _ (a b : NetView) (cycles conflicts : ℕ) (s : Searched) (is : AreSearch
     left_shows : (n : ℕ) (run : ℕ → ℕ → Bool) → w.witness.cycle < n → IsRun (circuit_of a) n run → TakesPower (circuit_of a) w.left_power run → Obeys (circuit_of a) w.witness.stimulus n run →
         run w.witness.cycle f.place.left ≡ w.witness.left
     left_shows n run below is_run takes obeys =
-        powered_value (circuit_of a) is.numbers.left is.numbers.right is.numbers.left_base columns left_numbers left_starts w.witness f.names_are (assigned same_shift witness.variables witness.bits) witness.rows_are w.left_power witness.left_power_is n run below is_run takes obeys
+        powered_value (circuit_of a) is.numbers.left is.numbers.right is.numbers.left_base columns left_numbers left_starts w.witness f.shown.names_are (assigned same_shift witness.variables witness.bits) witness.rows_are w.left_power witness.left_power_is n run below is_run takes obeys
         f.place.left witness.left_tree witness.left_unfolds
         (λ q i k number leaf. leaf_below witness.left_tree (Contains-head witness.left_tree (witness.right_tree ∷ [])) i k (is.are_numbers.based.left_inputs q i number) leaf) ∙ sym witness.left_value
 
     right_shows : (n : ℕ) (run : ℕ → ℕ → Bool) → w.witness.cycle < n → IsRun (circuit_of b) n run → TakesPower (circuit_of b) w.right_power run → Obeys (circuit_of b) w.witness.stimulus n run →
         run w.witness.cycle f.place.right ≡ w.witness.right
     right_shows n run below is_run takes obeys =
-        powered_value (circuit_of b) is.numbers.right is.numbers.left is.numbers.right_base columns right_numbers right_starts w.witness f.names_are (assigned same_shift witness.variables witness.bits) witness.rows_are w.right_power witness.right_power_is n run below is_run takes obeys
+        powered_value (circuit_of b) is.numbers.right is.numbers.left is.numbers.right_base columns right_numbers right_starts w.witness f.shown.names_are (assigned same_shift witness.variables witness.bits) witness.rows_are w.right_power witness.right_power_is n run below is_run takes obeys
         f.place.right witness.right_tree witness.right_unfolds
         (λ q i k number leaf.
         leaf_below witness.right_tree (Contains-tail witness.left_tree witness.right_tree (witness.right_tree ∷ []) (Contains-head witness.right_tree [])) i k (is.are_numbers.based.right_inputs q i number) leaf)
@@ -176,7 +176,7 @@ module _ (a b : NetView) (cycles conflicts : ℕ) (s : Searched) (is : AreSearch
     -- in an earlier cycle the functions agree
     earlier : (n : ℕ) (left right : ℕ → ℕ → Bool) → AreAlikeFromReset (circuit_of a) (circuit_of b) n left right → (t : ℕ) → t < n → t < w.witness.cycle → left t f.place.left ≡ right t f.place.right
     earlier n left right alike t low before =
-        let e = equal_at f.place.left f.place.right t (is.found.before f.place (of_at listed f.index f.place f.place_is) t (let k = f.cycle_is in omega (arith, before, k))) in
+        let e = equal_at f.place.left f.place.right t (is.found.before f.place (of_at listed f.index f.place f.place_is) t (let k = f.shown.cycle_is in omega (arith, before, k))) in
         reset_same_at (circuit_of a) (circuit_of b) is.numbers.left is.numbers.right is.numbers.left_base is.numbers.right_base numbered is.are_numbers.based left right n alike (λ (row : ℕ → Bool). Unit {0}) (λ s h row of_run. tt)
         f.place.left f.place.right t e.left_tree e.right_tree low e.left_unfolds e.right_unfolds (λ x cared. e.same x tt)
 
@@ -185,7 +185,7 @@ module _ (a b : NetView) (cycles conflicts : ℕ) (s : Searched) (is : AreSearch
       name = outputs.name;
       left_place = f.place.left;
       right_place = f.place.right;
-      named = f.named ∙ outputs.called;
+      named = f.shown.named ∙ outputs.called;
       left_output = outputs.left_output;
       right_output = outputs.right_output;
       differ = by_numbers.differ;

@@ -12,14 +12,14 @@ left_over-requires-clause-left c =
     let h = c.rules_of.new.graph in
     let lits = c.in_ok-copy.copy.lits.items in
     copied-within c.args.graph.now h lits (twins_grow c.args.graph.now c.in_ok-copy.copy.aig h c.keeps.ensures.graph c.rules_of.ensures lits c.in_ok-copy.ensures.twins) c.in_ok-copy.ensures.each c.as_slice.result.now c.args.left.now
-    c.in_ok-own_left.own_left.items c.as_slice-3.result.now c.as_slice.ensures.value c.in_ok-own_left.ensures c.as_slice-3.ensures.value c.requires.left
+    c.in_ok-own_left.own_left.items c.as_slice-5.result.now c.as_slice.ensures.value c.in_ok-own_left.ensures c.as_slice-5.ensures.value c.requires.left
 
 pub left_over-requires-clause-right : goal.left_over-requires-clause-right
 left_over-requires-clause-right c =
     let h = c.rules_of.new.graph in
     let lits = c.in_ok-copy.copy.lits.items in
     copied-within c.args.graph.now h lits (twins_grow c.args.graph.now c.in_ok-copy.copy.aig h c.keeps.ensures.graph c.rules_of.ensures lits c.in_ok-copy.ensures.twins) c.in_ok-copy.ensures.each c.as_slice-2.result.now c.args.right.now
-    c.in_ok-own_right.own_right.items c.as_slice-4.result.now c.as_slice-2.ensures.value c.in_ok-own_right.ensures c.as_slice-4.ensures.value c.requires.right
+    c.in_ok-own_right.own_right.items c.as_slice-6.result.now c.as_slice-2.ensures.value c.in_ok-own_right.ensures c.as_slice-6.ensures.value c.requires.right
 
 pub returns-in-None : goal.returns-in-None
 returns-in-None c =
@@ -27,9 +27,9 @@ returns-in-None c =
     let h = c.rules_of.new.graph in
     let lits = c.in_ok-copy.copy.lits.items in
     let are : AreTwins own h lits = twins_grow own c.in_ok-copy.copy.aig h c.keeps.ensures.graph c.rules_of.ensures lits c.in_ok-copy.ensures.twins in
-    let left : (a : ℕ → Bool) → word_bits (value h a) c.as_slice-3.result.now ≡ word_bits (value own a) c.args.left.now =
-    copied-bits own h lits are c.in_ok-copy.ensures.each c.as_slice.result.now c.args.left.now c.in_ok-own_left.own_left.items c.as_slice-3.result.now c.as_slice.ensures.value c.in_ok-own_left.ensures c.as_slice-3.ensures.value c.requires.left in
-    let right : (a : ℕ → Bool) → word_bits (value h a) c.as_slice-4.result.now ≡ word_bits (value own a) c.args.right.now =
-    copied-bits own h lits are c.in_ok-copy.ensures.each c.as_slice-2.result.now c.args.right.now c.in_ok-own_right.own_right.items c.as_slice-4.result.now c.as_slice-2.ensures.value c.in_ok-own_right.ensures c.as_slice-4.ensures.value c.requires.right in
+    let left : (a : ℕ → Bool) → word_bits (value h a) c.as_slice-5.result.now ≡ word_bits (value own a) c.args.left.now =
+    copied-bits own h lits are c.in_ok-copy.ensures.each c.as_slice.result.now c.args.left.now c.in_ok-own_left.own_left.items c.as_slice-5.result.now c.as_slice.ensures.value c.in_ok-own_left.ensures c.as_slice-5.ensures.value c.requires.left in
+    let right : (a : ℕ → Bool) → word_bits (value h a) c.as_slice-6.result.now ≡ word_bits (value own a) c.args.right.now =
+    copied-bits own h lits are c.in_ok-copy.ensures.each c.as_slice-2.result.now c.args.right.now c.in_ok-own_right.own_right.items c.as_slice-6.result.now c.as_slice-2.ensures.value c.in_ok-own_right.ensures c.as_slice-6.ensures.value c.requires.right in
     λ i x y at also a.
     bits-at (value own a) c.args.left.now c.args.right.now (sym (left a) ∙ if-none c.in_ok-rest.rest _ c.in-None.is c.in_ok-rest.ensures a ∙ right a) i x y at also

@@ -4,8 +4,8 @@ use Rattle.call_rows.specs.Starts.{IsStart}
 use Rattle.call_rows.proofs.Begun.{begun_circuit}
 use Rattle.call_rows.proofs.latches.circuits.begun.Goals as goal
 
-pub new-requires : goal.new-requires
-new-requires c =
+pub new-requires-clause-circuit : goal.new-requires-clause-circuit
+new-requires-clause-circuit c =
     begun_circuit c.args.net c.args.enabled c.in_ok-order.order c.in_ok-classes.classes c.requires (c.in_ok-order.ensures.each ∙ ap length c.inputs.ensures) c.in_ok-order.ensures.once
     (c.in_ok-classes.ensures.each ∙ ap length c.latches.ensures)
 

@@ -15,7 +15,7 @@ use Rattle.edbf_unfold.specs.event_literals.event_walk.Walk.{HasCountedStart, en
 use Rattle.edbf_unfold.specs.event_literals.Built.{AreMetOn}
 use Rattle.edbf_unfold.proofs.Caring.{enable_later}
 use Rattle.edbf_unfold.proofs.event_literals.event_walk.Stepping.{refused_memory, refused_ok}
-use Rattle.edbf_unfold.proofs.Finishing.{ready_less, unfolded_more, counting_same, finished_care, finished_count}
+use Rattle.edbf_unfold.proofs.Finishing.{unfolded_more, counting_same, finished_care, finished_count}
 use Rattle.edbf_unfold.proofs.event_literals.Going.{are_known_later}
 use Rattle.edbf_unfold.proofs.event_literals.Rooted.{next_within, enable_lit, walked_met}
 use Rattle.edbf_unfold.proofs.unfolder.EventUnfolder.enable.Goals as goal
@@ -40,7 +40,7 @@ care_of-requires-clause-known c =
 
 pub care_of-requires-clause-met : goal.care_of-requires-clause-met
 care_of-requires-clause-met c =
-    let met = walked_met c.unfold_in.new.self c.unfold_in.new.events _ c.latch_of-latch.result.now.next.0 _ c.args.room c.in_ok-unfolding.unfolding.table c.in_ok-unfolding.unfolding.ways.items c.in_ok-unfolding.ensures.walked in
+    let met = walked_met c.unfold_in.new.self c.unfold_in.new.events _ c.latch_of-latch.result.now.next.0 _ (5 * c.unfold_in.new.counter.weight) c.in_ok-unfolding.unfolding.table c.in_ok-unfolding.unfolding.ways.items c.in_ok-unfolding.ensures.walked in
     subst (λ (cs : List (ℕ × ℕ)). AreMetOn c.unfold_in.new.self cs c.in_ok-unfolding.unfolding.table c.as_slice.result.now) (sym c.enable_of.ensures.grown.children)
     (subst (λ (ws : List Ways). AreMetOn c.unfold_in.new.self c.unfold_in.new.events.children c.in_ok-unfolding.unfolding.table ws) (sym c.as_slice.ensures.value) met)
 
@@ -71,14 +71,14 @@ returns-clause-here c = λ l at.
           (enable_lit c.unfold_in.new.self.circuit c.unfold_in.new.events c.enable_of.new.events c.keeps-2.ensures.events c.enable_of.ensures.grown.grows c.latch_of-latch.result.now c.in_ok-unfolding.unfolding.lit.0 c.in_ok-unfolding.unfolding.high.0 c.in_ok-value.value.0
           c.in_ok-unfolding.ensures.here.0 c.in_ok-unfolding.ensures.here.1 c.in_ok-value.ensures.here c.in_ok-value.ensures.within),
       finished_care c.unfold_in.new.self c.unfold_in.new.events c.care_of.new.events (subst (λ (e : EventCircuitView). IsSound e.net) now c.keeps.ensures.sound) (subst IsEventCircuit now c.keeps.ensures.circuit) c.keeps-4.ensures.events
-          (grows_trans c.unfold_in.new.events c.enable_of.new.events c.care_of.new.events c.enable_of.ensures.grown.grows c.care_of.ensures.grown.grows) (record { node = 0; put = Low c.latch_of-latch.result.now.out.0 }) refl c.latch_of-latch.result.now.next.0 c.unfold_in.new.counter.places c.args.room
+          (grows_trans c.unfold_in.new.events c.enable_of.new.events c.care_of.new.events c.enable_of.ensures.grown.grows c.care_of.ensures.grown.grows) (record { node = 0; put = Low c.latch_of-latch.result.now.out.0 }) refl c.latch_of-latch.result.now.next.0 c.unfold_in.new.counter.places (5 * c.unfold_in.new.counter.weight)
           c.in_ok-unfolding.unfolding.table c.in_ok-unfolding.unfolding.ways.items c.in_ok-unfolding.ensures.walked (enable_start c.latch_of-latch.result.now) (refl, refl) c.in_ok-care.care.0 c.in_ok-care.ensures.here,
     )
 
 pub returns-clause-unfolded : goal.returns-clause-unfolded
 returns-clause-unfolded c =
-    unfolded_more c.args.self.now c.unfold_in.new.self c.args.events.now c.enable_of.new.events c.care_of.new.events (c.args.room + 2) _ _
-    (unfolded_more c.args.self.now c.unfold_in.new.self c.args.events.now c.unfold_in.new.events c.enable_of.new.events (c.args.room + 1) 1 (c.args.room + 2) c.in_ok-unfolding.ensures.unfolded.0 c.enable_of.ensures.grown (omega arith)) c.care_of.ensures.grown
+    unfolded_more c.args.self.now c.unfold_in.new.self c.args.events.now c.enable_of.new.events c.care_of.new.events ((5 * c.unfold_in.new.counter.weight) + 2) _ _
+    (unfolded_more c.args.self.now c.unfold_in.new.self c.args.events.now c.unfold_in.new.events c.enable_of.new.events (5 * c.unfold_in.new.counter.weight + 1) 1 ((5 * c.unfold_in.new.counter.weight) + 2) c.in_ok-unfolding.ensures.unfolded.0 c.enable_of.ensures.grown (omega arith)) c.care_of.ensures.grown
     (omega (arith, c.in_ok-unfolding.ensures.walked.few))
 
 pub returns-clause-counted : goal.returns-clause-counted
@@ -87,7 +87,7 @@ returns-clause-counted c = λ l at.
     let now : c.circuit-circuit.result.now ≡ c.unfold_in.new.self.circuit = c.circuit-circuit.ensures ∙ sym c.in_ok-unfolding.ensures.unfolded.0.circuit in
     subst (λ (k : LatchAt). HasCountedStart c.args.self.now.circuit (enable_start k) c.care_of.new.events.children c.args.counter.now c.unfold_in.new.counter) same
     (finished_count c.unfold_in.new.self c.unfold_in.new.events c.care_of.new.events (subst (λ (e : EventCircuitView). IsSound e.net) now c.keeps.ensures.sound) (subst IsEventCircuit now c.keeps.ensures.circuit) c.keeps-4.ensures.events
-    (grows_trans c.unfold_in.new.events c.enable_of.new.events c.care_of.new.events c.enable_of.ensures.grown.grows c.care_of.ensures.grown.grows) (record { node = 0; put = Low c.latch_of-latch.result.now.out.0 }) refl c.latch_of-latch.result.now.next.0 c.unfold_in.new.counter.places c.args.room
+    (grows_trans c.unfold_in.new.events c.enable_of.new.events c.care_of.new.events c.enable_of.ensures.grown.grows c.care_of.ensures.grown.grows) (record { node = 0; put = Low c.latch_of-latch.result.now.out.0 }) refl c.latch_of-latch.result.now.next.0 c.unfold_in.new.counter.places (5 * c.unfold_in.new.counter.weight)
     c.in_ok-unfolding.unfolding.table c.in_ok-unfolding.unfolding.ways.items c.in_ok-unfolding.ensures.walked (enable_start c.latch_of-latch.result.now) (refl, refl) c.args.self.now.circuit c.in_ok-unfolding.ensures.unfolded.0.circuit c.args.counter.now c.unfold_in.new.counter refl
     (sym (c.care_of.ensures.grown.children ∙ c.enable_of.ensures.grown.children)) c.in_ok-unfolding.ensures.unfolded.1)
 
@@ -106,14 +106,11 @@ returns-clause-grows c = grows_trans c.args.events.now c.enable_of.new.events c.
 pub unfold_in-requires-clause-known : goal.unfold_in-requires-clause-known
 unfold_in-requires-clause-known c = c.requires.known
 
-pub unfold_in-requires-clause-room : goal.unfold_in-requires-clause-room
-unfold_in-requires-clause-room c = ready_less c.args.self.now c.args.events.now c.args.counter.now c.args.room (9 * c.args.room + 4) c.args.room c.requires.room (omega arith)
-
 pub enable_of-requires-clause-room : goal.enable_of-requires-clause-room
-enable_of-requires-clause-room c = omega (arith, c.requires.room.has.nodes, c.in_ok-unfolding.ensures.unfolded.0.nodes)
+enable_of-requires-clause-room c = omega (arith, c.requires.room.has.nodes, c.in_ok-unfolding.ensures.unfolded.0.nodes, c.in_ok-unfolding.ensures.unfolded.1.weighed.small)
 
 pub care_of-requires-clause-room : goal.care_of-requires-clause-room
-care_of-requires-clause-room c = omega (arith, c.requires.room.has.nodes, c.in_ok-unfolding.ensures.unfolded.0.nodes, c.enable_of.ensures.grown.nodes, c.in_ok-unfolding.ensures.walked.few)
+care_of-requires-clause-room c = omega (arith, c.requires.room.has.nodes, c.in_ok-unfolding.ensures.unfolded.0.nodes, c.enable_of.ensures.grown.nodes, c.in_ok-unfolding.ensures.walked.few, c.in_ok-unfolding.ensures.unfolded.1.weighed.small)
 
 pub returns-in_err-value-clause-refused : goal.returns-in_err-value-clause-refused
 returns-in_err-value-clause-refused c =

@@ -25,7 +25,7 @@ unfold-requires-clause-known c =
 
 pub unfold-requires-clause-room : goal.unfold-requires-clause-room
 unfold-requires-clause-room c =
-    fresh_ready c.new-unfolder.result c.args.circuit.now c.new-unfolder.ensures.begins c.args.events.now c.args.visits.now c.in_ok-room.room c.requires.none c.in_ok-room.ensures.small c.in_ok-room.ensures.nodes c.in_ok-room.ensures.places c.requires.few
+    fresh_ready c.new-unfolder.result c.args.circuit.now c.new-unfolder.ensures.begins c.args.events.now c.args.visits.now c.requires.none c.in_ok-find_room.ensures.nodes c.in_ok-find_room.ensures.places c.requires.few
 
 pub returns-in-Ok-clause-here : goal.returns-in-Ok-clause-here
 returns-in-Ok-clause-here c =
@@ -48,7 +48,7 @@ returns-in-Ok-clause-grows c = c.unfold.ensures.counting.0
 
 pub returns-in-Ok-clause-places : goal.returns-in-Ok-clause-places
 returns-in-Ok-clause-places c =
-    omega (arith, c.in-Ok.ensures.unfolded.places, c.in_ok-room.ensures.places)
+    omega (arith, c.in-Ok.ensures.unfolded.places, c.in-Ok.ensures.counted.on.weighed.small, c.in_ok-find_room.ensures.places)
 
 pub signal_refusal-requires-clause-many : goal.signal_refusal-requires-clause-many
 signal_refusal-requires-clause-many c = λ is. c.in-Err.ensures.refused.many (ap Err is)
@@ -68,8 +68,8 @@ returns-clause-large c = λ is. (
   (c.signal_refusal.ensures.large (error_is is)).1,
 )
 
-pub returns-in_err-room-clause-counting : goal.returns-in_err-room-clause-counting
-returns-in_err-room-clause-counting c = record {
+pub returns-in_err-find_room-clause-counting : goal.returns-in_err-find_room-clause-counting
+returns-in_err-find_room-clause-counting c = record {
   more = adds_none (λ (q : ℕ × ℕ). Unit {0}) c.args.events.now.children c.args.events.now.children refl;
   nodes = no_nodes c.args.circuit.now c.args.events.now.children (signal_start c.args.s.0);
   counted = λ starts h before. before;
@@ -78,8 +78,8 @@ returns-in_err-room-clause-counting c = record {
 pub returns-clause-grows : goal.returns-clause-grows
 returns-clause-grows c = grows_trans c.args.events.now c.unfold.new.events c.signal_refusal.new.events c.unfold.ensures.counting.0 c.signal_refusal.ensures.grows
 
-pub returns-in_err-room-clause-grows : goal.returns-in_err-room-clause-grows
-returns-in_err-room-clause-grows c = grows_refl c.args.events.now
+pub returns-in_err-find_room-clause-grows : goal.returns-in_err-find_room-clause-grows
+returns-in_err-find_room-clause-grows c = grows_refl c.args.events.now
 
 pub returns-in-Ok-clause-many : goal.returns-in-Ok-clause-many
 returns-in-Ok-clause-many c = λ is. value_apart is

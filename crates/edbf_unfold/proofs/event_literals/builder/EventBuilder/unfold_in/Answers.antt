@@ -1,5 +1,5 @@
 -- All that the walk met is built, so that the root's literal was met.
-use Rattle.std.proofs.Common.{◌∙◌, ℕ, List, length, refl, ap, sym, subst, arith, ◌<◌}
+use Rattle.std.proofs.Common.{◌∙◌, ℕ, List, length, refl, ap, sym, subst, arith, ◌<◌, ◌*◌}
 use Rattle.std.proofs.lemmas.Result.{err_from_is_err_and}
 use Rattle.event_nodes.specs.View.{EventCircuitView}
 use Rattle.event_nodes.specs.Visited.{IsWeighed, places_weight}
@@ -38,13 +38,13 @@ pub build_all-requires-clause-nodes : goal.build_all-requires-clause-nodes
 build_all-requires-clause-nodes c =
     let w = c.in_ok-table.ensures.walked in
     let few = walk_weighs _ _ _ _ _ _ _ _ _ _ _ w.2 w.4 in
-    omega (arith, few, ap length w.2.opened.graph, c.requires.room.has.nodes)
+    omega (arith, few, ap length w.2.opened.graph, w.3.weighed.small, c.requires.room.has.nodes)
 
 pub build_all-requires-clause-places : goal.build_all-requires-clause-places
 build_all-requires-clause-places c =
     let w = c.in_ok-table.ensures.walked in
     let few = walk_weighs _ _ _ _ _ _ _ _ _ _ _ w.2 w.4 in
-    omega (arith, few, ap length w.2.opened.places, c.requires.room.has.places)
+    omega (arith, few, ap length w.2.opened.places, w.3.weighed.small, c.requires.room.has.places)
 
 pub returns-in_err-build_all-clause-counting : goal.returns-in_err-build_all-clause-counting
 returns-in_err-build_all-clause-counting c = (
@@ -77,17 +77,17 @@ pub returns-clause-walked : goal.returns-clause-walked
 returns-clause-walked c =
     let w = c.in_ok-table.ensures.walked in
     let few = walk_weighs _ _ _ _ _ _ _ _ _ _ _ w.2 w.4 in
-    let later = later_within (unfolder_of c.visited.new.self c.self.inside.memo) c.build_all.new.self c.visited.new.events c.build_all.new.events _ c.args.cap c.build_all.ensures.later few in
-    walked_to _ c.visited.new.self c.self.inside.memo c.build_all.new.self c.args.events.now c.visited.new.events c.build_all.new.events c.args.counter.now c.visited.new.counter c.args.frame c.in_ok-root.root c.in_ok-high.high c.args.s.0 c.in_ok-table.table c.in_ok-table.ways.items w.0 w.1 c.args.cap c.args.cap
+    let later = later_within (unfolder_of c.visited.new.self c.self.inside.memo) c.build_all.new.self c.visited.new.events c.build_all.new.events _ (5 * c.visited.new.counter.weight) c.build_all.ensures.later few in
+    walked_to _ c.visited.new.self c.self.inside.memo c.build_all.new.self c.args.events.now c.visited.new.events c.build_all.new.events c.args.counter.now c.visited.new.counter c.args.frame c.in_ok-root.root c.in_ok-high.high c.args.s.0 c.in_ok-table.table c.in_ok-table.ways.items w.0 w.1 (5 * c.visited.new.counter.weight) (5 * c.visited.new.counter.weight)
     (both_framed _ _ c.args.frame c.beside-put.result c.in_ok-root.root c.in_ok-high.high c.beside-put.ensures c.in_ok-root.ensures.here c.in_ok-high.ensures.grown c.in_ok-high.ensures.here) c.requires.root w.2 w.3 w.4 later c.in_ok-build_all.ensures.met
 
 pub returns-clause-unfolded : goal.returns-clause-unfolded
 returns-clause-unfolded c =
     let w = c.in_ok-table.ensures.walked in
     let few = walk_weighs _ _ _ _ _ _ _ _ _ _ _ w.2 w.4 in
-    let later = later_within (unfolder_of c.visited.new.self c.self.inside.memo) c.build_all.new.self c.visited.new.events c.build_all.new.events _ c.args.cap c.build_all.ensures.later few in (
+    let later = later_within (unfolder_of c.visited.new.self c.self.inside.memo) c.build_all.new.self c.visited.new.events c.build_all.new.events _ (5 * c.visited.new.counter.weight) c.build_all.ensures.later few in (
       unfolded_from _ c.args.self.now c.self.view_is c.intern-2.new.self c.visited.new.self (ap (λ (k : EventWalkerView). k.circuit) c.intern-2.ensures.same ∙ (ap (λ (k : EventWalkerView). k.circuit) c.intern.ensures.same ∙ ap (λ (k : EventUnfolderView). k.circuit) c.self.view_is)) c.build_all.new.self
-          c.args.events.now c.visited.new.events c.build_all.new.events (both_added _ _ _ _ _ c.in_ok-root.ensures.grown c.in_ok-high.ensures.grown) w.0 c.args.cap w.2.opened (let p = w.2.passed in let s = w.2.small in omega (arith, p, s)) later,
+          c.args.events.now c.visited.new.events c.build_all.new.events (both_added _ _ _ _ _ c.in_ok-root.ensures.grown c.in_ok-high.ensures.grown) w.0 (5 * c.visited.new.counter.weight) w.2.opened (let p = w.2.passed in let s = w.2.small in omega (arith, p, s)) later,
       record {
         weighed = subst (λ (e : EventCircuitView). IsWeighed e.net c.visited.new.counter) (ap (λ (k : EventWalkerView). k.circuit) c.intern-2.ensures.same ∙ (ap (λ (k : EventWalkerView). k.circuit) c.intern.ensures.same ∙ ap (λ (k : EventUnfolderView). k.circuit) c.self.view_is)) w.3.weighed;
         few = omega (arith, ap length c.build_all.ensures.later.grown.children, w.3.few);

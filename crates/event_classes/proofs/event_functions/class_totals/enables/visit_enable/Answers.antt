@@ -1,5 +1,6 @@
 -- An unfolder that has met nothing visits the start.
 use Rattle.std.proofs.Common.{◌≡◌, ◌∙◌, ◌<◌, ℕ, [], length, slice_get, Some, Err, refl, sym, ap, subst, arith}
+use Rattle.flat_net.proofs.Nets.{some_at}
 use Rattle.event_nodes.specs.View.{EventCircuitView}
 use Rattle.edbf_unfold.specs.event_literals.event_walk.Walk.{HasCountedStart, IsCounting, enable_start}
 use Rattle.edbf_unfold.specs.event_literals.Known.{IsEnableLit}
@@ -23,7 +24,7 @@ enable-requires-clause-known c =
 
 pub enable-requires-clause-room : goal.enable-requires-clause-room
 enable-requires-clause-room c =
-    fresh_ready c.new-unfolder.result c.args.circuit.now c.new-unfolder.ensures.begins c.args.events.now c.args.visits.now c.in_ok-room.room c.requires.none c.in_ok-room.ensures.small c.in_ok-room.ensures.nodes c.in_ok-room.ensures.places c.requires.few
+    fresh_ready c.new-unfolder.result c.args.circuit.now c.new-unfolder.ensures.begins c.args.events.now c.args.visits.now c.requires.none c.in_ok-find_room.ensures.nodes c.in_ok-find_room.ensures.places c.requires.few
 
 pub returns-in-Ok-clause-here : goal.returns-in-Ok-clause-here
 returns-in-Ok-clause-here c =
@@ -42,7 +43,10 @@ returns-in-Ok-clause-grows c = c.enable.ensures.grows
 
 pub returns-in-Ok-clause-places : goal.returns-in-Ok-clause-places
 returns-in-Ok-clause-places c =
-    omega (arith, c.in-Ok.ensures.unfolded.places, c.in_ok-room.ensures.places)
+    let lent = fresh_circuit c.new-unfolder.result c.args.circuit.now c.new-unfolder.ensures.begins in
+    let l = some_at c.args.circuit.now.net.latches c.args.j c.requires.latch in
+    let counted = c.in-Ok.ensures.counted l.0 (subst (λ (e : EventCircuitView). slice_get e.net.latches c.args.j ≡ Some l.0) (sym lent) l.1) in
+    omega (arith, c.in-Ok.ensures.unfolded.places, counted.on.weighed.small, c.in_ok-find_room.ensures.places)
 
 pub enable_refusal-requires-clause-many : goal.enable_refusal-requires-clause-many
 enable_refusal-requires-clause-many c = λ is. c.in-Err.ensures.refused.many (ap Err is)
@@ -62,8 +66,8 @@ returns-clause-large c = λ is l at. (
   (c.enable_refusal.ensures.large (error_is is) l at).1,
 )
 
-pub returns-in_err-room-clause-counting : goal.returns-in_err-room-clause-counting
-returns-in_err-room-clause-counting c = λ l at. record {
+pub returns-in_err-find_room-clause-counting : goal.returns-in_err-find_room-clause-counting
+returns-in_err-find_room-clause-counting c = λ l at. record {
   more = adds_none (λ (q : ℕ × ℕ). Unit {0}) c.args.events.now.children c.args.events.now.children refl;
   nodes = no_nodes c.args.circuit.now c.args.events.now.children (enable_start l);
   counted = λ starts h before. before;
@@ -72,8 +76,8 @@ returns-in_err-room-clause-counting c = λ l at. record {
 pub returns-clause-grows : goal.returns-clause-grows
 returns-clause-grows c = grows_trans c.args.events.now c.enable.new.events c.enable_refusal.new.events c.enable.ensures.grows c.enable_refusal.ensures.grows
 
-pub returns-in_err-room-clause-grows : goal.returns-in_err-room-clause-grows
-returns-in_err-room-clause-grows c = grows_refl c.args.events.now
+pub returns-in_err-find_room-clause-grows : goal.returns-in_err-find_room-clause-grows
+returns-in_err-find_room-clause-grows c = grows_refl c.args.events.now
 
 pub returns-in-Ok-clause-many : goal.returns-in-Ok-clause-many
 returns-in-Ok-clause-many c = λ is. value_apart is

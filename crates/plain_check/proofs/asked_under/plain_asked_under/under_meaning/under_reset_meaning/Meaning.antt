@@ -99,10 +99,10 @@ module _ (c : Assumption) (meeting : ℕ → Bool) (a b : NetView) (conflicts : 
   -- the first difference, with its sequence and both power-ups
   module _ (w : ResetWitness) (f : IsFirstDifferenceUnder c numbers meeting listed o.pairs w) where
     abbrev bits : ℕ → ℕ → Bool
-    bits = assigned same_shift f.witness.variables f.witness.bits
+    bits = assigned same_shift f.shown.witness.variables f.shown.witness.bits
 
     abbrev shown : ℕ → ℕ → Bool
-    shown = filled same_shift f.witness.sides meeting bits
+    shown = filled same_shift f.shown.witness.sides meeting bits
 
     -- inputs as in the rows, and the variables of latches from a number on
     abbrev joined : ℕ → ℕ → ℕ → Bool
@@ -115,14 +115,14 @@ module _ (c : Assumption) (meeting : ℕ → Bool) (a b : NetView) (conflicts : 
     high base i k h = ap (λ t. cond t (shown i k) (bits i k)) (lt_false i base h)
 
     -- a tree of one of both sides keeps its value
-    same : (base : ℕ) (tree : Tree ℕ) → ((v : Variable ℕ) → HasLeaf v tree → Contains f.witness.sides v) → tree_value (joined base) tree ≡ tree_value bits tree
+    same : (base : ℕ) (tree : Tree ℕ) → ((v : Variable ℕ) → HasLeaf v tree → Contains f.shown.witness.sides v) → tree_value (joined base) tree ≡ tree_value bits tree
     same base tree leaves = tree_same (joined base) bits tree (λ v stands. go v (leaves v stands) (which v.input base))
       where
         which : (i j : ℕ) → (i < j) ⊎ (j ≤ i)
         which i j = grind arith
 
-        go : (v : Variable ℕ) → Contains f.witness.sides v → (v.input < base) ⊎ (base ≤ v.input) → joined base v.input v.at ≡ bits v.input v.at
-        go v there (inl small) = low base v.input v.at small ∙ filled_at same_shift test_same shift_itself f.witness.sides meeting bits v there
+        go : (v : Variable ℕ) → Contains f.shown.witness.sides v → (v.input < base) ⊎ (base ≤ v.input) → joined base v.input v.at ≡ bits v.input v.at
+        go v there (inl small) = low base v.input v.at small ∙ filled_at same_shift test_same shift_itself f.shown.witness.sides meeting bits v there
         go v there (inr large) = high base v.input v.at large
 
     -- it is a pair of outputs
@@ -137,13 +137,13 @@ module _ (c : Assumption) (meeting : ℕ → Bool) (a b : NetView) (conflicts : 
         × RowsMeet c w.witness.stimulus.rows w.witness.cycle
     by_numbers =
         reset_witness_makes_differ_under c (circuit_of a) (circuit_of b) fits.left fits.right fits.left_base fits.right_base f.place.left f.place.right (length columns) meeting w.witness.stimulus.rows w.left_power w.right_power
-        w.witness.cycle w.witness.left w.witness.right left_starts right_starts fits.based fits.reads f.witness
+        w.witness.cycle w.witness.left w.witness.right left_starts right_starts fits.based fits.reads f.shown.witness
 
     -- a leaf that is an input is one that the sequence names
-    leaf_below : (tree : Tree ℕ) → Contains (f.witness.left_tree ∷ f.witness.right_tree ∷ []) tree → (i k : ℕ) → i < fits.left_base → HasLeaf (record { input = i; at = k }) tree → i < length columns
+    leaf_below : (tree : Tree ℕ) → Contains (f.shown.witness.left_tree ∷ f.shown.witness.right_tree ∷ []) tree → (i k : ℕ) → i < fits.left_base → HasLeaf (record { input = i; at = k }) tree → i < length columns
     leaf_below tree there i k below has =
-        go (All-contains (λ (v : Variable ℕ). (v.input < length columns) ⊎ (fits.left_base ≤ v.input)) f.witness.variables (record { input = i; at = k }) f.witness.inputs
-        ((f.witness.difference.are_variables.exactly (record { input = i; at = k })).1 (tree, inl there, has)))
+        go (All-contains (λ (v : Variable ℕ). (v.input < length columns) ⊎ (fits.left_base ≤ v.input)) f.shown.witness.variables (record { input = i; at = k }) f.shown.witness.inputs
+        ((f.shown.witness.difference.are_variables.exactly (record { input = i; at = k })).1 (tree, inl there, has)))
       where
         go : (i < length columns) ⊎ (fits.left_base ≤ i) → i < length columns
         go (inl h) = h
@@ -155,23 +155,23 @@ module _ (c : Assumption) (meeting : ℕ → Bool) (a b : NetView) (conflicts : 
     left_shows : (n : ℕ) (run : ℕ → ℕ → Bool) → w.witness.cycle < n → IsRun (circuit_of a) n run → TakesPower (circuit_of a) w.left_power run → Obeys (circuit_of a) w.witness.stimulus n run →
         run w.witness.cycle f.place.left ≡ w.witness.left
     left_shows n run below is_run takes obeys =
-        powered_by (circuit_of a) fits.left fits.right fits.left_base columns left_numbers left_starts w.witness f.names_are bits shown (joined fits.left_base)
-        (λ q i k number. low fits.left_base i k (fits.based.left_inputs q i number)) (high fits.left_base) f.witness.rows_are w.left_power f.witness.left_power_is n run below is_run takes obeys f.place.left f.witness.left_tree f.witness.left_unfolds
-        (λ q i k number leaf. leaf_below f.witness.left_tree (Contains-head f.witness.left_tree (f.witness.right_tree ∷ [])) i k (fits.based.left_inputs q i number) leaf)
-        ∙ (same fits.left_base f.witness.left_tree (left_leaves f.witness.difference.are_sides) ∙ sym f.witness.left_value)
+        powered_by (circuit_of a) fits.left fits.right fits.left_base columns left_numbers left_starts w.witness f.shown.names_are bits shown (joined fits.left_base)
+        (λ q i k number. low fits.left_base i k (fits.based.left_inputs q i number)) (high fits.left_base) f.shown.witness.rows_are w.left_power f.shown.witness.left_power_is n run below is_run takes obeys f.place.left f.shown.witness.left_tree f.shown.witness.left_unfolds
+        (λ q i k number leaf. leaf_below f.shown.witness.left_tree (Contains-head f.shown.witness.left_tree (f.shown.witness.right_tree ∷ [])) i k (fits.based.left_inputs q i number) leaf)
+        ∙ (same fits.left_base f.shown.witness.left_tree (left_leaves f.shown.witness.difference.are_sides) ∙ sym f.shown.witness.left_value)
 
     right_shows : (n : ℕ) (run : ℕ → ℕ → Bool) → w.witness.cycle < n → IsRun (circuit_of b) n run → TakesPower (circuit_of b) w.right_power run → Obeys (circuit_of b) w.witness.stimulus n run →
         run w.witness.cycle f.place.right ≡ w.witness.right
     right_shows n run below is_run takes obeys =
-        powered_by (circuit_of b) fits.right fits.left fits.right_base columns right_numbers right_starts w.witness f.names_are bits shown (joined fits.right_base)
-        (λ q i k number. low fits.right_base i k (right_below q i (fits.based.right_inputs q i number))) (high fits.right_base) f.witness.rows_are w.right_power f.witness.right_power_is n run below is_run takes obeys f.place.right f.witness.right_tree f.witness.right_unfolds
-        (λ q i k number leaf. leaf_below f.witness.right_tree (Contains-tail f.witness.left_tree f.witness.right_tree (f.witness.right_tree ∷ []) (Contains-head f.witness.right_tree [])) i k (fits.based.right_inputs q i number) leaf)
-        ∙ (same fits.right_base f.witness.right_tree (right_leaves f.witness.difference.are_sides) ∙ sym f.witness.right_value)
+        powered_by (circuit_of b) fits.right fits.left fits.right_base columns right_numbers right_starts w.witness f.shown.names_are bits shown (joined fits.right_base)
+        (λ q i k number. low fits.right_base i k (right_below q i (fits.based.right_inputs q i number))) (high fits.right_base) f.shown.witness.rows_are w.right_power f.shown.witness.right_power_is n run below is_run takes obeys f.place.right f.shown.witness.right_tree f.shown.witness.right_unfolds
+        (λ q i k number leaf. leaf_below f.shown.witness.right_tree (Contains-tail f.shown.witness.left_tree f.shown.witness.right_tree (f.shown.witness.right_tree ∷ []) (Contains-head f.shown.witness.right_tree [])) i k (fits.based.right_inputs q i number) leaf)
+        ∙ (same fits.right_base f.shown.witness.right_tree (right_leaves f.shown.witness.difference.are_sides) ∙ sym f.shown.witness.right_value)
 
     -- in an earlier cycle the functions agree
     earlier : (n : ℕ) (left right : ℕ → ℕ → Bool) → AreAlikeFromReset (circuit_of a) (circuit_of b) n left right → RunMeets c (circuit_of a) n left → (t : ℕ) → t < n → t < w.witness.cycle → left t f.place.left ≡ right t f.place.right
     earlier n left right alike meets t small before =
-        let e = f.agree_before t before in
+        let e = f.shown.cycle_is.1 t before in
         reset_same_at (circuit_of a) (circuit_of b) fits.left fits.right fits.left_base fits.right_base numbered fits.based left right n alike (RowMeets c) (run_holds c (circuit_of a) fits.left fits.reads n left meets)
         f.place.left f.place.right t e.left_tree e.right_tree small e.left_unfolds e.right_unfolds (λ x all. e.same x (tt, λ k has. all k))
 
@@ -180,7 +180,7 @@ module _ (c : Assumption) (meeting : ℕ → Bool) (a b : NetView) (conflicts : 
       name = outputs.name;
       left_place = f.place.left;
       right_place = f.place.right;
-      named = f.named ∙ outputs.called;
+      named = f.shown.named ∙ outputs.called;
       left_output = outputs.left_output;
       right_output = outputs.right_output;
       differ = by_numbers.0.differ;
